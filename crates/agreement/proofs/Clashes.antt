@@ -7,19 +7,19 @@ use Rattle.std.proofs.lemmas.List.Sorted.{all_adjacent_more}
 use Rattle.std.specs.List.Sorted.{IsPermutation}
 use Rattle.term_core.specs.declared.ids.TermId.{TermId}
 use Rattle.agreement.specs.declared.agreeing.Shared.{Shared}
-use Rattle.agreement.specs.Agreeing.{Clash, Concur, NeighboursConcur, IsPair, ArePairs, HasPairs, HasClashesBelow, HasClashes}
+use Rattle.agreement.specs.Agreeing.{Clash, Concur, NeighboursConcur, IsDifferingPair, ArePairs, HasPairs, HasClashesBelow, HasClashes}
 use Rattle.agreement.proofs.Orders.{pair_back}
 
 -- none came yet
 pub pairs_begin : (xs : List Shared) (ps : List (TermId × TermId)) → HasPairs xs ps ps
-pairs_begin xs ps = record { more = []; is = sym (append-nil ps); are = All-nil (λ (p : TermId × TermId). IsPair xs p.0 p.1) }
+pairs_begin xs ps = record { more = []; is = sym (append-nil ps); are = All-nil (λ (p : TermId × TermId). IsDifferingPair xs p.0 p.1) }
 
 -- one came more
-pub pairs_more : (xs : List Shared) (old now new : List (TermId × TermId)) (p : TermId × TermId) → IsPair xs p.0 p.1 → new ≡ now ++ p ∷ [] → HasPairs xs old now → HasPairs xs old new
+pub pairs_more : (xs : List Shared) (old now new : List (TermId × TermId)) (p : TermId × TermId) → IsDifferingPair xs p.0 p.1 → new ≡ now ++ p ∷ [] → HasPairs xs old now → HasPairs xs old new
 pairs_more xs old now new p pair e h = record {
   more = h.more ++ p ∷ [];
   is = e ∙ ap (λ (ps : List (TermId × TermId)). ps ++ p ∷ []) h.is ∙ append_assoc old h.more (p ∷ []);
-  are = All-push (λ (q : TermId × TermId). IsPair xs q.0 q.1) h.more p h.are pair;
+  are = All-push (λ (q : TermId × TermId). IsDifferingPair xs q.0 q.1) h.more p h.are pair;
 }
 
 -- those of all neighbours are some
@@ -31,16 +31,16 @@ pub clashes_begin : (xs : List Shared) (ps : List (TermId × TermId)) → HasCla
 clashes_begin xs ps = record {
   more = [];
   is = sym (append-nil ps);
-  are = All-nil (λ (p : TermId × TermId). IsPair xs p.0 p.1);
+  are = All-nil (λ (p : TermId × TermId). IsDifferingPair xs p.0 p.1);
   none = λ e k d lt. absurd (omega (arith, lt));
 }
 
 -- on the next ones they do not agree
-pub clashes_more : (xs : List Shared) (n : ℕ) (old now new : List (TermId × TermId)) (p : TermId × TermId) → IsPair xs p.0 p.1 → new ≡ now ++ p ∷ [] → HasClashesBelow xs n old now → HasClashesBelow xs (n + 1) old new
+pub clashes_more : (xs : List Shared) (n : ℕ) (old now new : List (TermId × TermId)) (p : TermId × TermId) → IsDifferingPair xs p.0 p.1 → new ≡ now ++ p ∷ [] → HasClashesBelow xs n old now → HasClashesBelow xs (n + 1) old new
 clashes_more xs n old now new p pair e h = record {
   more = h.more ++ p ∷ [];
   is = e ∙ ap (λ (ps : List (TermId × TermId)). ps ++ p ∷ []) h.is ∙ append_assoc old h.more (p ∷ []);
-  are = All-push (λ (q : TermId × TermId). IsPair xs q.0 q.1) h.more p h.are pair;
+  are = All-push (λ (q : TermId × TermId). IsDifferingPair xs q.0 q.1) h.more p h.are pair;
   none = λ none. absurd (omega (arith, length-append h.more (p ∷ []), ap length none));
 }
 
@@ -67,7 +67,7 @@ pairs_back xs ys ps p h k d lt = pair_back xs ys _ _ p (h k d lt)
 -- what both orders gave are pairs of the list
 pub both_are : (xs ys zs : List Shared) (start one two : List (TermId × TermId)) → start ≡ [] → IsPermutation xs ys → IsPermutation xs zs → HasPairs ys start one → HasPairs zs one two → ArePairs xs two
 both_are xs ys zs start one two first p q a b =
-    subst (ArePairs xs) (sym b.is) (All-append (λ (x : TermId × TermId). IsPair xs x.0 x.1) one b.more
+    subst (ArePairs xs) (sym b.is) (All-append (λ (x : TermId × TermId). IsDifferingPair xs x.0 x.1) one b.more
     (subst (ArePairs xs) (sym (a.is ∙ ap (λ (ps : List (TermId × TermId)). ps ++ a.more) first)) (pairs_back xs ys a.more p a.are)) (pairs_back xs zs b.more q b.are))
 
 -- none came at all only where none came of each
@@ -88,7 +88,7 @@ above_none zero e = absurd (true≢false e)
 above_none (suc n) e = omega arith
 
 -- two terms on which the theories do not agree are a pair in either order
-pub pair_either : (xs : List Shared) (x y : Shared) (p : TermId × TermId) → Contains xs x → Contains xs y → Clash x y → (p ≡ (x.term, y.term)) ⊎ (p ≡ (y.term, x.term)) → IsPair xs p.0 p.1
+pub pair_either : (xs : List Shared) (x y : Shared) (p : TermId × TermId) → Contains xs x → Contains xs y → Clash x y → (p ≡ (x.term, y.term)) ⊎ (p ≡ (y.term, x.term)) → IsDifferingPair xs p.0 p.1
 pair_either xs x y p x_in y_in clash (inl e) = record { one = x; one_in = x_in; one_is = ap (λ q. q.0) e; other = y; other_in = y_in; other_is = ap (λ q. q.1) e; clash = clash }
 pair_either xs x y p x_in y_in clash (inr e) = record {
   one = y;

@@ -18,7 +18,7 @@ use Rattle.delta_num.proofs.Orders.{order_equal, order_reversed, order_transitiv
 use Rattle.ratio128.specs.declared.ratio.Ratio.{Ratio}
 use Rattle.ratio128.specs.Meant.{fraction}
 use Rattle.agreement.specs.declared.agreeing.Shared.{Shared}
-use Rattle.agreement.specs.Agreeing.{Concur, Clash, NeighboursConcur, Agree, IsPair}
+use Rattle.agreement.specs.Agreeing.{Concur, Clash, NeighboursConcur, Agree, IsDifferingPair}
 use Rattle.term_core.specs.declared.ids.TermId.{TermId}
 use Rattle.agreement.proofs.Sorted.{all_alike}
 
@@ -112,7 +112,7 @@ not_equal r (inl h) e = true≢false (ap is_lt (sym h ∙ e))
 not_equal r (inr h) e = true≢false (ap is_gt (sym h ∙ e))
 
 -- a pair of a list in another order is one of the list
-pub pair_back : (xs ys : List Shared) (s t : TermId) → IsPermutation xs ys → IsPair ys s t → IsPair xs s t
+pub pair_back : (xs ys : List Shared) (s t : TermId) → IsPermutation xs ys → IsDifferingPair ys s t → IsDifferingPair xs s t
 pair_back xs ys s t p h = record {
   one = h.one;
   one_in = Contains-permutation ys xs h.one (IsPermutation-sym xs ys p) h.one_in;

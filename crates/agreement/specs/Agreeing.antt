@@ -26,7 +26,7 @@ abbrev pub Agree : List Shared → Type 0
 Agree xs = (x y : Shared) → Contains xs x → Contains xs y → Concur x y
 
 -- Two of the terms are these, and the theories do not agree on them.
-pub record IsPair (xs : List Shared) (s t : TermId) : Type 0 where
+pub record IsDifferingPair (xs : List Shared) (s t : TermId) : Type 0 where
   -- what is said of the first
   pub one : Shared
   pub one_in : Contains xs one
@@ -40,7 +40,7 @@ pub record IsPair (xs : List Shared) (s t : TermId) : Type 0 where
 
 -- the theories do not agree on each of these pairs
 abbrev pub ArePairs : List Shared → List (TermId × TermId) → Type 0
-ArePairs xs ps = All (λ (p : TermId × TermId). IsPair xs p.0 p.1) ps
+ArePairs xs ps = All (λ (p : TermId × TermId). IsDifferingPair xs p.0 p.1) ps
 
 -- Pairs came on which the theories do not agree.
 pub record HasPairs (xs : List Shared) (old new : List (TermId × TermId)) : Type 0 where
@@ -65,6 +65,6 @@ abbrev pub HasClashes : List Shared → (old new : List (TermId × TermId)) → 
 HasClashes xs old new = HasClashesBelow xs (length xs) old new
 
 -- the answer is right: the theories agree on the terms, or not on these pairs, of which there is one
-abbrev pub Answers : List Shared → Agreement → Type 0
-Answers xs Agreed = Agree xs
-Answers xs (Pairs ps) = ArePairs xs ps.items × (0 < length ps.items)
+abbrev pub IsAgreementOn : List Shared → Agreement → Type 0
+IsAgreementOn xs Agreed = Agree xs
+IsAgreementOn xs (Pairs ps) = ArePairs xs ps.items × (0 < length ps.items)

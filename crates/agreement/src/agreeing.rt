@@ -2,7 +2,7 @@
 
 ghost use Rattle.std.specs.Prelude.{◌≡◌, ◌⊎◌, MatchBool, IfOk, OnOk};
 ghost use Rattle.std.specs.List.Sorted.{IsPermutation};
-ghost use Rattle.agreement.specs.Agreeing.{Concur, Clash, HasPairs, HasClashes, Answers};
+ghost use Rattle.agreement.specs.Agreeing.{Concur, Clash, HasPairs, HasClashes, IsAgreementOn};
 
 use delta_num::Delta;
 use std::alloc::Global;
@@ -41,7 +41,7 @@ pub enum Agreement {
 /// `NoMemory` comes where the list finds no memory.
 pub fn agree(alloc: Global, shared: &mut [Shared]) -> Result<Agreement, NoMemory>
     ensures permutation { IsPermutation shared.old shared.new }
-    ensures answer { IfOk result (Answers shared.old) }
+    ensures answer { IfOk result (IsAgreementOn shared.old) }
 {
     let mut urgent = Vec::new(alloc);
     let mut pairs = Vec::new(alloc);

@@ -13,7 +13,7 @@ use Rattle.alethe_reader.specs.declared.errors.ProofStop.{ProofStop}
 use Rattle.alethe_reader.specs.declared.errors.ProofStop.TheVariants as stops
 use Rattle.alethe_check.specs.Judging.{IsJudgedFrom}
 use Rattle.alethe_check.specs.Loads.{bare, IsLoaded}
-use Rattle.alethe_check.specs.Verdicts.{Answers, Refuses, fault_view}
+use Rattle.alethe_check.specs.Verdicts.{AnswersVerdict, Refuses, fault_view}
 
 -- the faults of verdicts stand in the proof
 abbrev pub FaultsStand : Type 0
@@ -21,30 +21,30 @@ FaultsStand = (script proof : List ℕ) (k : ℕ) (f : Fault) → IsVerdict scri
 
 module _ (script : List ℕ) (k : ℕ) (proof : List ℕ) where
   -- a verdict with a fault is what is answered
-  answered : (f : Fault) (r : ProofStop) → IsVerdict script k proof (Some f) → Refuses proof f.offset f.kind r → Answers script k proof (Err r)
+  answered : (f : Fault) (r : ProofStop) → IsVerdict script k proof (Some f) → Refuses proof f.offset f.kind r → AnswersVerdict script k proof (Err r)
   answered f (stops.Fault g) v s =
       let same : f ≡ fault_view g = λ i. record { offset = sym s.1 i; kind = sym s.0 i } in
       (subst (λ (x : Fault). IsVerdict script k proof (Some x)) same v, s.2)
   answered f stops.Memory v s = absurd s
 
   -- there is no such check
-  pub no_check : (r : ProofStop) → HasNoCheck term_limit script k → Refuses proof 0 NoSuchCheck r → Answers script k proof (Err r)
+  pub no_check : (r : ProofStop) → HasNoCheck term_limit script k → Refuses proof 0 NoSuchCheck r → AnswersVerdict script k proof (Err r)
   no_check r h s = answered record { offset = 0; kind = NoSuchCheck } r (inr (h, refl)) s
 
   module _ (x : Standing) (l : IsLoaded script k x) where
     verdict : (found : Option Fault) → IsJudgedFrom (known_on l.stack) proof found → IsVerdict script k proof found
     verdict found j = inl (bare l.stack, l.current, record { commands = j.commands; ending = j.ending; read = j.read; fault = j.fault })
 
-    pub accepted : (u : Unit {0}) → IsJudgedFrom (known_on l.stack) proof None → Answers script k proof (Ok u)
+    pub accepted : (u : Unit {0}) → IsJudgedFrom (known_on l.stack) proof None → AnswersVerdict script k proof (Ok u)
     accepted u j = verdict None j
 
     pub fault_stands : FaultsStand → (f : LocatedFault) → IsJudgedFrom (known_on l.stack) proof (Some (located_view f)) → f.offset ≤ length proof
     fault_stands law f j = law script proof k (located_view f) (verdict (Some (located_view f)) j)
 
-    pub fault_told : (f : LocatedFault) (r : ProofStop) → IsJudgedFrom (known_on l.stack) proof (Some (located_view f)) → Refuses proof f.offset f.kind r → Answers script k proof (Err r)
+    pub fault_told : (f : LocatedFault) (r : ProofStop) → IsJudgedFrom (known_on l.stack) proof (Some (located_view f)) → Refuses proof f.offset f.kind r → AnswersVerdict script k proof (Err r)
     fault_told f r j s = answered (located_view f) r (verdict (Some (located_view f)) j) s
 
 -- what follows from an accepted proof
-pub accepted_gives : (script : List ℕ) (k : ℕ) (proof : List ℕ) (r : Result (Unit {0}) ProofStop) (P : Type 0) → Answers script k proof r → (IsVerdict script k proof None → P) → OnOk r P
+pub accepted_gives : (script : List ℕ) (k : ℕ) (proof : List ℕ) (r : Result (Unit {0}) ProofStop) (P : Type 0) → AnswersVerdict script k proof r → (IsVerdict script k proof None → P) → OnOk r P
 accepted_gives script k proof (Ok u) P a law = law a
 accepted_gives script k proof (Err e) P a law = tt

@@ -13,7 +13,7 @@ use Rattle.alethe_reader.specs.declared.reading.ReadCommand.{ReadCommand}
 use Rattle.alethe_reader.specs.Holding.{IsKnown, HasKnown}
 use Rattle.alethe_reader.specs.Reads.{IsRead, statement_view}
 use Rattle.alethe_check.specs.Stating.{JudgesStatement, stating}
-use Rattle.alethe_check.specs.Judging.{IsTaken, IsRefused, JudgesOne}
+use Rattle.alethe_check.specs.Judging.{TakesCommand, IsRefused, JudgesOne}
 
 -- whether a statement is right does not depend on names
 right_in : (k : Known) (scope : Signature) (s : Statement) → IsRightAfter (record k { scope = scope }) s → IsRightAfter k s
@@ -32,7 +32,7 @@ module _ (k : Known) (read : Read Command) (h : ProofState) (x : ReadCommand) (r
   before = record k { scope = with_definitions k.scope r.command.made }
 
   -- it is right
-  one_taken : (new : ProofState) (u : Unit {0}) → JudgesStatement before (statement_view h x) (Ok u) → IsKnown new (stating before (statement_view h x)) → IsTaken k read new
+  one_taken : (new : ProofState) (u : Unit {0}) → JudgesStatement before (statement_view h x) (Ok u) → IsKnown new (stating before (statement_view h x)) → TakesCommand k read new
   one_taken new u j known = record {
     command = r.command;
     is = r.is;

@@ -4,7 +4,7 @@ use Rattle.std.specs.Prelude.{Any, MatchBool}
 use Rattle.std.proofs.lemmas.Bool.{eqb-true}
 use Rattle.std.proofs.lemmas.Bool.Decides.{nat_tests}
 use Rattle.spec_text.specs.Bytes.{Name}
-use Rattle.spec_checking.specs.Commands.{Entry, Known}
+use Rattle.spec_checking.specs.Commands.{NamedClause, Known}
 use Rattle.spec_checking.specs.Judging.{HasEmptyClause}
 use Rattle.term_core.specs.declared.ids.TermId.{TermId}
 use Rattle.term_core.specs.Tables.{TableView, clause_at}
@@ -12,20 +12,20 @@ use Rattle.alethe_reader.specs.declared.proof_state.ProofState.{ProofState}
 use Rattle.alethe_reader.specs.Holding.{entries_of, IsKnown}
 use Rattle.alethe_check.specs.Judging.{some_empty}
 
-abbrev pub IsEmpty : Entry → Type 0
+abbrev pub IsEmpty : NamedClause → Type 0
 IsEmpty e = e.clause ≡ []
 
-any_here : (e : Entry) (es : List Entry) → IsEmpty e → Any IsEmpty (e ∷ es)
+any_here : (e : NamedClause) (es : List NamedClause) → IsEmpty e → Any IsEmpty (e ∷ es)
 any_here e es p = (zero, e, omega arith, refl, p)
 
-any_later : (e : Entry) (es : List Entry) → Any IsEmpty es → Any IsEmpty (e ∷ es)
+any_later : (e : NamedClause) (es : List NamedClause) → Any IsEmpty es → Any IsEmpty (e ∷ es)
 any_later e es a = (suc a.0, a.1, omega (arith, a.2), a.3, a.4)
 
-any_cases : (e : Entry) (es : List Entry) → Any IsEmpty (e ∷ es) → IsEmpty e ⊎ Any IsEmpty es
+any_cases : (e : NamedClause) (es : List NamedClause) → Any IsEmpty (e ∷ es) → IsEmpty e ⊎ Any IsEmpty es
 any_cases e es a = go a.0 a.2 a.3
   where
     go : (k : ℕ) → k < length (e ∷ es) → get_or (e ∷ es) k a.1 ≡ a.1 → IsEmpty e ⊎ Any IsEmpty es
-    go zero l s = inl (ap (λ (x : Entry). x.clause) s ∙ a.4)
+    go zero l s = inl (ap (λ (x : NamedClause). x.clause) s ∙ a.4)
     go (suc k) l s = inr (k, a.1, omega (arith, l), s, a.4)
 
 none_left : (t : TableView) (c : List TermId) → clause_at t c ≡ [] → length c ≡ 0
@@ -42,10 +42,10 @@ empty_exact t [] (c ∷ cs) b l e = absurd (omega arith)
 empty_exact t (n ∷ ns) [] b l e = absurd (omega arith)
 empty_exact t (n ∷ ns) (c ∷ cs) b l e = go (length c == 0) refl b e (empty_exact t ns cs (some_empty cs) (omega arith) refl)
   where
-    entry : Entry
+    entry : NamedClause
     entry = record { name = n; clause = clause_at t c }
 
-    rest : List Entry
+    rest : List NamedClause
     rest = entries_of t ns cs
 
     later : (b : Bool) → (length c ≡ 0 → ⊥) → MatchBool b (Any IsEmpty rest) (Any IsEmpty rest → ⊥) → MatchBool b (Any IsEmpty (entry ∷ rest)) (Any IsEmpty (entry ∷ rest) → ⊥)
@@ -58,4 +58,4 @@ empty_exact t (n ∷ ns) (c ∷ cs) b l e = go (length c == 0) refl b e (empty_e
 
 -- whether a command that is known has the empty clause
 pub empty_known : (h : ProofState) (k : Known) (b : Bool) → IsKnown h k → b ≡ some_empty h.clauses.items → MatchBool b (HasEmptyClause k) (HasEmptyClause k → ⊥)
-empty_known h k b known e = subst (λ (es : List Entry). MatchBool b (Any IsEmpty es) (Any IsEmpty es → ⊥)) known.entries (empty_exact h.table h.names h.clauses.items b known.paired e)
+empty_known h k b known e = subst (λ (es : List NamedClause). MatchBool b (Any IsEmpty es) (Any IsEmpty es → ⊥)) known.entries (empty_exact h.table h.names h.clauses.items b known.paired e)

@@ -17,9 +17,9 @@ use Rattle.alethe_reader.specs.declared.errors.CommandError.TheVariants as error
 use Rattle.alethe_reader.specs.declared.reader.Reader.{Reader}
 use Rattle.alethe_reader.specs.Holding.{IsKnown}
 use Rattle.alethe_reader.specs.Reads.{located_view}
-use Rattle.alethe_reader.specs.Remaining.{text_of, AreRemaining, HasRead, IsOver, ReadsOn}
+use Rattle.alethe_reader.specs.Remaining.{text_of, AreRemaining, HasRead, EndsCommands, ReadsOn}
 use Rattle.alethe_check.specs.Stating.{IsWrong}
-use Rattle.alethe_check.specs.Judging.{IsTaken, IsRefused, JudgesOne, JudgesCommands, AreRight, AreWrong, Finishes, IsJudgedFrom, JudgesAll}
+use Rattle.alethe_check.specs.Judging.{TakesCommand, IsRefused, JudgesOne, JudgesCommands, CommandsAreRight, AreWrong, Finishes, IsJudgedFrom, JudgesAll}
 
 -- the first fault of commands under what is known now is that of others under what was known
 abbrev pub Goes : Known → Trees → Known → Trees → Type 0
@@ -41,7 +41,7 @@ going_begins r k h stands = record { now = k; known = stands; same = refl; onwar
 
 module _ (k : Known) (read : Read Command) (rest : Known → Type 0) where
   -- a command that is right
-  first_right : (found : Option Fault) (new : ProofState) (j : IsTaken k read new) → rest (with_command k j.command) → FaultBy k read rest found
+  first_right : (found : Option Fault) (new : ProofState) (j : TakesCommand k read new) → rest (with_command k j.command) → FaultBy k read rest found
   first_right found new j h = subst (λ (r : Read Command). FaultBy k r rest found) (sym j.is) (inl (j.right, h))
 
   -- a command that is wide, or not right
@@ -54,7 +54,7 @@ module _ (k : Known) (read : Read Command) (rest : Known → Type 0) where
   first_wrong f (inl e) = subst (λ (r : Read Command). FaultBy k r rest (Some f)) (sym e) refl
   first_wrong f (inr j) = subst (λ (r : Read Command). FaultBy k r rest (Some f)) (sym j.is) (by_wrong j.command f j.wrong)
 
-goes_right : (k : Known) (t : Tree) (us : Trees) (new : ProofState) (j : IsTaken k (command_of (Some term_limit) k t) new) → Goes k (more t us) (with_command k j.command) us
+goes_right : (k : Known) (t : Tree) (us : Trees) (new : ProofState) (j : TakesCommand k (command_of (Some term_limit) k t) new) → Goes k (more t us) (with_command k j.command) us
 unfolding FirstFault
 goes_right k t us new j end ending found h = first_right k (command_of (Some term_limit) k t) (λ next. FirstFault (Some term_limit) next end ending us found) found new j h
 
@@ -68,7 +68,7 @@ ends_none k end ending found e = e
 
 module _ (old : Reader) (k : Known) (h : ProofState) (r : Reader) (g : Going old k h r) where
   -- nothing is to come, and nothing ends it with a fault
-  pub commands_right : IsOver r None → AreRight old k h
+  pub commands_right : EndsCommands r None → CommandsAreRight old k h
   commands_right over =
       let o = g.onward none over.ending over.left in
       record {
@@ -80,7 +80,7 @@ module _ (old : Reader) (k : Known) (h : ProofState) (r : Reader) (g : Going old
       }
 
   -- nothing is to come, and a fault ends it
-  over_wrong : (f : Fault) → IsOver r (Some f) → AreWrong old k f
+  over_wrong : (f : Fault) → EndsCommands r (Some f) → AreWrong old k f
   over_wrong f over =
       let o = g.onward none over.ending over.left in
       let is : Some f ≡ ending_fault (is_long (text_of old)) over.ending = sym (subst (λ (t : List ℕ). ending_fault (is_long t) over.ending ≡ Some f) g.same over.is) in
@@ -135,7 +135,7 @@ abbrev AreAll : Reader → List ℕ → Type 0
 AreAll r text = (ts : Trees) (e : Ending) → AreRemaining r ts e ↔ IsProofText text ts e
 
 module _ (r : Reader) (text : List ℕ) (k : Known) (new : ProofState) (same : text_of r ≡ text) (all : AreAll r text) where
-  whole : (last : Option Fault) (j : AreRight r k new) → EndsBy j.after.now (length text) None last → IsJudgedFrom k text last
+  whole : (last : Option Fault) (j : CommandsAreRight r k new) → EndsBy j.after.now (length text) None last → IsJudgedFrom k text last
   whole last j f = record {
     commands = j.commands;
     ending = j.ending;
@@ -144,7 +144,7 @@ module _ (r : Reader) (text : List ℕ) (k : Known) (new : ProofState) (same : t
         (j.after.fault (length text) None last f);
   }
 
-  pub text_judged : (result : Result (Unit {0}) CommandError) (j : AreRight r k new) → Finishes j.after.now text result → JudgesAll text k result
+  pub text_judged : (result : Result (Unit {0}) CommandError) (j : CommandsAreRight r k new) → Finishes j.after.now text result → JudgesAll text k result
   text_judged (Ok u) j f = whole None j f
   text_judged (Err (errors.Fault e)) j f = whole (Some (located_view e)) j f
   text_judged (Err errors.Memory) j f = tt

@@ -6,7 +6,7 @@ use Rattle.spec_text.specs.Lexemes.{Lexeme, lexemes, lexemes_from}
 use Rattle.spec_text.specs.Trees.{Tree, Trees, none, more}
 use Rattle.spec_text.specs.Faults.{Located}
 use Rattle.spec_text.specs.Answers.{Answer}
-use Rattle.spec_text.specs.Readings.{AreTrees, StopsAt, Stops, kept, is_long, limited, IsReadUpTo}
+use Rattle.spec_text.specs.Readings.{AreTrees, StopsAt, EndsTrees, kept, is_long, limited, IsReadUpTo}
 use Rattle.spec_text.proofs.Stopping.{stop_of}
 use Rattle.spec_commands.specs.Stack.{Stack, Effect, check, leave, Taken, empty_stack, step}
 use Rattle.spec_commands.specs.Checks.{Check, after_effect, after_command, current_at, term_limit, HasNoCheck}
@@ -15,7 +15,7 @@ use Rattle.smt_lexer.specs.declared.Refused.TheVariants as refusals
 use Rattle.smt_sexpr.specs.declared.sexpr.Sexpr.{Sexpr}
 use Rattle.smt_sexpr.specs.Items.{tree_of}
 use Rattle.smt_sexpr.specs.Limited.{IsStopped}
-use Rattle.smt_sexpr.specs.Reads.{Reads}
+use Rattle.smt_sexpr.specs.Reads.{ReadsSexpr}
 use Rattle.smt_sexpr.proofs.Limits.{stops_in}
 use Rattle.assertion_stack.specs.declared.stack.Effect.{Effect as CodeEffect}
 use Rattle.assertion_stack.specs.declared.stack.Effect.TheVariants as effects
@@ -36,7 +36,7 @@ pub record Loading (bytes : List ℕ) (k : ℕ) (x : Standing) (at left : ℕ) :
 pub loading_begins : (bytes : List ℕ) (k : ℕ) (x : Standing) (at : ℕ) → at ≡ 0 → IsStack term_limit x empty_stack → Loading bytes k x at k
 loading_begins bytes k x at e h = record { stack = empty_stack; stands = h; onward = λ us rest a. (us, subst (λ n. AreTrees 0 (lexemes_from bytes n) us rest) e a, refl) }
 
-read_whole : (text : List ℕ) (ts : Trees) (rest : List (ℕ × Lexeme)) (stop : Option Located) → AreTrees 0 (lexemes 0 0 (kept text)) ts rest → Stops (length (kept text)) rest stop → IsReadUpTo text ts (limited (is_long text) stop)
+read_whole : (text : List ℕ) (ts : Trees) (rest : List (ℕ × Lexeme)) (stop : Option Located) → AreTrees 0 (lexemes 0 0 (kept text)) ts rest → EndsTrees (length (kept text)) rest stop → IsReadUpTo text ts (limited (is_long text) stop)
 read_whole text ts rest stop a s = record { rest = rest; trees = a; stop = stop; stops = s; is = refl }
 
 -- each text is read
@@ -68,7 +68,7 @@ one_less place (suc (suc k)) next other e s rest = let n : next ≡ suc k = omeg
 
 module _ (text : List ℕ) (k : ℕ) (x : Standing) (from : Place) (left : ℕ) (l : Loading (kept text) k x from.offset left) where
   -- the script ends here
-  script_ends : (stop : Option Located) → Stops (length (kept text)) (lexemes_from (kept text) from.offset) stop → HasNoCheck term_limit text k
+  script_ends : (stop : Option Located) → EndsTrees (length (kept text)) (lexemes_from (kept text) from.offset) stop → HasNoCheck term_limit text k
   script_ends stop s =
       let rest = lexemes_from (kept text) from.offset in
       let o = l.onward none rest (nothing_first 0 rest (omega arith)) in
@@ -80,7 +80,7 @@ module _ (text : List ℕ) (k : ℕ) (x : Standing) (from : Place) (left : ℕ) 
   pub script_breaks : (r : Refusal) → IsStopped text 0 (lexemes_from (kept text) from.offset) r → HasNoCheck term_limit text k
   script_breaks r b = script_ends b.stop (stops_in (length (kept text)) (lexemes_from (kept text) from.offset) b.stop b.stops)
 
-  module _ (s : Sexpr) (after : Place) (r : Reads (kept text) from 0 s after) where
+  module _ (s : Sexpr) (after : Place) (r : ReadsSexpr (kept text) from 0 s after) where
     -- what comes next, in all
     next_tree : (us : Trees) (rest : List (ℕ × Lexeme)) → AreTrees 0 (lexemes_from (kept text) after.offset) us rest
         → (ts : Trees) × AreTrees 0 (lexemes 0 0 (kept text)) ts rest × (current_at term_limit empty_stack k ts ≡ current_at term_limit l.stack left (more (tree_of s) us))

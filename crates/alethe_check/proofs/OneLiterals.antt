@@ -12,7 +12,7 @@ use Rattle.spec_rules.specs.Rules.{IsBy, IsWideBy}
 use Rattle.term_core.specs.declared.ids.TermId.{TermId}
 use Rattle.term_core.specs.Tables.{TableView, clause_at}
 use Rattle.rule_bool.specs.declared.rule_stop.RuleStop.{RuleStop}
-use Rattle.rule_bool.specs.Resolvents.{Stops}
+use Rattle.rule_bool.specs.Resolvents.{StopsRule}
 use Rattle.alethe_reader.specs.declared.proof_state.ProofState.{ProofState}
 use Rattle.alethe_reader.specs.Holding.{clauses_numbered}
 use Rattle.alethe_check.specs.Stating.{takes_literals, fronts_numbered}
@@ -30,10 +30,10 @@ fronts_alone h (k ∷ ks) = λ j. front_alone h.table (get_or h.clauses.items k 
 
 -- a step is right or not, and can be told or not
 abbrev JudgesKind : Kind → List Clause → Trees → Clause → Result (Unit {0}) RuleStop → Type 0
-JudgesKind k ps arguments c result = MatchResult result (λ _. IsBy k ps arguments c) (λ stop. Stops stop (IsBy k ps arguments c) (IsWideBy k ps arguments c))
+JudgesKind k ps arguments c result = MatchResult result (λ _. IsBy k ps arguments c) (λ stop. StopsRule stop (IsBy k ps arguments c) (IsWideBy k ps arguments c))
 
 -- what is judged of the ones is judged of the others
-told : (P Q : Type 0) → (P ↔ Q) → (result : Result (Unit {0}) RuleStop) → MatchResult result (λ _. P) (λ stop. Stops stop P ⊥) → MatchResult result (λ _. Q) (λ stop. Stops stop Q ⊥)
+told : (P Q : Type 0) → (P ↔ Q) → (result : Result (Unit {0}) RuleStop) → MatchResult result (λ _. P) (λ stop. StopsRule stop P ⊥) → MatchResult result (λ _. Q) (λ stop. StopsRule stop Q ⊥)
 told P Q same (Ok u) h = same.0 h
 told P Q same (Err stop) h = stops_same P Q stop same h
 

@@ -7,7 +7,7 @@ use Rattle.spec_sorts.specs.Literals.{Clause, complement, literals_of}
 use Rattle.spec_proofs.proofs.Chains.{mapped_within}
 use Rattle.rule_bool.specs.declared.rule_stop.RuleStop.{RuleStop}
 use Rattle.rule_bool.specs.declared.rule_stop.RuleStop.TheVariants as stops
-use Rattle.rule_bool.specs.Resolvents.{Stops}
+use Rattle.rule_bool.specs.Resolvents.{StopsRule}
 use Rattle.alethe_check.specs.Stating.{JudgesResolvent}
 
 module _ {L : Type 0} (other : L → L) (ps qs : List (List L)) (within : IsWithin ps qs) (assumed : List L) where
@@ -31,7 +31,7 @@ resolvent_back : (ps qs : List Clause) (c : Clause) → ((d : Clause) → Contai
 resolvent_back ps qs c same r = resolvent_within qs ps c (λ d. (same d).1) r
 
 -- what a stop says of a step from the ones, it says of a step from the others
-pub stops_same : (P Q : Type 0) (stop : RuleStop) → (P ↔ Q) → Stops stop P ⊥ → Stops stop Q ⊥
+pub stops_same : (P Q : Type 0) (stop : RuleStop) → (P ↔ Q) → StopsRule stop P ⊥ → StopsRule stop Q ⊥
 stops_same P Q stops.Fails same s = (λ q. s.0 (same.1 q), s.1)
 stops_same P Q stops.Wide same s = s
 stops_same P Q stops.Memory same s = s

@@ -19,7 +19,7 @@ use Rattle.alethe_reader.specs.Remaining.{text_of, AreRemaining}
 use Rattle.alethe_check.specs.Stating.{IsWrong}
 
 -- A command is read, it is right, and it is known now.
-pub record IsTaken (k : Known) (read : Read Command) (new : ProofState) : Type 0 where
+pub record TakesCommand (k : Known) (read : Read Command) (new : ProofState) : Type 0 where
   -- the command
   pub command : Command
   -- it is what is read
@@ -40,7 +40,7 @@ pub record IsRefused (k : Known) (read : Read Command) (f : Fault) : Type 0 wher
 
 -- a command is right, and is known now; or it is not read, or not right
 abbrev pub JudgesOne : Known → Read Command → Result (Unit {0}) CommandError → ProofState → Type 0
-JudgesOne k read (Ok u) new = IsTaken k read new
+JudgesOne k read (Ok u) new = TakesCommand k read new
 JudgesOne k read (Err (errors.Fault f)) new = (read ≡ Err (located_view f)) ⊎ IsRefused k read (located_view f)
 JudgesOne k read (Err errors.Memory) new = Unit {0}
 
@@ -55,7 +55,7 @@ pub record KnownAfter (k : Known) (ts : Trees) (new : ProofState) : Type 0 where
       → FirstFault (Some term_limit) k end ending ts found
 
 -- All commands that were to come are right, and nothing ends them with a fault.
-pub record AreRight (r : Reader) (k : Known) (new : ProofState) : Type 0 where
+pub record CommandsAreRight (r : Reader) (k : Known) (new : ProofState) : Type 0 where
   -- the commands
   pub commands : Trees
   -- what comes after them
@@ -80,7 +80,7 @@ pub record AreWrong (r : Reader) (k : Known) (f : Fault) : Type 0 where
 
 -- the commands that were to come are right, or one of them or their ending has the first fault
 abbrev pub JudgesCommands : Reader → Known → Result (Unit {0}) CommandError → ProofState → Type 0
-JudgesCommands r k (Ok u) new = AreRight r k new
+JudgesCommands r k (Ok u) new = CommandsAreRight r k new
 JudgesCommands r k (Err (errors.Fault f)) new = AreWrong r k (located_view f)
 JudgesCommands r k (Err errors.Memory) new = Unit {0}
 

@@ -12,7 +12,7 @@ use Rattle.spec_checking.specs.Commands.{Known, Step, Statement}
 use Rattle.spec_checking.specs.Judging.{with_statement, IsRightAfter, IsWideStep, fault_of, wide_fault}
 use Rattle.term_core.specs.Tables.{clause_at, AreIn}
 use Rattle.rule_bool.specs.declared.rule_stop.RuleStop.{RuleStop}
-use Rattle.rule_bool.specs.Resolvents.{Stops}
+use Rattle.rule_bool.specs.Resolvents.{StopsRule}
 use Rattle.alethe_reader.specs.declared.proof_state.ProofState.{ProofState}
 
 -- such a step has one premise at most
@@ -50,13 +50,13 @@ HasClauses h = All (λ c. AreIn h.table c) h.clauses.items
 -- whether the clause follows from the premises by resolution, unless memory ran out
 abbrev pub JudgesResolvent : List Clause → Clause → Result (Unit {0}) RuleStop → Type 0
 JudgesResolvent premises clause result =
-    MatchResult result (λ _. IsResolvent premises clause) (λ stop. Stops stop (IsResolvent premises clause) ⊥)
+    MatchResult result (λ _. IsResolvent premises clause) (λ stop. StopsRule stop (IsResolvent premises clause) ⊥)
 
 -- whether the clause follows from the premises by the rule, and whether this can be told, unless memory ran out
 abbrev pub JudgesBy : Rule → List Clause → Trees → Clause → Result (Unit {0}) RuleStop → Type 0
 JudgesBy rule premises arguments clause result =
     MatchResult result (λ _. IsRight rule premises arguments clause)
-    (λ stop. Stops stop (IsRight rule premises arguments clause) (IsWide rule premises arguments clause))
+    (λ stop. StopsRule stop (IsRight rule premises arguments clause) (IsWide rule premises arguments clause))
 
 -- the same of a step
 abbrev pub JudgesStep : Step → Result (Unit {0}) RuleStop → Type 0
@@ -65,7 +65,7 @@ JudgesStep s result = JudgesBy s.rule s.premises s.arguments s.clause result
 -- the same of what a command states
 abbrev pub JudgesStatement : Known → Statement → Result (Unit {0}) RuleStop → Type 0
 JudgesStatement k s result =
-    MatchResult result (λ _. IsRightAfter k s) (λ stop. Stops stop (IsRightAfter k s) (IsWideStep s))
+    MatchResult result (λ _. IsRightAfter k s) (λ stop. StopsRule stop (IsRightAfter k s) (IsWideStep s))
 
 -- what is known, with what is stated after it
 abbrev pub stating : Known → Statement → Known

@@ -9,7 +9,7 @@ ghost use Rattle.smt_sexpr.specs.Items.{tree_of};
 ghost use Rattle.alethe_reader.specs.declared.errors.CommandError.TheVariants as errors;
 ghost use Rattle.alethe_reader.specs.declared.proof_state.ProofState.{ProofState};
 ghost use Rattle.alethe_reader.specs.Holding.{IsKnown, HasKnown};
-ghost use Rattle.alethe_reader.specs.Reads.{IsReady, located_view, statement_view};
+ghost use Rattle.alethe_reader.specs.Reads.{IsReadyCommand, located_view, statement_view};
 ghost use Rattle.alethe_check.specs.Stating.{JudgesStatement, stating};
 ghost use Rattle.alethe_check.specs.Judging.{JudgesOne};
 
@@ -28,7 +28,7 @@ fn judge_statement(
     command: &ReadCommand<'_>,
 ) -> Result<(), RuleStop>
     requires known { HasKnown state.now }
-    requires ready { IsReady state.now command.now }
+    requires ready { IsReadyCommand state.now command.now }
     ensures { (k : Known) → IsKnown state.now k
         → JudgesStatement k (statement_view state.now command.now) result }
 {
@@ -93,7 +93,7 @@ fn add_command(
     command: ReadCommand<'_>,
 ) -> Result<(), CommandError>
     requires known { HasKnown state.old }
-    requires ready { IsReady state.old command }
+    requires ready { IsReadyCommand state.old command }
     ensures added { OnOk result ((k : Known) → IsKnown state.old k
         → IsKnown state.new (stating k (statement_view state.old command.entry))) }
     ensures memory { IfErr result (λ e. e ≡ errors.Memory) }

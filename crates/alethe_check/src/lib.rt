@@ -8,7 +8,7 @@ ghost use Rattle.spec_checking.specs.Accepted.{IsAccepted};
 ghost use Rattle.assertion_stack.specs.Stacks.{standing, HasStack, IsStack};
 ghost use Rattle.alethe_reader.specs.Holding.{known_on};
 ghost use Rattle.alethe_check.specs.Judging.{JudgesAll};
-ghost use Rattle.alethe_check.specs.Verdicts.{Answers, Refuses};
+ghost use Rattle.alethe_check.specs.Verdicts.{AnswersVerdict, Refuses};
 
 mod command;
 mod judge;
@@ -42,7 +42,7 @@ use std::alloc::Global;
 /// It keeps nothing. It takes memory of a multiple of the bytes of both texts and of the terms that they are read as, however
 /// often a premise is named. Source: Alethe specification.
 pub fn check(alloc: Global, script: &[u8], at: u64, proof: &[u8]) -> Result<(), ProofStop>
-    ensures verdict { Answers script.now at proof.now result }
+    ensures verdict { AnswersVerdict script.now at proof.now result }
     ensures accepted { OnOk result (IsAccepted script.now at proof.now) }
     ensures sound { OnOk result (HasNoModel term_limit script.now at) }
 {
@@ -74,7 +74,7 @@ fn judge_at(alloc: Global, stated: Script, proof: &[u8]) -> Result<(), CommandEr
 
 /// Judges the two texts, and gives the verdict on them.
 fn judge_texts(alloc: Global, script: &[u8], at: u64, proof: &[u8]) -> Result<(), ProofStop>
-    ensures { Answers script.now at proof.now result }
+    ensures { AnswersVerdict script.now at proof.now result }
 {
     spec_checking::laws::faults_stand_in_their_proof();
     match current_at(alloc, script, at) {

@@ -7,14 +7,14 @@ use Rattle.spec_text.specs.Bytes.{Name, among}
 use Rattle.spec_sorts.specs.Signatures.{Definition, with_definitions}
 use Rattle.spec_commands.specs.Stack.{Stack, assertions_of, terms_asserted}
 use Rattle.spec_proofs.specs.Resolution.{IsWithin}
-use Rattle.spec_checking.specs.Commands.{Entry, Known}
+use Rattle.spec_checking.specs.Commands.{NamedClause, Known}
 use Rattle.spec_checking.specs.Reading.{clause_of, entry_names}
 use Rattle.term_core.specs.declared.ids.TermId.{TermId}
 use Rattle.term_core.specs.NameLists.{HaveNoTwice}
 use Rattle.term_core.specs.Tables.{TableView, clause_at, AreIn, Extends}
 use Rattle.term_core.proofs.NamesApart.{bytes_same, same_bytes}
 use Rattle.term_core.proofs.TermsExtend.{clause_at-kept, AreIn-kept}
-use Rattle.term_reader.specs.Scopes.{Stands}
+use Rattle.term_reader.specs.Scopes.{ScopeMeans}
 use Rattle.assertion_stack.specs.declared.stack.Stack.{Stack as CodeStack}
 use Rattle.assertion_stack.specs.Stacks.{standing, IsStack}
 use Rattle.alethe_reader.specs.declared.proof_state.ProofState.{ProofState}
@@ -58,7 +58,7 @@ module _ (t : TableView) where
   entries_push [] [] n c l = refl
   entries_push [] (d ∷ cs) n c l = absurd (omega arith)
   entries_push (m ∷ ns) [] n c l = absurd (omega arith)
-  entries_push (m ∷ ns) (d ∷ cs) n c l = ap (λ es. (let e : Entry = record { name = m; clause = clause_at t d } in e) ∷ es) (entries_push ns cs n c (omega arith))
+  entries_push (m ∷ ns) (d ∷ cs) n c l = ap (λ es. (let e : NamedClause = record { name = m; clause = clause_at t d } in e) ∷ es) (entries_push ns cs n c (omega arith))
 
 -- an earlier command more
 pub known_more : (h new : ProofState) (k : Known) (n : Name) (c : List TermId) → IsKnown h k → AreIn h.table c
@@ -90,7 +90,7 @@ module _ (old new : TableView) (grows : Extends old new) where
       λ i. (record { name = n; clause = one i }) ∷ rest i
 
 -- definitions more, in a table that grew
-pub known_made : (h new : ProofState) (k : Known) (ds : List Definition) → IsKnown h k → Extends h.table new.table → Stands new.table new.scope (with_definitions k.scope ds)
+pub known_made : (h new : ProofState) (k : Known) (ds : List Definition) → IsKnown h k → Extends h.table new.table → ScopeMeans new.table new.scope (with_definitions k.scope ds)
     → new.asserted ≡ h.asserted → new.names ≡ h.names → new.clauses ≡ h.clauses → IsKnown new (with_made k ds)
 known_made h new k ds is grows stands asserted names clauses =
     let same : clause_at new.table h.asserted.keys ≡ clause_at h.table h.asserted.keys = clause_at-kept h.table new.table grows h.asserted.keys is.inside in

@@ -10,7 +10,7 @@ use Rattle.spec_checking.specs.Reading.{names_given, named_in, named_in_all, one
 use Rattle.smt_sexpr.specs.declared.items.Trees.{Trees as Cursor}
 use Rattle.smt_sexpr.specs.Items.{split_first, trees_meant}
 use Rattle.smt_sexpr.proofs.Splitting.{split_end, split_more}
-use Rattle.sort_check.specs.Naming.{wanted_word, next_word, listed}
+use Rattle.sort_check.specs.Naming.{wanted_word, next_word, listed_word}
 use Rattle.sort_check.specs.Walks.{size, sizes}
 use Rattle.sort_check.proofs.NamesGiven.{words_next, no_words}
 use Rattle.alethe_reader.specs.Naming.{one_open_at, open_left}
@@ -36,17 +36,17 @@ module _ (at : ℕ) (next : Next) (ts : Trees) where
   none_named e = ap (λ us. one_stands_at (named_words next us) at) (split_end ts e) ∙ ap (λ ws. one_stands_at ws at) (no_words next)
 
   module _ (t : Tree) (us : Trees) (e : Some (t, us) ≡ split_first ts) where
-    both_named : one_stands_at (named_words next ts) at ≡ (one_stands_at (listed (wanted_word next t)) at || one_stands_at (named_words (next_word next t) us) at)
+    both_named : one_stands_at (named_words next ts) at ≡ (one_stands_at (listed_word (wanted_word next t)) at || one_stands_at (named_words (next_word next t) us) at)
     both_named =
         ap (λ vs. one_stands_at (named_words next vs) at) (split_more ts us t e) ∙ ap (λ ws. one_stands_at ws at) (words_next next t us)
-        ∙ stands_both at (listed (wanted_word next t)) (named_words (next_word next t) us)
+        ∙ stands_both at (listed_word (wanted_word next t)) (named_words (next_word next t) us)
 
     -- the word that stands next is at the offset
-    pub here_named : true ≡ one_stands_at (listed (wanted_word next t)) at → one_stands_at (named_words next ts) at ≡ true
+    pub here_named : true ≡ one_stands_at (listed_word (wanted_word next t)) at → one_stands_at (named_words next ts) at ≡ true
     here_named h = both_named ∙ ap (λ b. b || one_stands_at (named_words (next_word next t) us) at) (sym h)
 
     -- it is not, so those after it are
-    pub later_named : (then : Next) → then ≡ next_word next t → false ≡ one_stands_at (listed (wanted_word next t)) at → one_stands_at (named_words next ts) at ≡ one_stands_at (named_words then us) at
+    pub later_named : (then : Next) → then ≡ next_word next t → false ≡ one_stands_at (listed_word (wanted_word next t)) at → one_stands_at (named_words next ts) at ≡ one_stands_at (named_words then us) at
     later_named then n h = both_named ∙ ap (λ b. b || one_stands_at (named_words (next_word next t) us) at) (sym h) ∙ ap (λ m. one_stands_at (named_words m us) at) (sym n)
 
 -- one row of texts more is open

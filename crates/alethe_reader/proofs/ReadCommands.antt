@@ -23,19 +23,19 @@ use Rattle.alethe_reader.specs.declared.errors.CommandError.{CommandError}
 use Rattle.alethe_reader.specs.declared.errors.CommandError.TheVariants as errors
 use Rattle.alethe_reader.specs.declared.proof_state.ProofState.{ProofState}
 use Rattle.alethe_reader.specs.declared.reading.ReadCommand.{ReadCommand}
-use Rattle.alethe_reader.specs.Reads.{Reads, located_view}
-use Rattle.alethe_reader.specs.Parts.{Stops}
+use Rattle.alethe_reader.specs.Reads.{ReadsProofCommand, located_view}
+use Rattle.alethe_reader.specs.Parts.{StopsRead}
 
 -- a part that has a fault is the fault of the whole
 pub stopped : {A : Type 0} (k : Known) (h : ProofState) (r : Result ReadCommand CommandError) (s : CommandError) (part : Read A) (all : Read Command)
-    → IsErrAnd r (λ e. e ≡ s) → Stops s part → ((f : Fault) → part ≡ Err f → all ≡ Err f) → Reads k all r h
+    → IsErrAnd r (λ e. e ≡ s) → StopsRead s part → ((f : Fault) → part ≡ Err f → all ≡ Err f) → ReadsProofCommand k all r h
 stopped k h (Ok y) s part all is stops goes = absurd is
-stopped k h (Err e) (errors.Fault f) part all is stops goes = subst (λ q. Reads k all (Err q) h) (sym is) (goes (located_view f) stops)
-stopped k h (Err e) errors.Memory part all is stops goes = subst (λ q. Reads k all (Err q) h) (sym is) tt
+stopped k h (Err e) (errors.Fault f) part all is stops goes = subst (λ q. ReadsProofCommand k all (Err q) h) (sym is) (goes (located_view f) stops)
+stopped k h (Err e) errors.Memory part all is stops goes = subst (λ q. ReadsProofCommand k all (Err q) h) (sym is) tt
 
 -- and so is a fault of the code's own
-pub refused_by : (k : Known) (h : ProofState) (s : CommandError) (at : ℕ) (kind : ProofKind) (all : Read Command) → s ≡ errors.Fault (record { offset = at; kind = kind }) → all ≡ wrong at kind → Reads k all (Err s) h
-refused_by k h s at kind all is e = subst (λ q. Reads k all (Err q) h) (sym is) e
+pub refused_by : (k : Known) (h : ProofState) (s : CommandError) (at : ℕ) (kind : ProofKind) (all : Read Command) → s ≡ errors.Fault (record { offset = at; kind = kind }) → all ≡ wrong at kind → ReadsProofCommand k all (Err s) h
+refused_by k h s at kind all is e = subst (λ q. ReadsProofCommand k all (Err q) h) (sym is) e
 
 goes_on : {A B : Type 0} (r : Read A) (x : A) (f : A → Read B) → r ≡ Ok x → (r >>= f) ≡ f x
 unfolding ◌>>=◌

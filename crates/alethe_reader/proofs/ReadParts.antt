@@ -10,17 +10,17 @@ use Rattle.spec_checking.specs.Reading.{in_proof}
 use Rattle.term_core.specs.declared.ids.TermId.{TermId}
 use Rattle.term_reader.specs.declared.faults.ReadError.{ReadError}
 use Rattle.term_reader.specs.declared.faults.ReadError.TheVariants as reading
-use Rattle.sort_check.specs.Reads.{store, Grows, HasTerm, HasTerms, HasDefinitions, HasFault}
+use Rattle.sort_check.specs.Reads.{store, StoreGrows, HasTerm, HasTerms, HasDefinitions, HasFault}
 use Rattle.alethe_reader.specs.declared.errors.CommandError.{CommandError}
 use Rattle.alethe_reader.specs.declared.errors.CommandError.TheVariants as errors
 use Rattle.alethe_reader.specs.declared.proof_state.ProofState.{ProofState}
 use Rattle.alethe_reader.specs.Holding.{IsKnown}
 use Rattle.alethe_reader.specs.Naming.{IsErrorAmong}
-use Rattle.alethe_reader.specs.Parts.{Stops, HasLiterals, HasFormula, HasMade}
+use Rattle.alethe_reader.specs.Parts.{StopsRead, HasLiterals, HasFormula, HasMade}
 use Rattle.alethe_reader.proofs.Entries.{known_made}
 
 -- a fault of a text is that of the proof
-pub stops_among : {A : Type 0} (words : List Word) (a : Answer A) (stop : ReadError) (e : CommandError) → HasFault a stop → IsErrorAmong words stop e → Stops e (in_proof words a)
+pub stops_among : {A : Type 0} (words : List Word) (a : Answer A) (stop : ReadError) (e : CommandError) → HasFault a stop → IsErrorAmong words stop e → StopsRead e (in_proof words a)
 unfolding in_proof
 stops_among words a (reading.Fault f) (errors.Fault g) h is = ap (in_proof words) h ∙ ap (λ x. Err x) (sym is)
 stops_among words a reading.Memory (errors.Fault g) h is = absurd is
@@ -32,7 +32,7 @@ read_among : {A : Type 0} (words : List Word) (a b : Answer A) (x : A) → a ≡
 unfolding in_proof
 read_among words a b x same e = ap (in_proof words) (sym same ∙ e)
 
-module _ (h new : ProofState) (k : Known) (is : IsKnown h k) (grows : Grows (store h.table h.scope) (store new.table new.scope)) (asserted : new.asserted ≡ h.asserted) (names : new.names ≡ h.names) (clauses : new.clauses ≡ h.clauses) (words : List Word) where
+module _ (h new : ProofState) (k : Known) (is : IsKnown h k) (grows : StoreGrows (store h.table h.scope) (store new.table new.scope)) (asserted : new.asserted ≡ h.asserted) (names : new.names ≡ h.names) (clauses : new.clauses ≡ h.clauses) (words : List Word) where
   pub literals_read : (a b : Answer Readings) (ids : List TermId) → a ≡ b → HasTerms k.scope (store new.table new.scope) a ids → HasLiterals k new (in_proof words b) ids
   literals_read a b ids same r = record {
     readings = r.readings;
@@ -59,5 +59,5 @@ module _ (h new : ProofState) (k : Known) (is : IsKnown h k) (grows : Grows (sto
   }
 
 -- and a fault
-pub fault_read : {A : Type 0} (words : List Word) (a b : Answer A) (stop : ReadError) (e : CommandError) → a ≡ b → HasFault a stop → IsErrorAmong words stop e → Stops e (in_proof words b)
-fault_read words a b stop e same h is = subst (λ x. Stops e (in_proof words x)) same (stops_among words a stop e h is)
+pub fault_read : {A : Type 0} (words : List Word) (a b : Answer A) (stop : ReadError) (e : CommandError) → a ≡ b → HasFault a stop → IsErrorAmong words stop e → StopsRead e (in_proof words b)
+fault_read words a b stop e same h is = subst (λ x. StopsRead e (in_proof words x)) same (stops_among words a stop e h is)

@@ -15,13 +15,13 @@ use Rattle.spec_proofs.specs.Texts.{Ending, complete, broken, left_over, EndsRow
 use Rattle.smt_lexer.specs.declared.Refusal.{Refusal}
 use Rattle.smt_sexpr.specs.declared.sexpr.Sexpr.{Sexpr}
 use Rattle.smt_sexpr.specs.Items.{tree_of}
-use Rattle.smt_sexpr.specs.Reads.{Reads, Closes}
+use Rattle.smt_sexpr.specs.Reads.{ReadsSexpr, Closes}
 use Rattle.smt_sexpr.specs.Limited.{refusal_meant, StopsIn, IsStopped}
 use Rattle.alethe_reader.specs.declared.errors.LocatedFault.{LocatedFault}
 use Rattle.alethe_reader.specs.declared.errors.CommandError.{CommandError}
 use Rattle.alethe_reader.specs.declared.errors.CommandError.TheVariants as errors
 use Rattle.alethe_reader.specs.declared.reader.Reader.{Reader}
-use Rattle.alethe_reader.specs.Endings.{EndsIn, AreLeft, IsEnding, EndsHere, Follows, Leaves}
+use Rattle.alethe_reader.specs.Endings.{EndsIn, AreLeft, IsEnding, EndsHere, FollowsCommands, Leaves}
 use Rattle.alethe_reader.specs.Reads.{located_view}
 use Rattle.alethe_reader.specs.Remaining.{text_of, ReadsOn}
 use Rattle.alethe_reader.proofs.Rows.{nothing_first, read_first, left_behind}
@@ -68,7 +68,7 @@ row_behind end rest (broken f) h = h
 row_behind end rest (left_over at) h = absurd h
 
 -- after a list stands what cannot be read
-pub list_breaks : (text : List ℕ) (xs : List (ℕ × Lexeme)) (r : Refusal) (found : LocatedFault) → IsStopped text 0 xs r → located_view found ≡ text_fault (refusal_meant r) → Follows text xs (Some (located_view found))
+pub list_breaks : (text : List ℕ) (xs : List (ℕ × Lexeme)) (r : Refusal) (found : LocatedFault) → IsStopped text 0 xs r → located_view found ≡ text_fault (refusal_meant r) → FollowsCommands text xs (Some (located_view found))
 list_breaks text xs r found s e = record {
   ending = ending_of s.stop;
   behind = row_behind (length (kept text)) xs (ending_of s.stop) (stops_row (length (kept text)) xs s.stop s.stops);
@@ -76,11 +76,11 @@ list_breaks text xs r found s e = record {
 }
 
 -- or a tree
-pub list_goes_on : (text : List ℕ) (from : Place) (s : Sexpr) (after : Place) (at : ℕ) → Reads (kept text) from 0 s after → at ≡ offset_of (tree_of s) → Follows text (lexemes_from (kept text) from.offset) (Some (fault_at at BadShape))
+pub list_goes_on : (text : List ℕ) (from : Place) (s : Sexpr) (after : Place) (at : ℕ) → ReadsSexpr (kept text) from 0 s after → at ≡ offset_of (tree_of s) → FollowsCommands text (lexemes_from (kept text) from.offset) (Some (fault_at at BadShape))
 list_goes_on text from s after at r e = record { ending = left_over at; behind = left_behind (kept text) from s after at r e; is = refl }
 
 -- or nothing
-pub list_finishes : (text : List ℕ) (xs : List (ℕ × Lexeme)) → xs ≡ [] → is_long text ≡ false → Follows text xs None
+pub list_finishes : (text : List ℕ) (xs : List (ℕ × Lexeme)) → xs ≡ [] → is_long text ≡ false → FollowsCommands text xs None
 list_finishes text xs nothing short = record { ending = complete; behind = nothing; is = is_complete text short }
 
 module _ (listed : Bool) (text : List ℕ) (xs : List (ℕ × Lexeme)) where
@@ -99,7 +99,7 @@ left_finishes false text xs z nothing short = none_left false text xs complete N
 
 -- or the end of their list, and this is what follows
 pub closes_with : (listed : Bool) (text : List ℕ) (from after : Place) (found : Option Fault) → Closes (kept text) from (lists_round listed) after
-    → Follows text (lexemes_from (kept text) after.offset) found → EndsHere listed text (lexemes_from (kept text) from.offset) found
+    → FollowsCommands text (lexemes_from (kept text) after.offset) found → EndsHere listed text (lexemes_from (kept text) from.offset) found
 closes_with true text from after found c h = none_left true text (lexemes_from (kept text) from.offset) h.ending found (inl (c.at, lexemes_from (kept text) after.offset, c.first, h.behind)) h.is
 closes_with false text from after found c h = let some = c.some in absurd (omega (arith, some))
 
@@ -115,7 +115,7 @@ closes_stops old new same after c e (Ok s) h is = absurd is
 closes_stops old new same after c e (Err x) h is = subst (λ (y : CommandError). ReadsOn old (Err y) new) (sym is) (closes_wrong old new same after c e h)
 
 -- a command was read, and others come after it
-pub left_after : (listed : Bool) (text : List ℕ) (from : Place) (s : Sexpr) (after : Place) → Reads (kept text) from (lists_round listed) s after → (ts : Trees) (e : Ending)
+pub left_after : (listed : Bool) (text : List ℕ) (from : Place) (s : Sexpr) (after : Place) → ReadsSexpr (kept text) from (lists_round listed) s after → (ts : Trees) (e : Ending)
     → AreLeft listed (length (kept text)) (lexemes_from (kept text) after.offset) ts e → AreLeft listed (length (kept text)) (lexemes_from (kept text) from.offset) (more (tree_of s) ts) e
 left_after listed text from s after r ts e h = record { rest = h.rest; trees = read_first (kept text) from (lists_round listed) s after (few_round listed) r ts h.rest h.trees; ends = h.ends }
 

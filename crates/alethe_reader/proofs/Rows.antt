@@ -7,7 +7,7 @@ use Rattle.spec_text.specs.Faults.{nesting_limit}
 use Rattle.spec_text.specs.Readings.{depth, AreTrees}
 use Rattle.smt_sexpr.specs.declared.sexpr.Sexpr.{Sexpr}
 use Rattle.smt_sexpr.specs.Items.{tree_of}
-use Rattle.smt_sexpr.specs.Reads.{Reads}
+use Rattle.smt_sexpr.specs.Reads.{ReadsSexpr}
 use Rattle.spec_proofs.specs.Texts.{EndsBehind, left_over}
 
 -- no tree comes first
@@ -21,11 +21,11 @@ one_first n xs ys rest t us few e flat h = record {
   within = omega (arith, few, flat, h.within);
 }
 
-module _ (text : List ℕ) (from : Place) (n : ℕ) (s : Sexpr) (after : Place) (few : n ≤ nesting_limit) (r : Reads text from n s after) where
+module _ (text : List ℕ) (from : Place) (n : ℕ) (s : Sexpr) (after : Place) (few : n ≤ nesting_limit) (r : ReadsSexpr text from n s after) where
   -- what was read, and then others
   pub read_first : (us : Trees) (rest : List (ℕ × Lexeme)) → AreTrees n (lexemes_from text after.offset) us rest → AreTrees n (lexemes_from text from.offset) (more (tree_of s) us) rest
   read_first us rest h = one_first n _ _ rest (tree_of s) us few r.is.first r.is.within h
 
 -- a tree after all commands
-pub left_behind : (text : List ℕ) (from : Place) (s : Sexpr) (after : Place) (at : ℕ) → Reads text from 0 s after → at ≡ offset_of (tree_of s) → EndsBehind (length text) (lexemes_from text from.offset) (left_over at)
+pub left_behind : (text : List ℕ) (from : Place) (s : Sexpr) (after : Place) (at : ℕ) → ReadsSexpr text from 0 s after → at ≡ offset_of (tree_of s) → EndsBehind (length text) (lexemes_from text from.offset) (left_over at)
 left_behind text from s after at r e = (tree_of s, lexemes_from text after.offset, read_first text from 0 s after (omega arith) r none (lexemes_from text after.offset) (nothing_first 0 (lexemes_from text after.offset) (omega arith)), sym e)

@@ -44,7 +44,7 @@ pub record EndsHere (listed : Bool) (text : List ℕ) (xs : List (ℕ × Lexeme)
   pub is : IsEnding text ending found
 
 -- What follows the list of commands is this fault, or nothing does.
-pub record Follows (text : List ℕ) (xs : List (ℕ × Lexeme)) (found : Option Fault) : Type 0 where
+pub record FollowsCommands (text : List ℕ) (xs : List (ℕ × Lexeme)) (found : Option Fault) : Type 0 where
   -- the ending
   pub ending : Ending
   -- it comes after the list
@@ -54,6 +54,6 @@ pub record Follows (text : List ℕ) (xs : List (ℕ × Lexeme)) (found : Option
 
 -- nothing follows the list of commands, or the fault of what does
 abbrev pub Leaves : List ℕ → List (ℕ × Lexeme) → Result (Unit {0}) CommandError → Type 0
-Leaves text xs (Ok u) = Follows text xs None
-Leaves text xs (Err (errors.Fault f)) = Follows text xs (Some (located_view f))
+Leaves text xs (Ok u) = FollowsCommands text xs None
+Leaves text xs (Err (errors.Fault f)) = FollowsCommands text xs (Some (located_view f))
 Leaves text xs (Err errors.Memory) = Unit {0}

@@ -4,21 +4,21 @@ use Rattle.spec_text.specs.Bytes.{Name}
 use Rattle.spec_sorts.specs.Literals.{Clause}
 use Rattle.spec_commands.specs.Stack.{Stack}
 use Rattle.spec_proofs.specs.Resolution.{IsWithin}
-use Rattle.spec_checking.specs.Commands.{Entry, Known, known_at}
+use Rattle.spec_checking.specs.Commands.{NamedClause, Known, known_at}
 use Rattle.term_core.specs.declared.ids.TermId.{TermId}
 use Rattle.term_core.specs.Tables.{TableView, clause_at, AreIn}
-use Rattle.term_reader.specs.Scopes.{Stands}
+use Rattle.term_reader.specs.Scopes.{ScopeMeans}
 use Rattle.alethe_reader.specs.declared.proof_state.ProofState.{ProofState}
 
 -- names with their clauses, in order
-abbrev pub entries_of : TableView → List Name → List (List TermId) → List Entry
+abbrev pub entries_of : TableView → List Name → List (List TermId) → List NamedClause
 entries_of t (n ∷ ns) (c ∷ cs) = (record { name = n; clause = clause_at t c }) ∷ entries_of t ns cs
 entries_of t _ _ = []
 
 -- What a state stands for.
 pub record IsKnown (h : ProofState) (k : Known) : Type 0 where
   -- names stand for what the script and the proof declare and define
-  pub scope : Stands h.table h.scope k.scope
+  pub scope : ScopeMeans h.table h.scope k.scope
   -- the asserted terms are in the table
   pub inside : AreIn h.table h.asserted.keys
   -- they are those that the check asks about

@@ -31,14 +31,14 @@ abbrev pub HaveSameMembers : List TermId → List TermId → Type 0
 HaveSameMembers xs ys = (id : TermId) → Contains xs id ↔ Contains ys id
 
 -- the fault is the same, unless memory ran out
-abbrev pub Stops : {A : Type 0} → CommandError → Read A → Type 0
-Stops (errors.Fault f) read = read ≡ Err (located_view f)
-Stops errors.Memory read = Unit {0}
+abbrev pub StopsRead : {A : Type 0} → CommandError → Read A → Type 0
+StopsRead (errors.Fault f) read = read ≡ Err (located_view f)
+StopsRead errors.Memory read = Unit {0}
 
 -- what a function returned, seen by a view, is what is read, or the fault is the same, unless memory ran out
 abbrev pub Gives : {X Y : Type 0} → (X → Y) → Result X CommandError → Read Y → Type 0
 Gives view (Ok x) read = read ≡ Ok (view x)
-Gives view (Err e) read = Stops e read
+Gives view (Err e) read = StopsRead e read
 
 -- The literals are read, by the numbers of their terms.
 pub record HasLiterals (k : Known) (h : ProofState) (answer : Read Readings) (ids : List TermId) : Type 0 where
@@ -56,7 +56,7 @@ pub record HasLiterals (k : Known) (h : ProofState) (answer : Read Readings) (id
 -- the literals are read, or have this first fault, unless memory ran out
 abbrev pub ReadsLiterals : Known → ProofState → Read Readings → Result (Vec TermId Global) CommandError → Type 0
 ReadsLiterals k h answer (Ok v) = HasLiterals k h answer v.items
-ReadsLiterals k h answer (Err e) = Stops e answer
+ReadsLiterals k h answer (Err e) = StopsRead e answer
 
 -- The formula is read, by the number of its term.
 pub record HasFormula (k : Known) (h : ProofState) (answer : Read Reading) (id : TermId) : Type 0 where
@@ -74,7 +74,7 @@ pub record HasFormula (k : Known) (h : ProofState) (answer : Read Reading) (id :
 -- the formula is read, or has this first fault, unless memory ran out
 abbrev pub ReadsFormula : Known → ProofState → Read Reading → Result TermId CommandError → Type 0
 ReadsFormula k h answer (Ok id) = HasFormula k h answer id
-ReadsFormula k h answer (Err e) = Stops e answer
+ReadsFormula k h answer (Err e) = StopsRead e answer
 
 -- The definition is read.
 pub record HasMade (k : Known) (h : ProofState) (answer : Read (List Definition)) : Type 0 where
@@ -88,4 +88,4 @@ pub record HasMade (k : Known) (h : ProofState) (answer : Read (List Definition)
 -- the definition is read, or has this first fault, unless memory ran out
 abbrev pub ReadsDefinition : Known → ProofState → Read (List Definition) → Result (Unit {0}) CommandError → Type 0
 ReadsDefinition k h answer (Ok u) = HasMade k h answer
-ReadsDefinition k h answer (Err e) = Stops e answer
+ReadsDefinition k h answer (Err e) = StopsRead e answer

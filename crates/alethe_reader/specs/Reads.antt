@@ -43,10 +43,10 @@ pub record IsReadyStep (h : ProofState) (s : code_step.ProofStep) : Type 0 where
   pub coefficients : coefficients_meant s.coefficients.items ≡ coefficients_of (given_view s.arguments)
 
 -- the name is new, and terms and premises are there
-abbrev pub IsReady : ProofState → ReadCommand → Type 0
-IsReady h (code.Assume at name id) = (among h.names name.now ≡ false) × IsIn h.table id
-IsReady h (code.Step s) = IsReadyStep h s
-IsReady h (code.Define at) = Unit {0}
+abbrev pub IsReadyCommand : ProofState → ReadCommand → Type 0
+IsReadyCommand h (code.Assume at name id) = (among h.names name.now ≡ false) × IsIn h.table id
+IsReadyCommand h (code.Step s) = IsReadyStep h s
+IsReadyCommand h (code.Define at) = Unit {0}
 
 -- The command is read, and what it defines is known.
 pub record IsRead (k : Known) (read : Read Command) (h : ProofState) (x : ReadCommand) : Type 0 where
@@ -59,10 +59,10 @@ pub record IsRead (k : Known) (read : Read Command) (h : ProofState) (x : ReadCo
   -- its definitions are known
   pub known : IsKnown h (record k { scope = with_definitions k.scope command.made })
   -- what it names is there
-  pub ready : IsReady h x
+  pub ready : IsReadyCommand h x
 
 -- the command is read, or has this first fault, unless memory ran out
-abbrev pub Reads : Known → Read Command → Result ReadCommand CommandError → ProofState → Type 0
-Reads k read (Ok x) h = IsRead k read h x
-Reads k read (Err (errors.Fault f)) h = read ≡ Err (located_view f)
-Reads k read (Err errors.Memory) h = Unit {0}
+abbrev pub ReadsProofCommand : Known → Read Command → Result ReadCommand CommandError → ProofState → Type 0
+ReadsProofCommand k read (Ok x) h = IsRead k read h x
+ReadsProofCommand k read (Err (errors.Fault f)) h = read ≡ Err (located_view f)
+ReadsProofCommand k read (Err errors.Memory) h = Unit {0}

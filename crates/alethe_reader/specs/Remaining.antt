@@ -44,12 +44,12 @@ pub record HasRead (old : Reader) (s : Sexpr) (new : Reader) : Type 0 where
   pub fewer : bytes_left new < bytes_left old
 
 -- no command is to come, and what ends them is this fault, or none
-abbrev pub IsOver : Reader → Option Fault → Type 0
-IsOver r found = EndsHere r.listed (text_of r) (lexemes_of r) found
+abbrev pub EndsCommands : Reader → Option Fault → Type 0
+EndsCommands r found = EndsHere r.listed (text_of r) (lexemes_of r) found
 
 -- the next command was read; or none is to come, and nothing, or this fault, ends them
 abbrev pub ReadsOn : Reader → Result (Option Sexpr) CommandError → Reader → Type 0
 ReadsOn old (Ok (Some s)) new = HasRead old s new
-ReadsOn old (Ok None) new = (new ≡ old) × IsOver old None
-ReadsOn old (Err (errors.Fault f)) new = (new ≡ old) × IsOver old (Some (located_view f))
+ReadsOn old (Ok None) new = (new ≡ old) × EndsCommands old None
+ReadsOn old (Err (errors.Fault f)) new = (new ≡ old) × EndsCommands old (Some (located_view f))
 ReadsOn old (Err errors.Memory) new = new ≡ old

@@ -6,7 +6,7 @@ ghost use Rattle.spec_checking.specs.Reading.{names_given, named_in, named_in_al
 ghost use Rattle.smt_sexpr.specs.Items.{trees_meant, tree_meant};
 ghost use Rattle.smt_sexpr.specs.Views.{word_view};
 ghost use Rattle.term_reader.specs.Forms.{next_meant};
-ghost use Rattle.sort_check.specs.Naming.{wanted_word, next_word, listed};
+ghost use Rattle.sort_check.specs.Naming.{wanted_word, next_word, listed_word};
 ghost use Rattle.alethe_reader.specs.Naming.{IsErrorAmong};
 
 use crate::errors::{CommandError, fault};
@@ -19,7 +19,7 @@ use world_io::NoMemory;
 
 /// Tells whether a name stands at an offset that is the first tree, where that is wanted as a name.
 fn is_wanted_at(next: Next, item: Trees<'_>, at: u64) -> bool
-    ensures { result ≡ one_stands_at (listed (wanted_word (next_meant next) (tree_meant item.entry))) at }
+    ensures { result ≡ one_stands_at (listed_word (wanted_word (next_meant next) (tree_meant item.entry))) at }
 {
     match (next, look(item)) {
         (Next::Name, View::Atom(place, _, _)) => u64::from(place) == at,

@@ -10,7 +10,7 @@ ghost use Rattle.smt_sexpr.specs.Items.{tree_meant};
 ghost use Rattle.smt_sexpr.specs.Views.{word_view};
 ghost use Rattle.alethe_reader.specs.Shapes.{step_parts, shape_view};
 ghost use Rattle.alethe_reader.specs.Holding.{HasKnown, IsKnown};
-ghost use Rattle.alethe_reader.specs.Reads.{Reads};
+ghost use Rattle.alethe_reader.specs.Reads.{ReadsProofCommand};
 ghost use Rattle.alethe_reader.specs.Parts.{Gives, rule_meant};
 
 use crate::coefficients::coefficients_of;
@@ -75,7 +75,7 @@ fn step<'a>(
 ) -> Result<ReadCommand<'a>, CommandError>
     requires { HasKnown state.old }
     ensures { (k : Known) → IsKnown state.old k
-        → Reads k (read_shape (Some term_limit) k at (steps (step_parts parts.entry))) result state.new }
+        → ReadsProofCommand k (read_shape (Some term_limit) k at (steps (step_parts parts.entry))) result state.new }
 {
     let name = fresh_name(state, parts.name)?;
     let clause = literals(alloc, state, at, parts.literals)?;
@@ -103,7 +103,7 @@ fn assume<'a>(
 ) -> Result<ReadCommand<'a>, CommandError>
     requires { HasKnown state.old }
     ensures { (k : Known) → IsKnown state.old k
-        → Reads k (read_shape (Some term_limit) k at (assumes (word_view word.entry) (tree_meant term.entry)))
+        → ReadsProofCommand k (read_shape (Some term_limit) k at (assumes (word_view word.entry) (tree_meant term.entry)))
         result state.new }
 {
     let name = fresh_name(state, word)?;
@@ -120,7 +120,7 @@ fn define<'a>(
 ) -> Result<ReadCommand<'a>, CommandError>
     requires { HasKnown state.old }
     ensures { (k : Known) → IsKnown state.old k
-        → Reads k (read_shape (Some term_limit) k at (defines (parts_view parts.entry))) result state.new }
+        → ReadsProofCommand k (read_shape (Some term_limit) k at (defines (parts_view parts.entry))) result state.new }
 {
     definition(alloc, state, at, parts)?;
     Ok(ReadCommand::Define(at))
@@ -135,7 +135,7 @@ fn by_shape<'a>(
 ) -> Result<ReadCommand<'a>, CommandError>
     requires { HasKnown state.old }
     ensures { (k : Known) → IsKnown state.old k
-        → Reads k (read_shape (Some term_limit) k at (shape_view shape.entry)) result state.new }
+        → ReadsProofCommand k (read_shape (Some term_limit) k at (shape_view shape.entry)) result state.new }
 {
     match shape {
         Shape::Assume(word, term) => assume(alloc, state, at, word, term),
@@ -160,7 +160,7 @@ pub fn proof_command<'a>(
 ) -> Result<ReadCommand<'a>, CommandError>
     requires { HasKnown state.old }
     ensures { (k : Known) → IsKnown state.old k
-        → Reads k (command_of (Some term_limit) k (tree_meant trees.entry)) result state.new }
+        → ReadsProofCommand k (command_of (Some term_limit) k (tree_meant trees.entry)) result state.new }
 {
     match look(trees) {
         View::Atom(at, _, _) => Err(fault(u64::from(at), ProofKind::BadShape)),

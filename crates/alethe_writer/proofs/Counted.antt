@@ -5,13 +5,13 @@ use Rattle.spec_derivations.specs.Derivations.{Derivation, «assumption», by_ru
 use Rattle.spec_proof_texts.specs.Plans.{counted, counted_inferences}
 use Rattle.term_core.specs.Tables.{TableView}
 use Rattle.proof_log.specs.Logs.{Logged, assumed, stepped, no_logged, inference_of, derivation_in}
-use Rattle.alethe_writer.specs.Counting.{IsNext, IsNextOf}
+use Rattle.alethe_writer.specs.Counting.{IsNextNumber, IsNextOf}
 
-counted_one : (n m : ℕ) (b : Bool) (o : Option ℕ) (bs : List Bool) → IsNext n b o m → counted n (b ∷ bs) ≡ o ∷ counted m bs
+counted_one : (n m : ℕ) (b : Bool) (o : Option ℕ) (bs : List Bool) → IsNextNumber n b o m → counted n (b ∷ bs) ≡ o ∷ counted m bs
 counted_one n m true o bs h = let e : suc n ≡ m = omega (arith, h.1) in λ i. sym h.0 i ∷ counted (e i) bs
 counted_one n m false o bs h = λ i. sym h.0 i ∷ counted (sym h.1 i) bs
 
-pub counted_on : (whole out : List (Option ℕ)) (n m : ℕ) (cs : List Bool) (k : ℕ) (b : Bool) (o : Option ℕ) → k < length cs → b ≡ get_or cs k false → IsNext n b o m → out ++ counted n (drop k cs) ≡ whole → (out ++ o ∷ []) ++ counted m (drop (k + 1) cs) ≡ whole
+pub counted_on : (whole out : List (Option ℕ)) (n m : ℕ) (cs : List Bool) (k : ℕ) (b : Bool) (o : Option ℕ) → k < length cs → b ≡ get_or cs k false → IsNextNumber n b o m → out ++ counted n (drop k cs) ≡ whole → (out ++ o ∷ []) ++ counted m (drop (k + 1) cs) ≡ whole
 counted_on whole out n m cs k b o lt is next h =
     let here : drop k cs ≡ b ∷ drop (k + 1) cs = drop_more cs k false lt ∙ ap (λ c. c ∷ drop (k + 1) cs) (sym is) in
     append_assoc out (o ∷ []) (counted m (drop (k + 1) cs)) ∙ ap (λ r. out ++ r) (sym (ap (counted n) here ∙ counted_one n m b o (drop (k + 1) cs) next)) ∙ h
@@ -45,7 +45,7 @@ inferences_done h s out whole cs xs k le e = sym (append-nil out) ∙ ap (λ r. 
     none (y ∷ ys) = refl
 
 -- the number to come is no more than one greater
-pub next_below : (n : ℕ) (b : Bool) (o : Option ℕ) (m k : ℕ) → IsNext n b o m → n ≤ k → m ≤ k + 1
+pub next_below : (n : ℕ) (b : Bool) (o : Option ℕ) (m k : ℕ) → IsNextNumber n b o m → n ≤ k → m ≤ k + 1
 next_below n true o m k h le = omega (arith, h.1, le)
 next_below n false o m k h le = omega (arith, h.1, le)
 

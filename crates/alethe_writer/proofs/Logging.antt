@@ -15,7 +15,7 @@ use Rattle.term_core.proofs.TermsClosed.{term_there}
 use Rattle.proof_log.specs.Logs.{Logged, assumed, stepped, named, no_logged, inference_of, derivation_in, IsFormulaIn, AreFormulasIn, IsLogOf}
 use Rattle.proof_log.proofs.Logged.{conclusion_of}
 use Rattle.spec_proof_texts.specs.Meaning.{AreGiven}
-use Rattle.spec_proof_texts.specs.Printable.{HasGiven, AreOver}
+use Rattle.spec_proof_texts.specs.Printable.{HasGiven, AllConcludeOver}
 use Rattle.alethe_writer.proofs.Listing.{number_in}
 
 -- the formulas of an entry
@@ -43,7 +43,7 @@ given_of given t (assumed id) = tt
 given_of given t (stepped r ps qs c) = given qs
 
 -- the clauses of a log are of the table's terms
-pub all_over : ((qs : List Fraction) → AreGiven (trees_of (map fraction_tree qs))) → (t : TableView) (log : List Logged) → IsLogOf t log → AreOver t.terms (derivation_in t log)
+pub all_over : ((qs : List Fraction) → AreGiven (trees_of (map fraction_tree qs))) → (t : TableView) (log : List Logged) → IsLogOf t log → AllConcludeOver t.terms (derivation_in t log)
 all_over given t log h k x e = (literals, subst HasGiven is (given_of given t l))
   where
     l : Logged

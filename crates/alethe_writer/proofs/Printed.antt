@@ -16,7 +16,7 @@ use Rattle.term_core.specs.Tables.{TableView, term_at, clause_at, IsIn, AreDiffe
 use Rattle.term_core.proofs.TermsClosed.{argument_of, argument_in}
 use Rattle.proof_log.specs.Logs.{Logged, assumed, stepped, named, no_logged, inference_of, derivation_in, IsLogOf}
 use Rattle.alethe_writer.proofs.Logging.{entry_there}
-use Rattle.alethe_writer.specs.Marks.{IsMarked, Marks, Reaches, root, onward, IsArgument, AreOfClauses, Closes, plain_numbers}
+use Rattle.alethe_writer.specs.Marks.{IsNumberMarked, MarksNumbers, Reaches, root, onward, IsArgument, AreOfClauses, Closes, plain_numbers}
 use Rattle.alethe_writer.proofs.Closing.{IsClosedFrom, closing_more, closing_end, marked_below}
 
 -- the numbers up to here, and one more
@@ -26,13 +26,13 @@ plain_more ids k lt = ap plain_numbers (take_more ids k (record { 0 = 0 }) lt) �
 -- the marks of the terms of the first clauses
 pub record AreOfFirst (t : TableView) (log : List Logged) (rests : List Bool) (upto : ℕ) (marks : List Bool) : Type 0 where
   pub as_many : length marks ≡ length t.terms
-  pub each : (m : ℕ) (id : TermId) → m < upto → IsMarked rests m → Contains (named (get_or log m no_logged)) id → IsMarked marks id.0
-  pub only : (k : ℕ) → IsMarked marks k → (m : ℕ) × (id : TermId) × IsMarked rests m × Contains (named (get_or log m no_logged)) id × (id.0 ≡ k)
+  pub each : (m : ℕ) (id : TermId) → m < upto → IsNumberMarked rests m → Contains (named (get_or log m no_logged)) id → IsNumberMarked marks id.0
+  pub only : (k : ℕ) → IsNumberMarked marks k → (m : ℕ) × (id : TermId) × IsNumberMarked rests m × Contains (named (get_or log m no_logged)) id × (id.0 ≡ k)
 
-pub first_none : (t : TableView) (log : List Logged) (rests marks : List Bool) → length marks ≡ length t.terms → ((k : ℕ) → IsMarked marks k → ⊥) → AreOfFirst t log rests 0 marks
+pub first_none : (t : TableView) (log : List Logged) (rests marks : List Bool) → length marks ≡ length t.terms → ((k : ℕ) → IsNumberMarked marks k → ⊥) → AreOfFirst t log rests 0 marks
 first_none t log rests marks as_many empty = record { as_many = as_many; each = λ m id lt. absurd (omega (arith, lt)); only = λ k e. absurd (empty k e) }
 
-pub first_more : (t : TableView) (log : List Logged) (rests : List Bool) (n : ℕ) (old new : List Bool) → IsMarked rests n → AreOfFirst t log rests n old → Marks old (plain_numbers (named (get_or log n no_logged))) new → AreOfFirst t log rests (n + 1) new
+pub first_more : (t : TableView) (log : List Logged) (rests : List Bool) (n : ℕ) (old new : List Bool) → IsNumberMarked rests n → AreOfFirst t log rests n old → MarksNumbers old (plain_numbers (named (get_or log n no_logged))) new → AreOfFirst t log rests (n + 1) new
 first_more t log rests n old new here h m = record {
   as_many = m.same_length ∙ h.as_many;
   each = λ k id lt e c. elim (cases_eq k n) [
@@ -45,18 +45,18 @@ first_more t log rests n old new here h m = record {
   ];
 }
 
-pub first_skip : (t : TableView) (log : List Logged) (rests : List Bool) (n : ℕ) (marks : List Bool) → (IsMarked rests n → ⊥) → AreOfFirst t log rests n marks → AreOfFirst t log rests (n + 1) marks
+pub first_skip : (t : TableView) (log : List Logged) (rests : List Bool) (n : ℕ) (marks : List Bool) → (IsNumberMarked rests n → ⊥) → AreOfFirst t log rests n marks → AreOfFirst t log rests (n + 1) marks
 first_skip t log rests n marks free h = record {
   as_many = h.as_many;
   each = λ k id lt e c. elim (cases_eq k n) [
-    | inl same ↦ absurd (free (subst (IsMarked rests) same e))
+    | inl same ↦ absurd (free (subst (IsNumberMarked rests) same e))
     | inr differ ↦ h.each k id (grind (arith, lt, differ)) e c
   ];
   only = h.only;
 }
 
 -- one clause more, marked or not
-pub first_either : (t : TableView) (log : List Logged) (rests : List Bool) (n : ℕ) (b : Bool) (old new : List Bool) → get_or rests n false ≡ b → AreOfFirst t log rests n old → MatchBool b (Marks old (plain_numbers (named (get_or log n no_logged))) new) (new ≡ old) → AreOfFirst t log rests (n + 1) new
+pub first_either : (t : TableView) (log : List Logged) (rests : List Bool) (n : ℕ) (b : Bool) (old new : List Bool) → get_or rests n false ≡ b → AreOfFirst t log rests n old → MatchBool b (MarksNumbers old (plain_numbers (named (get_or log n no_logged))) new) (new ≡ old) → AreOfFirst t log rests (n + 1) new
 first_either t log rests n true old new e h m = first_more t log rests n old new e h m
 first_either t log rests n false old new e h m = subst (AreOfFirst t log rests (n + 1)) (sym m) (first_skip t log rests n old (λ f. false≢true (sym e ∙ f)) h)
 
@@ -68,8 +68,8 @@ first_end t log rests n marks le h = record {
 }
 
 -- the arguments of one marked term more
-pub arguments_more : (t : TableView) (root_marks : List Bool) (n : ℕ) (old new : List Bool) (s : Shape) → AreDifferent t.terms → n < length t.terms → get_or t.terms n no_term ≡ shape_term t s → All (λ (id : TermId). id.0 < n) s.arguments → IsClosedFrom (IsMarked root_marks) (IsArgument t) (suc n) old → IsMarked old n → Marks old (plain_numbers s.arguments) new → IsClosedFrom (IsMarked root_marks) (IsArgument t) n new
-arguments_more t root_marks n old new s apart lt means before h here m = closing_more (IsMarked root_marks) (IsArgument t) n old new (plain_numbers s.arguments) h here each only below m
+pub arguments_more : (t : TableView) (root_marks : List Bool) (n : ℕ) (old new : List Bool) (s : Shape) → AreDifferent t.terms → n < length t.terms → get_or t.terms n no_term ≡ shape_term t s → All (λ (id : TermId). id.0 < n) s.arguments → IsClosedFrom (IsNumberMarked root_marks) (IsArgument t) (suc n) old → IsNumberMarked old n → MarksNumbers old (plain_numbers s.arguments) new → IsClosedFrom (IsNumberMarked root_marks) (IsArgument t) n new
+arguments_more t root_marks n old new s apart lt means before h here m = closing_more (IsNumberMarked root_marks) (IsArgument t) n old new (plain_numbers s.arguments) h here each only below m
   where
     below_id : (id : TermId) → Contains s.arguments id → id.0 < n
     below_id id c = All-contains (λ (i : TermId). i.0 < n) s.arguments id before c
@@ -93,8 +93,8 @@ arguments_more t root_marks n old new s apart lt means before h here m = closing
         let less = below_id x.0 x.1 in
         omega (arith, less, x.2)
 
-pub arguments_end : (t : TableView) (old new : List Bool) → length new ≡ length old → IsClosedFrom (IsMarked old) (IsArgument t) 0 new → Closes t old new
-arguments_end t old new as_many h = record { same_length = as_many; each = closing_end (IsMarked old) (IsArgument t) new h; only = h.sound }
+pub arguments_end : (t : TableView) (old new : List Bool) → length new ≡ length old → IsClosedFrom (IsNumberMarked old) (IsArgument t) 0 new → Closes t old new
+arguments_end t old new as_many h = record { same_length = as_many; each = closing_end (IsNumberMarked old) (IsArgument t) new h; only = h.sound }
 
 -- the clause of a number
 clause_there : (t : TableView) (log : List Logged) (m : ℕ) → m < length log → conclusion_at (derivation_in t log) m ≡ clause_at t (named (get_or log m no_logged))
@@ -105,7 +105,7 @@ clause_there t log m lt = ap conclusion (get_or-map (inference_of t) log m no_lo
     go (stepped r ps qs c) = refl
 
 -- a term that is printed has a place that is reached
-has_place : (t : TableView) (log : List Logged) (rests old : List Bool) (n : ℕ) → IsClosed t.terms → IsLogOf t log → length rests ≤ length log → AreRests (derivation_in t log) n rests → AreOfClauses t log rests old → (u : Term) → IsPrinted (derivation_in t log) n u → (k : ℕ) × (slice_get t.terms k ≡ Some u) × Reaches (IsMarked old) (IsArgument t) k
+has_place : (t : TableView) (log : List Logged) (rests old : List Bool) (n : ℕ) → IsClosed t.terms → IsLogOf t log → length rests ≤ length log → AreRests (derivation_in t log) n rests → AreOfClauses t log rests old → (u : Term) → IsPrinted (derivation_in t log) n u → (k : ℕ) × (slice_get t.terms k ≡ Some u) × Reaches (IsNumberMarked old) (IsArgument t) k
 has_place t log rests old n closed right short are h u (in_clause m _ on c) =
     let e = are.each m on in
     let lt = marked_below rests m e in
@@ -125,7 +125,7 @@ has_place t log rests old n closed right short are h u (as_argument w _ p c) =
     in_terms k e = (k, slice_get_within t.terms k w e, get_or_from_slice_get t.terms k w w e)
 
 -- a place that is reached has a term that is printed
-is_printed : (t : TableView) (log : List Logged) (rests old : List Bool) (n : ℕ) → length rests ≤ length log → AreRests (derivation_in t log) n rests → AreOfClauses t log rests old → (k : ℕ) → Reaches (IsMarked old) (IsArgument t) k → IsPrinted (derivation_in t log) n (get_or t.terms k no_term)
+is_printed : (t : TableView) (log : List Logged) (rests old : List Bool) (n : ℕ) → length rests ≤ length log → AreRests (derivation_in t log) n rests → AreOfClauses t log rests old → (k : ℕ) → Reaches (IsNumberMarked old) (IsArgument t) k → IsPrinted (derivation_in t log) n (get_or t.terms k no_term)
 is_printed t log rests old n short are h k (root _ e) =
     let x = h.only k e in
     let lt = marked_below rests x.0 x.2 in
@@ -140,6 +140,6 @@ printed_are t log rests old new n closed apart right short h closes are = record
   each = λ k u at p.
       let x = has_place t log rests old n closed right short are h u p in
       let same : x.0 ≡ k = apart x.0 k (slice_get_within t.terms x.0 u x.1) (slice_get_within t.terms k u at) (get_or_from_slice_get t.terms x.0 u no_term x.1 ∙ sym (get_or_from_slice_get t.terms k u no_term at)) in
-      closes.each k (subst (Reaches (IsMarked old) (IsArgument t)) same x.2);
+      closes.each k (subst (Reaches (IsNumberMarked old) (IsArgument t)) same x.2);
   only = λ k u at e. subst (IsPrinted (derivation_in t log) n) (get_or_from_slice_get t.terms k u no_term at) (is_printed t log rests old n short are h k (closes.only k e));
 }

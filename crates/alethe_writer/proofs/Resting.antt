@@ -9,7 +9,7 @@ use Rattle.spec_proof_texts.specs.Plans.{AreRests}
 use Rattle.term_core.specs.Tables.{TableView}
 use Rattle.proof_log.specs.declared.premises.StepId.{StepId}
 use Rattle.proof_log.specs.Logs.{Logged, assumed, stepped, no_logged, premises_in, numbers_of, inference_of, derivation_in, AreEarlier}
-use Rattle.alethe_writer.specs.Marks.{IsMarked, Marks, Reaches, root, onward}
+use Rattle.alethe_writer.specs.Marks.{IsNumberMarked, MarksNumbers, Reaches, root, onward}
 use Rattle.alethe_writer.proofs.Closing.{IsClosedFrom, closing_start, closing_more, closing_end, only_one}
 
 -- the clause that is begun with
@@ -38,13 +38,13 @@ earlier log n before lt j c =
     let y : x.0.0 < n = All-contains (λ (s : StepId). s.0 < n) (premises_in (get_or log n no_logged)) x.0 (before n lt) x.1 in
     omega (arith, y, x.2)
 
-pub rests_start : (d : Derivation) (n : ℕ) (old new : List Bool) → ((k : ℕ) → IsMarked old k → ⊥) → Marks old (n ∷ []) new → IsClosedFrom (IsIt n) (IsPremise d) (length new) new
+pub rests_start : (d : Derivation) (n : ℕ) (old new : List Bool) → ((k : ℕ) → IsNumberMarked old k → ⊥) → MarksNumbers old (n ∷ []) new → IsClosedFrom (IsIt n) (IsPremise d) (length new) new
 rests_start d n old new empty m = closing_start (IsIt n) (IsPremise d) new (λ k e. m.there k (subst (Contains (n ∷ [])) e (0, omega arith, refl))) (λ k e. elim (m.no_others k e) [
   | inl early ↦ absurd (empty k early)
   | inr c ↦ only_one n k c
 ])
 
-pub rests_more : (t : TableView) (log : List Logged) (start n : ℕ) (old new : List Bool) → AreEarlier log → n < length log → IsClosedFrom (IsIt start) (IsPremise (derivation_in t log)) (suc n) old → IsMarked old n → Marks old (numbers_of (premises_in (get_or log n no_logged))) new → IsClosedFrom (IsIt start) (IsPremise (derivation_in t log)) n new
+pub rests_more : (t : TableView) (log : List Logged) (start n : ℕ) (old new : List Bool) → AreEarlier log → n < length log → IsClosedFrom (IsIt start) (IsPremise (derivation_in t log)) (suc n) old → IsNumberMarked old n → MarksNumbers old (numbers_of (premises_in (get_or log n no_logged))) new → IsClosedFrom (IsIt start) (IsPremise (derivation_in t log)) n new
 rests_more t log start n old new before lt h here m =
     let same = premises_there t log n lt in
     closing_more (IsIt start) (IsPremise (derivation_in t log)) n old new (numbers_of (premises_in (get_or log n no_logged))) h here (λ j c. subst (λ ps. Contains ps j) same c) (λ j c. subst (λ ps. Contains ps j) (sym same) c) (earlier log n before lt) m

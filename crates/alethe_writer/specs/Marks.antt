@@ -8,23 +8,23 @@ use Rattle.spec_proof_texts.specs.Plans.{AreRests, ArePrinted}
 use Rattle.proof_log.specs.Logs.{Logged, named, no_logged, derivation_in}
 
 -- the number is marked
-abbrev pub IsMarked : List Bool → ℕ → Type 0
-IsMarked marks k = get_or marks k false ≡ true
+abbrev pub IsNumberMarked : List Bool → ℕ → Type 0
+IsNumberMarked marks k = get_or marks k false ≡ true
 
 -- the numbers of terms, as plain ones
 abbrev pub plain_numbers : List TermId → List ℕ
 plain_numbers ids = map (λ id. id.0) ids
 
--- Marks with those of some numbers more.
-pub record Marks (old : List Bool) (numbers : List ℕ) (new : List Bool) : Type 0 where
+-- MarksNumbers with those of some numbers more.
+pub record MarksNumbers (old : List Bool) (numbers : List ℕ) (new : List Bool) : Type 0 where
   -- there are as many
   pub same_length : length new ≡ length old
   -- what was marked is
-  pub kept : (k : ℕ) → IsMarked old k → IsMarked new k
+  pub kept : (k : ℕ) → IsNumberMarked old k → IsNumberMarked new k
   -- so is each of the numbers
-  pub there : (k : ℕ) → Contains numbers k → IsMarked new k
+  pub there : (k : ℕ) → Contains numbers k → IsNumberMarked new k
   -- and nothing else
-  pub no_others : (k : ℕ) → IsMarked new k → IsMarked old k ⊎ Contains numbers k
+  pub no_others : (k : ℕ) → IsNumberMarked new k → IsNumberMarked old k ⊎ Contains numbers k
 
 -- What can be reached from roots, step by step.
 pub data Reaches (Root : ℕ → Type 0) (Next : ℕ → ℕ → Type 0) : ℕ → Type 0 where
@@ -40,18 +40,18 @@ pub record AreOfClauses (t : TableView) (log : List Logged) (rests : List Bool) 
   -- there is one for each term
   pub as_many : length marks ≡ length t.terms
   -- each term of a marked clause is marked
-  pub each : (m : ℕ) (id : TermId) → IsMarked rests m → Contains (named (slice_index_or log m no_logged)) id → IsMarked marks id.0
+  pub each : (m : ℕ) (id : TermId) → IsNumberMarked rests m → Contains (named (slice_index_or log m no_logged)) id → IsNumberMarked marks id.0
   -- and nothing else
-  pub only : (k : ℕ) → IsMarked marks k → (m : ℕ) × (id : TermId) × IsMarked rests m × Contains (named (slice_index_or log m no_logged)) id × (id.0 ≡ k)
+  pub only : (k : ℕ) → IsNumberMarked marks k → (m : ℕ) × (id : TermId) × IsNumberMarked rests m × Contains (named (slice_index_or log m no_logged)) id × (id.0 ≡ k)
 
 -- The marks are those of the marked terms and of all their subterms.
 pub record Closes (t : TableView) (old new : List Bool) : Type 0 where
   -- there are as many
   pub same_length : length new ≡ length old
   -- each that can be reached is marked
-  pub each : (k : ℕ) → Reaches (IsMarked old) (IsArgument t) k → IsMarked new k
+  pub each : (k : ℕ) → Reaches (IsNumberMarked old) (IsArgument t) k → IsNumberMarked new k
   -- and nothing else
-  pub only : (k : ℕ) → IsMarked new k → Reaches (IsMarked old) (IsArgument t) k
+  pub only : (k : ℕ) → IsNumberMarked new k → Reaches (IsNumberMarked old) (IsArgument t) k
 
 -- of each clause on whose antecedents the first marks are, the others are on the terms that are printed
 abbrev pub ArePrintedFor : TableView → List Logged → List Bool → List Bool → Type 0

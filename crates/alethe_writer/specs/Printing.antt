@@ -17,7 +17,7 @@ use Rattle.proof_log.specs.Logs.{Logged, logged_at, inference_of, derivation_in}
 use Rattle.proof_log.specs.Logs as logged
 
 -- The plan has no numbers beyond the table and the log.
-pub record Fits (t : TableView) (log : List Logged) (plan : Plan) : Type 0 where
+pub record PlanFits (t : TableView) (log : List Logged) (plan : Plan) : Type 0 where
   -- of terms
   pub terms : length plan.terms ≤ length t.terms
   -- of clauses

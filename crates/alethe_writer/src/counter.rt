@@ -1,7 +1,7 @@
 //! Numbers that are given one after the other.
 
 ghost use Rattle.std.specs.Prelude.{◌≡◌, ◌-◌, ◌<◌, ◌^◌};
-ghost use Rattle.alethe_writer.specs.Counting.{IsNext};
+ghost use Rattle.alethe_writer.specs.Counting.{IsNextNumber};
 
 /// The next number.
 #[derive(Drop)]
@@ -20,7 +20,7 @@ impl Counter {
     /// Gives the next number, where one is wanted.
     pub(crate) fn number(&mut self, wanted: bool) -> Option<u64>
         requires { self.old.next < 2 ^ 64 - 1 }
-        ensures { IsNext self.old.next wanted result self.new.next }
+        ensures { IsNextNumber self.old.next wanted result self.new.next }
     {
         if !wanted {
             return None;

@@ -4,7 +4,7 @@ ghost use Rattle.std.specs.Prelude.{◌≡◌, ℕ, ◌+◌, ◌<◌, ◌≤◌,
 ghost use Rattle.term_core.specs.Tables.{TableView};
 ghost use Rattle.proof_log.specs.Logs.{IsLogOf, logged_at, named, premises_in, derivation_in, numbers_of};
 ghost use Rattle.spec_proof_texts.specs.Plans.{AreRests};
-ghost use Rattle.alethe_writer.specs.Marks.{Marks, IsMarked, AreOfClauses, ArePrintedFor, Closes, plain_numbers};
+ghost use Rattle.alethe_writer.specs.Marks.{MarksNumbers, IsNumberMarked, AreOfClauses, ArePrintedFor, Closes, plain_numbers};
 
 use proof_log::{ProofLog, StepId};
 use std::alloc::Global;
@@ -29,7 +29,7 @@ pub(crate) fn rests_of(alloc: Global, log: &ProofLog, step: StepId) -> Result<Ve
 fn mark_rests(log: &ProofLog, step: StepId, marks: &mut [bool])
     requires there { step.0 < length log.now }
     requires up_to { length marks.old ≡ step.0 + 1 }
-    requires none { (k : ℕ) → IsMarked marks.old k → ⊥ }
+    requires none { (k : ℕ) → IsNumberMarked marks.old k → ⊥ }
     ensures { (t : TableView) → AreRests (derivation_in t log.now) step.0 marks.new }
 {
     log.premises_are_earlier();
@@ -44,7 +44,7 @@ fn mark_rests(log: &ProofLog, step: StepId, marks: &mut [bool])
 /// Marks the premises of a clause.
 fn mark_premises(log: &ProofLog, step: StepId, marks: &mut [bool])
     requires { All (λ p. p.0 < length marks.old) (premises_in (logged_at log.now step)) }
-    ensures { Marks marks.old (numbers_of (premises_in (logged_at log.now step))) marks.new }
+    ensures { MarksNumbers marks.old (numbers_of (premises_in (logged_at log.now step))) marks.new }
 {
     if let Some(step) = log.step(step) {
         mark_steps(marks, step.premises.as_slice());
@@ -54,7 +54,7 @@ fn mark_premises(log: &ProofLog, step: StepId, marks: &mut [bool])
 /// Marks these clauses.
 fn mark_steps(marks: &mut [bool], ids: &[StepId])
     requires { All (λ id. id.0 < length marks.old) ids.now }
-    ensures { Marks marks.old (numbers_of ids.now) marks.new }
+    ensures { MarksNumbers marks.old (numbers_of ids.now) marks.new }
 {
     'ids: for id in ids.iter() {
         marks[id.0 as usize] = true;
@@ -85,7 +85,7 @@ fn mark_printed(log: &ProofLog, table: &TermTable, rests: &[bool], marks: &mut [
     requires log { IsLogOf table.now log.now }
     requires short { length rests.now ≤ length log.now }
     requires as_many { length marks.old ≡ length table.now.terms }
-    requires none { (k : ℕ) → IsMarked marks.old k → ⊥ }
+    requires none { (k : ℕ) → IsNumberMarked marks.old k → ⊥ }
     ensures printed { ArePrintedFor table.now log.now rests.now marks.new }
     ensures as_many { length marks.new ≡ length marks.old }
 {
@@ -100,7 +100,7 @@ fn mark_clauses(log: &ProofLog, table: &TermTable, rests: &[bool], marks: &mut [
     requires log { IsLogOf table.now log.now }
     requires short { length rests.now ≤ length log.now }
     requires as_many { length marks.old ≡ length table.now.terms }
-    requires none { (k : ℕ) → IsMarked marks.old k → ⊥ }
+    requires none { (k : ℕ) → IsNumberMarked marks.old k → ⊥ }
     ensures { AreOfClauses table.now log.now rests.now marks.new }
 {
     'clauses: for number in 0..rests.len() {
@@ -113,7 +113,7 @@ fn mark_clause(log: &ProofLog, table: &TermTable, id: StepId, wanted: bool, mark
     requires there { id.0 < length log.now }
     requires log { IsLogOf table.now log.now }
     requires as_many { length marks.old ≡ length table.now.terms }
-    ensures { MatchBool wanted (Marks marks.old (plain_numbers (named (logged_at log.now id))) marks.new)
+    ensures { MatchBool wanted (MarksNumbers marks.old (plain_numbers (named (logged_at log.now id))) marks.new)
         (marks.new ≡ marks.old) }
 {
     let _ = table;
@@ -142,7 +142,7 @@ fn mark_arguments(table: &TermTable, marks: &mut [bool])
 /// Marks these terms.
 fn mark_terms(marks: &mut [bool], ids: &[TermId])
     requires { All (λ id. id.0 < length marks.old) ids.now }
-    ensures { Marks marks.old (plain_numbers ids.now) marks.new }
+    ensures { MarksNumbers marks.old (plain_numbers ids.now) marks.new }
 {
     'ids: for id in ids.iter() {
         marks[id.0 as usize] = true;

@@ -5,7 +5,7 @@ ghost use Rattle.spec_proof_texts.specs.Plans.{IsPlan, counted, compounds, is_co
 ghost use Rattle.term_core.specs.Tables.{TableView, IsIn, term_at};
 ghost use Rattle.proof_log.specs.Logs.{IsLogOf, logged_at, derivation_in};
 ghost use Rattle.alethe_writer.specs.Counting.{IsNextOf};
-ghost use Rattle.alethe_writer.specs.Printing.{Fits};
+ghost use Rattle.alethe_writer.specs.Printing.{PlanFits};
 
 use crate::counter::Counter;
 use crate::marks::{printed_of, rests_of};
@@ -90,7 +90,7 @@ pub fn prepare(
     requires there { step.0 < length log.now }
     requires log { IsLogOf table.now log.now }
     ensures plan { IfOk result (λ plan. IsPlan table.now.terms (derivation_in table.now log.now) step.0 plan) }
-    ensures fits { IfOk result (λ plan. Fits table.now log.now plan) }
+    ensures fits { IfOk result (λ plan. PlanFits table.now log.now plan) }
 {
     let rests = rests_of(alloc, log, step)?;
     let printed = printed_of(alloc, log, table, &rests)?;

@@ -6,7 +6,7 @@ ghost use Rattle.spec_sorts.specs.Signatures.{Signature, symbols_in};
 ghost use Rattle.term_core.specs.Tables.{TableView};
 ghost use Rattle.proof_log.specs.Logs.{Logged, derivation_in, IsLogOf};
 ghost use Rattle.spec_proof_texts.specs.Plans.{IsPrinted};
-ghost use Rattle.spec_proof_texts.specs.Printable.{ArePrintable, AreOver, IsReadable};
+ghost use Rattle.spec_proof_texts.specs.Printable.{ArePrintable, AllConcludeOver, IsReadable};
 ghost use Rattle.spec_proof_texts.specs.ReadBack.{AreScriptNames};
 
 use term_core::TermTable;
@@ -27,7 +27,7 @@ pub fn terms_are_printable(table: &TermTable)
 
 /// States that what a log says over a table is over the table's terms. It computes nothing.
 pub fn logs_are_over_their_terms()
-    ensures { (t : TableView) (log : List Logged) → IsLogOf t log → AreOver t.terms (derivation_in t log) }
+    ensures { (t : TableView) (log : List Logged) → IsLogOf t log → AllConcludeOver t.terms (derivation_in t log) }
 {
     spec_proof_texts::laws::numbers_are_given();
 }

@@ -6,7 +6,7 @@ ghost use Rattle.spec_proof_texts.specs.Plans.{lines_of};
 ghost use Rattle.term_core.specs.Tables.{IsIn};
 ghost use Rattle.proof_log.specs.Logs.{IsLogOf, derivation_in};
 ghost use Rattle.world_io.specs.Writing.{Sends};
-ghost use Rattle.alethe_writer.specs.Printing.{Fits, term_number, clause_number, definition_text, definitions_text, clause_text, clauses_text};
+ghost use Rattle.alethe_writer.specs.Printing.{PlanFits, term_number, clause_number, definition_text, definitions_text, clause_text, clauses_text};
 
 use crate::lines::{write_clause, write_definition};
 use crate::plans::Plan;
@@ -29,7 +29,7 @@ pub fn send<K: Sink>(
     out: &mut K,
 ) -> Result<(), Failed>
     requires log { IsLogOf table.now log.now }
-    requires fits { Fits table.now log.now plan.now }
+    requires fits { PlanFits table.now log.now plan.now }
     ensures { Sends (proof_text (lines_of table.now.terms (derivation_in table.now log.now) plan.now)) result
         (K.state out.old) (K.state out.new) }
 {
@@ -75,7 +75,7 @@ fn write_clauses<K: Sink>(
     out: &mut K,
 ) -> Result<(), Failed>
     requires log { IsLogOf table.now log.now }
-    requires fits { Fits table.now log.now plan.now }
+    requires fits { PlanFits table.now log.now plan.now }
     ensures { Sends (clauses_text table.now log.now plan.now) result (K.state out.old) (K.state out.new) }
 {
     'clauses: for number in 0..plan.steps_len() {

@@ -5,14 +5,14 @@ use Rattle.spec_text.specs.Bytes.{Name}
 use Rattle.term_core.specs.declared.sorts.Sort.{Sort as TableSort}
 use Rattle.term_core.specs.Tables.{TableView, declared_in}
 use Rattle.term_reader.specs.declared.scope.Function.{Function}
-use Rattle.term_reader.specs.Building.{Keeps}
+use Rattle.term_reader.specs.Building.{KeepsTable}
 use Rattle.term_reader.specs.Scopes.{ScopeView, Widens}
 
 -- a scope with its first names alone
 abbrev pub first_names : ℕ → ℕ → ScopeView → ScopeView
 first_names m n v = record { sort_names = take m v.sort_names; sorts = take m v.sorts; names = take n v.names; functions = take n v.functions }
 
-pub table_back : (t u w : TableView) (n : ℕ) → Keeps t u → n ≡ length t.terms → w.terms ≡ take n u.terms → declared_in w ≡ declared_in u → w ≡ t
+pub table_back : (t u w : TableView) (n : ℕ) → KeepsTable t u → n ≡ length t.terms → w.terms ≡ take n u.terms → declared_in w ≡ declared_in u → w ≡ t
 table_back t u w n k e terms declared =
     let back : w.terms ≡ t.terms = terms ∙ (λ i. take (e i) (k.extends.terms i)) ∙ take_at t.terms k.extends.more_terms (length t.terms) refl in
     let same : declared_in w ≡ declared_in t = declared ∙ k.declared in

@@ -15,7 +15,7 @@ use Rattle.term_core.specs.Symbols.{HasSortIn, sort_meant, no_symbol}
 use Rattle.term_core.specs.Tables.{TableView, Extends}
 use Rattle.term_core.proofs.TermsExtend.{AreIn-kept, clause_at-kept, Extends-self}
 use Rattle.term_reader.specs.declared.scope.Function.TheVariants as functions
-use Rattle.term_reader.specs.Scopes.{Stands}
+use Rattle.term_reader.specs.Scopes.{ScopeMeans}
 use Rattle.assertion_stack.specs.declared.stack.Stack.{Stack as CodeStack}
 use Rattle.assertion_stack.specs.Stacks.{standing, IsStack, with_sort, with_function}
 use Rattle.assertion_stack.proofs.Naming.{sort_last, sort_before, stands_sort, stands_symbol}
@@ -38,7 +38,7 @@ module _ (limit : ℕ) (old new : TableView) (x : CodeStack) (s : Stack) (h : Is
       → ((m : Name) → sort_as (signature_of s) m ≡ None → bytes_eq n m ≡ false → among new.sorts m ≡ false) → IsStack limit (standing new (with_sort x n y)) (begun (with_declaration s (of_sort n r)))
   sort_stack n y r symbols long free there means others = record {
     limit_is = h.limit_is;
-    scope = subst (Stands new _) (sym (signature_last s (of_sort n r))) (stands_sort old new grows x.scope (signature_of s) h.scope n y r long free there means);
+    scope = subst (ScopeMeans new _) (sym (signature_last s (of_sort n r))) (stands_sort old new grows x.scope (signature_of s) h.scope n y r long free there means);
     symbols = symbols ∙ h.symbols ∙ sym (append-nil (symbols_in (signature_of s))) ∙ sym (symbols_append (signature_of s) (of_sort n r ∷ [])) ∙ ap symbols_in (sym (signature_last s (of_sort n r)));
     sorts = λ m e. let both = neither (bytes_eq n m) r (sort_as (signature_of s) m) (sym (sort_last (signature_of s) n r m free) ∙ ap (λ g. sort_as g m) (sym (signature_last s (of_sort n r))) ∙ e) in others m both.1 both.0;
     inside = AreIn-kept old new grows x.assertions.ids h.inside;
@@ -68,7 +68,7 @@ symbol_stack limit t x s f h long free =
     let new : TableView = record t { symbols = t.symbols ++ f ∷ [] } in
     let grows : Extends t new = symbol_grows t f in record {
       limit_is = h.limit_is;
-      scope = subst (Stands new _) (sym (signature_last s (of_function (declared f))))
+      scope = subst (ScopeMeans new _) (sym (signature_last s (of_function (declared f))))
           (stands_symbol t new grows x.scope (signature_of s) h.scope (functions.Declared (record { 0 = length t.symbols })) f long free (omega (arith, length-append t.symbols (f ∷ [])), get_or_push t.symbols f no_symbol (length t.symbols) refl));
       symbols = ap (λ fs. fs ++ f ∷ []) h.symbols ∙ sym (symbols_append (signature_of s) (of_function (declared f) ∷ [])) ∙ ap symbols_in (sym (signature_last s (of_function (declared f))));
       sorts = λ m e. h.sorts m (sym (sort_before (signature_of s) (of_function (declared f) ∷ []) m refl) ∙ ap (λ g. sort_as g m) (sym (signature_last s (of_function (declared f)))) ∙ e);

@@ -9,7 +9,7 @@ use Rattle.term_core.specs.Tables.{TableView, Extends}
 use Rattle.term_core.proofs.TermsExtend.{HasSortIn-kept, sort_meant-kept, HaveSortsIn-more, sorts_meant-more, IsIn-kept, term_at-kept}
 use Rattle.term_reader.specs.declared.scope.Function.{Function}
 use Rattle.term_reader.specs.declared.scope.Function.TheVariants.{Declared, Defined}
-use Rattle.term_reader.specs.Scopes.{ScopeView, SortStands, FunctionStands, Stands}
+use Rattle.term_reader.specs.Scopes.{ScopeView, SortStands, FunctionStands, ScopeMeans}
 
 module _ (old new : TableView) (grows : Extends old new) where
   pub sort_grown : (s : Option TableSort) (r : Option Sort) → SortStands old s r → SortStands new s r
@@ -45,7 +45,7 @@ module _ (old new : TableView) (grows : Extends old new) where
   }
 
 -- where names are the same
-pub stands_grown : (old new : TableView) (v : ScopeView) (s : Signature) → Extends old new → Stands old v s → Stands new v s
+pub stands_grown : (old new : TableView) (v : ScopeView) (s : Signature) → Extends old new → ScopeMeans old v s → ScopeMeans new v s
 stands_grown old new v s grows h = record {
   sorts = λ n. sort_grown old new grows _ _ (h.sorts n);
   functions = λ n. function_grown old new grows _ _ (h.functions n);

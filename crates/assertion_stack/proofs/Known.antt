@@ -14,13 +14,13 @@ use Rattle.term_core.specs.declared.sorts.Sort.{Sort as TableSort}
 use Rattle.term_core.specs.Tables.{TableView}
 use Rattle.term_reader.specs.declared.scope.Function.{Function}
 use Rattle.term_reader.specs.declared.scope.Function.TheVariants.{Declared, Defined}
-use Rattle.term_reader.specs.Scopes.{ScopeView, sort_under, function_under, SortStands, FunctionStands, Stands}
+use Rattle.term_reader.specs.Scopes.{ScopeView, sort_under, function_under, SortStands, FunctionStands, ScopeMeans}
 
 -- a new name, where one test tells of its name what another does
 pub new_by : (w : Setting) (f : Name → Bool) (x : Word) (taken : Bool) → taken ≡ f x.bytes → new_name w (λ _. taken) x ≡ new_name w f x
 new_by w f x taken e = ap (λ b. require (not (is_barred w x)) x.at Reserved >>= λ free. require (not b) x.at Twice >>= λ new. Ok x.bytes) e
 
-module _ (t : TableView) (v : ScopeView) (s : Signature) (n : Name) (h : Stands t v s) where
+module _ (t : TableView) (v : ScopeView) (s : Signature) (n : Name) (h : ScopeMeans t v s) where
   sort_there : (o : Option TableSort) (r : Option Sort) → SortStands t o r → (x : TableSort) → o ≡ Some x → is_some r ≡ true
   sort_there (Some y) (Some r) g x e = refl
   sort_there (Some y) None g x e = absurd g

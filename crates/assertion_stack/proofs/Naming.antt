@@ -14,7 +14,7 @@ use Rattle.term_core.proofs.NamesApart.{same_bytes}
 use Rattle.term_reader.specs.declared.scope.Function.{Function}
 use Rattle.term_reader.specs.NameStacks.{newest}
 use Rattle.term_reader.proofs.NameStacks.{newest_push}
-use Rattle.term_reader.specs.Scopes.{ScopeView, sort_under, function_under, SortStands, FunctionStands, Stands}
+use Rattle.term_reader.specs.Scopes.{ScopeView, sort_under, function_under, SortStands, FunctionStands, ScopeMeans}
 use Rattle.assertion_stack.proofs.Growing.{sort_grown, function_grown}
 
 -- a sort that is there is found there
@@ -68,10 +68,10 @@ no_symbol_named (of_function (declared f) ∷ s) n e = go (bytes_eq f.name n) e 
     go true h rest = cc
     go false h rest = rest h
 
-module _ (old new : TableView) (grows : Extends old new) (v : ScopeView) (s : Signature) (h : Stands old v s) where
+module _ (old new : TableView) (grows : Extends old new) (v : ScopeView) (s : Signature) (h : ScopeMeans old v s) where
   -- a name of a sort more
   pub stands_sort : (n : Name) (x : TableSort) (r : Sort) → length v.sort_names ≡ length v.sorts → sort_as s n ≡ None → HasSortIn new.sorts x → sort_meant new.sorts x ≡ r
-      → Stands new (record v { sort_names = v.sort_names ++ n ∷ []; sorts = v.sorts ++ x ∷ [] }) (s ++ of_sort n r ∷ [])
+      → ScopeMeans new (record v { sort_names = v.sort_names ++ n ∷ []; sorts = v.sorts ++ x ∷ [] }) (s ++ of_sort n r ∷ [])
   stands_sort n x r long free there means = record {
     sorts = λ m. subst (λ o. SortStands new (look_up (newest (v.sort_names ++ n ∷ []) (v.sorts ++ x ∷ [])) m) o) (sym (sort_last s n r m free))
         (subst (λ l. SortStands new (look_up l m) (cond (bytes_eq n m) (Some r) (sort_as s m))) (sym (newest_push v.sort_names v.sorts n x long)) (go m (bytes_eq n m)));
@@ -86,7 +86,7 @@ module _ (old new : TableView) (grows : Extends old new) (v : ScopeView) (s : Si
 
   -- a declared symbol more
   pub stands_symbol : (x : Function) (f : Symbol) → length v.names ≡ length v.functions → known_as s f.name ≡ None → FunctionStands new (Some x) (Some (declared f))
-      → Stands new (record v { names = v.names ++ f.name ∷ []; functions = v.functions ++ x ∷ [] }) (s ++ of_function (declared f) ∷ [])
+      → ScopeMeans new (record v { names = v.names ++ f.name ∷ []; functions = v.functions ++ x ∷ [] }) (s ++ of_function (declared f) ∷ [])
   stands_symbol x f long free there = record {
     sorts = λ m. subst (SortStands new (sort_under v m)) (sym (sort_before s (of_function (declared f) ∷ []) m refl)) (sort_grown old new grows _ _ (h.sorts m));
     functions = λ m. subst (λ o. FunctionStands new (look_up (newest (v.names ++ f.name ∷ []) (v.functions ++ x ∷ [])) m) o) (sym (known_last s (declared f) m free))

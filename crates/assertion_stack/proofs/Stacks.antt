@@ -26,8 +26,8 @@ use Rattle.spec_commands.proofs.Kept.{signature_last, signature_with}
 use Rattle.term_core.specs.declared.ids.TermId.{TermId}
 use Rattle.term_core.specs.Tables.{TableView, term_at, IsIn, AreIn, clause_at}
 use Rattle.term_core.proofs.TermsExtend.{AreIn-kept, clause_at-kept}
-use Rattle.term_reader.specs.Building.{Keeps, Means}
-use Rattle.term_reader.specs.Scopes.{ScopeView, Stands}
+use Rattle.term_reader.specs.Building.{KeepsTable, MeansTerm}
+use Rattle.term_reader.specs.Scopes.{ScopeView, ScopeMeans}
 use Rattle.term_reader.proofs.Standing.{stands_kept}
 use Rattle.term_reader.specs.Names.{located_of}
 use Rattle.term_reader.specs.declared.faults.ReadError.{ReadError}
@@ -38,11 +38,11 @@ use Rattle.assertion_stack.specs.declared.options.Options.{Options as CodeOption
 use Rattle.assertion_stack.specs.declared.stack.Stack.{Stack as CodeStack}
 use Rattle.assertion_stack.specs.Assertions.{no_assertions, starts_of, texts_printed}
 use Rattle.assertion_stack.specs.Views.{Fails}
-use Rattle.assertion_stack.specs.Stacks.{options_meant, Standing, standing, IsStack, with_term}
+use Rattle.assertion_stack.specs.Stacks.{options_meant, Standing, standing, IsStack, with_asserted}
 use Rattle.assertion_stack.proofs.Levels.{rest_with, sorts_with, starts_last, terms_last, texts_last}
 
 -- a stack in a table that has terms more
-pub stack_grown : (limit : ℕ) (old new : TableView) (x : CodeStack) (s : Stack) → IsStack limit (standing old x) s → Keeps old new → IsStack limit (standing new x) s
+pub stack_grown : (limit : ℕ) (old new : TableView) (x : CodeStack) (s : Stack) → IsStack limit (standing old x) s → KeepsTable old new → IsStack limit (standing new x) s
 stack_grown limit old new x s h k = record {
   limit_is = h.limit_is;
   scope = stands_kept old new k x.scope (signature_of s) h.scope;
@@ -57,7 +57,7 @@ stack_grown limit old new x s h k = record {
 }
 
 -- the first stack
-pub first_stack : (limit : ℕ) (t : TableView) (x : CodeStack) → x.limit ≡ limit → Stands t x.scope [] → t.sorts ≡ [] → t.symbols ≡ [] → x.assertions ≡ no_assertions → options_meant x.options ≡ empty_stack.options → x.started ≡ false → IsStack limit (standing t x) empty_stack
+pub first_stack : (limit : ℕ) (t : TableView) (x : CodeStack) → x.limit ≡ limit → ScopeMeans t x.scope [] → t.sorts ≡ [] → t.symbols ≡ [] → x.assertions ≡ no_assertions → options_meant x.options ≡ empty_stack.options → x.started ≡ false → IsStack limit (standing t x) empty_stack
 first_stack limit t x l scope sorts symbols assertions options started = record {
   limit_is = l;
   scope = scope;
@@ -262,12 +262,12 @@ module _ (limit at : ℕ) (s : Stack) (d : Parts) where
     define_fails new errors.Memory e = tt
 
 -- a stack with names and terms that were read
-module _ (limit : ℕ) (old new : TableView) (x : CodeStack) (s : Stack) (v : ScopeView) (ds : List Definition) (h : IsStack limit (standing old x) s) (k : Keeps old new) (stands : Stands new v (signatures.with_definitions (signature_of s) ds)) where
+module _ (limit : ℕ) (old new : TableView) (x : CodeStack) (s : Stack) (v : ScopeView) (ds : List Definition) (h : IsStack limit (standing old x) s) (k : KeepsTable old new) (stands : ScopeMeans new v (signatures.with_definitions (signature_of s) ds)) where
   -- definitions more
   pub named : IsStack limit (standing new (record x { scope = v })) (with_definitions s ds)
   named = record {
     limit_is = h.limit_is;
-    scope = subst (Stands new v) (sym (signature_with s ds)) stands;
+    scope = subst (ScopeMeans new v) (sym (signature_with s ds)) stands;
     symbols = ap (λ d. d.symbols) k.declared ∙ h.symbols ∙ sym (symbols_with (signature_of s) ds) ∙ ap symbols_in (sym (signature_with s ds));
     sorts = λ n e. ap (λ d. among d.sorts n) k.declared ∙ h.sorts n (sym (sorts_with (signature_of s) ds n) ∙ ap (λ g. sort_as g n) (sym (signature_with s ds)) ∙ e);
     inside = AreIn-kept old new k.extends x.assertions.ids h.inside;
@@ -279,8 +279,8 @@ module _ (limit : ℕ) (old new : TableView) (x : CodeStack) (s : Stack) (v : Sc
   }
 
 -- and an assertion more
-pub one_asserted : (limit : ℕ) (t : TableView) (x : CodeStack) (s : Stack) (tree : Tree) (u : Term) (id : TermId) → IsStack limit (standing t x) s → Means t u id
-    → IsStack limit (standing t (with_term x id (printed tree))) (begun (with_assertion s tree u))
+pub one_asserted : (limit : ℕ) (t : TableView) (x : CodeStack) (s : Stack) (tree : Tree) (u : Term) (id : TermId) → IsStack limit (standing t x) s → MeansTerm t u id
+    → IsStack limit (standing t (with_asserted x id (printed tree))) (begun (with_assertion s tree u))
 one_asserted limit t x s tree u id h m =
     let a : Assertion = record { text = tree; term = u } in record {
       limit_is = h.limit_is;

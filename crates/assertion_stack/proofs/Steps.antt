@@ -13,14 +13,14 @@ use Rattle.smt_lexer.specs.declared.Refused.{Refused}
 use Rattle.smt_lexer.specs.declared.Refused.TheVariants as refusals
 use Rattle.smt_sexpr.specs.declared.sexpr.Sexpr.{Sexpr}
 use Rattle.smt_sexpr.specs.Items.{tree_of, text_of, start_of}
-use Rattle.smt_command.specs.Commands.{Reads}
+use Rattle.smt_command.specs.Commands.{ReadsScriptCommand}
 use Rattle.term_reader.specs.declared.faults.ReadError.{ReadError}
 use Rattle.term_reader.specs.declared.faults.ReadError.TheVariants as errors
 use Rattle.assertion_stack.specs.Views.{Fails}
 use Rattle.assertion_stack.specs.Stacks.{Standing, Steps}
 
 -- what is no command
-pub not_taken : (limit : ℕ) (s : Stack) (x : Sexpr) (r : Refused) (new : Standing) → Reads x (Err r) → Steps limit (step limit s (tree_of x)) x new (Err r)
+pub not_taken : (limit : ℕ) (s : Stack) (x : Sexpr) (r : Refused) (new : Standing) → ReadsScriptCommand x (Err r) → Steps limit (step limit s (tree_of x)) x new (Err r)
 unfolding step ◌>>=◌
 not_taken limit s x (refusals.Fault r) new h = (ap (λ a. a >>= λ c. performed limit (offset_of (tree_of x)) s c) h.0, h.1)
 not_taken limit s x refusals.Memory new h = absurd h

@@ -14,7 +14,7 @@ use Rattle.term_core.specs.declared.sorts.Sort.{Sort as TableSort}
 use Rattle.term_core.specs.Tables.{TableView, AreIn, clause_at}
 use Rattle.term_reader.specs.declared.scope.Function.{Function}
 use Rattle.term_reader.specs.declared.faults.ReadError.{ReadError}
-use Rattle.term_reader.specs.Scopes.{Stands}
+use Rattle.term_reader.specs.Scopes.{ScopeMeans}
 use Rattle.assertion_stack.specs.declared.options.Options.{Options as CodeOptions}
 use Rattle.assertion_stack.specs.declared.stack.Stack.{Stack as CodeStack}
 use Rattle.assertion_stack.specs.declared.stack.Effect.{Effect as CodeEffect}
@@ -50,7 +50,7 @@ pub record IsStack (limit : ℕ) (x : Standing) (s : Stack) : Type 0 where
   -- the limit
   pub limit_is : x.stack.limit ≡ limit
   -- names stand for what is declared and defined
-  pub scope : Stands x.table x.stack.scope (signature_of s)
+  pub scope : ScopeMeans x.table x.stack.scope (signature_of s)
   -- the table's symbols are those that are declared
   pub symbols : x.table.symbols ≡ symbols_in (signature_of s)
   -- each of its sorts has its name
@@ -87,8 +87,8 @@ with_function x n f = record x {
 }
 
 -- an asserted term and its text more, by a command that ends the start
-abbrev pub with_term : CodeStack → TermId → List ℕ → CodeStack
-with_term x id text = record x {
+abbrev pub with_asserted : CodeStack → TermId → List ℕ → CodeStack
+with_asserted x id text = record x {
   assertions = record x.assertions { ids = x.assertions.ids ++ id ∷ []; texts = x.assertions.texts ++ text ∷ [] };
   started = true;
 }

@@ -5,9 +5,9 @@ ghost use Rattle.spec_text.specs.Printed.{printed};
 ghost use Rattle.spec_commands.specs.Commands.{Assert, DefineFun};
 ghost use Rattle.spec_commands.specs.Stack.{Stack as ScriptStack, performed};
 ghost use Rattle.smt_sexpr.specs.Items.{tree_meant};
-ghost use Rattle.term_reader.specs.Building.{Keeps};
+ghost use Rattle.term_reader.specs.Building.{KeepsTable};
 ghost use Rattle.smt_command.specs.Commands.{parts_view};
-ghost use Rattle.assertion_stack.specs.Stacks.{standing, HasStack, IsStack, Performs, with_term};
+ghost use Rattle.assertion_stack.specs.Stacks.{standing, HasStack, IsStack, Performs, with_asserted};
 
 use crate::names::in_script;
 use crate::printing::print;
@@ -37,7 +37,7 @@ fn add_written(
     id: TermId,
     tree: Trees<'_>,
 ) -> Result<(), NoMemory>
-    ensures added { OnOk result (stack.new ≡ with_term stack.old id (printed (tree_meant tree.entry))) }
+    ensures added { OnOk result (stack.new ≡ with_asserted stack.old id (printed (tree_meant tree.entry))) }
     ensures same { OnErr result (stack.new ≡ stack.old) }
 {
     let text = print(alloc, tree)?;
@@ -68,7 +68,7 @@ impl Stack {
         ensures performs { (limit : ℕ) (s : ScriptStack) → IsStack limit (standing table.old self.old) s
             → Performs limit (performed limit at s (Assert (tree_meant tree.entry))) (standing table.new self.new)
             result }
-        ensures kept { OnOk result (Keeps table.old table.new) }
+        ensures kept { OnOk result (KeepsTable table.old table.new) }
         ensures same { OnErr result ((self.new ≡ self.old) × (table.new ≡ table.old)) }
     {
         self.scope.each_name_stands_for_something();
@@ -117,7 +117,7 @@ impl Stack {
         ensures performs { (limit : ℕ) (s : ScriptStack) → IsStack limit (standing table.old self.old) s
             → Performs limit (performed limit at s (DefineFun (parts_view parts.entry))) (standing table.new self.new)
             result }
-        ensures kept { OnOk result (Keeps table.old table.new) }
+        ensures kept { OnOk result (KeepsTable table.old table.new) }
         ensures same { OnErr result ((self.new ≡ self.old) × (table.new ≡ table.old)) }
     {
         let room = room(self, at);

@@ -3,14 +3,14 @@
 ghost use Rattle.std.specs.Prelude.{◌≡◌, ℕ, length};
 ghost use Rattle.spec_commands.specs.Stack.{Stack as ScriptStack};
 ghost use Rattle.term_core.specs.Tables.{TableView};
-ghost use Rattle.term_reader.specs.Building.{Keeps};
+ghost use Rattle.term_reader.specs.Building.{KeepsTable};
 ghost use Rattle.assertion_stack.specs.declared.stack.Stack.{Stack};
 ghost use Rattle.assertion_stack.specs.Stacks.{Standing, standing, IsStack};
 
 /// States that a stack stays the stack that it is while its table grows by terms alone.
 pub fn stacks_stand_in_grown_tables()
     ensures { (limit : ℕ) (old new : TableView) (x : Stack) (s : ScriptStack) → IsStack limit (standing old x) s
-        → Keeps old new → IsStack limit (standing new x) s }
+        → KeepsTable old new → IsStack limit (standing new x) s }
 {}
 
 /// States that a stack has as many texts as asserted terms: `written` has one for each of `current`.

@@ -8,7 +8,7 @@ ghost use Rattle.smt_sexpr.specs.Items.{trees_meant};
 ghost use Rattle.smt_sexpr.specs.Views.{word_view};
 ghost use Rattle.term_core.specs.Tables.{TableView};
 ghost use Rattle.term_reader.specs.Names.{answered, setting_meant};
-ghost use Rattle.term_reader.specs.Scopes.{Stands};
+ghost use Rattle.term_reader.specs.Scopes.{ScopeMeans};
 ghost use Rattle.assertion_stack.specs.Views.{AreSortsOf};
 
 use smt_sexpr::{Trees, Word, same_bytes, split};
@@ -29,7 +29,7 @@ pub(crate) fn in_script<'a>() -> Setting<'a>
 
 /// Tells whether a name is that of a sort: a theory's, or one that a scope has.
 fn is_sort(scope: &Scope, name: &[u8]) -> bool
-    ensures { (t : TableView) (s : Signature) → Stands t scope.now s → result ≡ is_sort s name.now }
+    ensures { (t : TableView) (s : Signature) → ScopeMeans t scope.now s → result ≡ is_sort s name.now }
 {
     if same_bytes(b"Bool", name) {
         return true;
@@ -45,7 +45,7 @@ fn is_sort(scope: &Scope, name: &[u8]) -> bool
 
 /// Tells whether a scope has a function of a name.
 fn has_function(scope: &Scope, name: &[u8]) -> bool
-    ensures { (t : TableView) (s : Signature) → Stands t scope.now s → result ≡ is_some (known_as s name.now) }
+    ensures { (t : TableView) (s : Signature) → ScopeMeans t scope.now s → result ≡ is_some (known_as s name.now) }
 {
     match scope.function(name) {
         Some(_) => true,
@@ -55,7 +55,7 @@ fn has_function(scope: &Scope, name: &[u8]) -> bool
 
 /// Tells whether a name is that of a function: a theory's, or one that a scope has.
 fn is_function(scope: &Scope, name: &[u8]) -> bool
-    ensures { (t : TableView) (s : Signature) → Stands t scope.now s → result ≡ is_function s name.now }
+    ensures { (t : TableView) (s : Signature) → ScopeMeans t scope.now s → result ≡ is_function s name.now }
 {
     match TheoryHead::named(name) {
         Some(_) => true,
@@ -65,7 +65,7 @@ fn is_function(scope: &Scope, name: &[u8]) -> bool
 
 /// Gives a word as the name of a new sort.
 pub(crate) fn new_sort<'a>(scope: &Scope, word: Word<'a>) -> Result<&'a [u8], TermFault>
-    ensures { (t : TableView) (s : Signature) → Stands t scope.now s
+    ensures { (t : TableView) (s : Signature) → ScopeMeans t scope.now s
         → answered (λ b. b.now) result ≡ new_name script (is_sort s) (word_view word.entry) }
 {
     new_name(in_script(), is_sort(scope, word.bytes), word)
@@ -73,7 +73,7 @@ pub(crate) fn new_sort<'a>(scope: &Scope, word: Word<'a>) -> Result<&'a [u8], Te
 
 /// Gives a word as the name of a new function.
 pub(crate) fn new_function<'a>(scope: &Scope, word: Word<'a>) -> Result<&'a [u8], TermFault>
-    ensures { (t : TableView) (s : Signature) → Stands t scope.now s
+    ensures { (t : TableView) (s : Signature) → ScopeMeans t scope.now s
         → answered (λ b. b.now) result ≡ new_name script (is_function s) (word_view word.entry) }
 {
     new_name(in_script(), is_function(scope, word.bytes), word)
@@ -85,7 +85,7 @@ pub(crate) fn sorts_in(
     scope: &Scope,
     trees: Trees<'_>,
 ) -> Result<Vec<Sort>, ReadError>
-    ensures { (t : TableView) (s : Signature) → Stands t scope.now s
+    ensures { (t : TableView) (s : Signature) → ScopeMeans t scope.now s
         → AreSortsOf t (sorts_in s (trees_meant trees.entry)) result }
 {
     let mut sorts = Vec::new(alloc);

@@ -3,7 +3,7 @@
 ghost use Rattle.std.specs.Prelude.{◌≡◌, ◌≢◌, [], ◌∷◌, IfOk, IfSome, MatchResult};
 ghost use Rattle.sat_budget.specs.Budgets.{Spends};
 ghost use Rattle.proof_log.specs.Logs.{IsLogOf};
-ghost use Rattle.proof_log.specs.Theories.{IsOver, terms_watched, Derives};
+ghost use Rattle.proof_log.specs.Theories.{IsTheoryOver, terms_watched, DerivesLemmas};
 ghost use Rattle.proof_log.specs.Clashes.{IsClash};
 ghost use Rattle.bound_lemmas.specs.Excluding.{IsIdle, CanHold};
 
@@ -30,14 +30,14 @@ pub fn excluding<T: Theory>(
     requires different { a ≢ b }
     requires first { CanHold table.old (T.view theory.old) a }
     requires second { CanHold table.old (T.view theory.old) b }
-    requires over { IsOver table.old (T.view theory.old) }
+    requires over { IsTheoryOver table.old (T.view theory.old) }
     requires with { T.goes_with theory.old table.old }
     requires log { IsLogOf table.old log.old }
     ensures same { T.view theory.new ≡ T.view theory.old }
     ensures with { T.goes_with theory.new table.new }
     ensures budget { Spends budget.old budget.new }
     ensures derives { MatchResult result
-        (λ _. Derives (terms_watched table.old (T.view theory.old)) (record { table = table.old; log = log.old })
+        (λ _. DerivesLemmas (terms_watched table.old (T.view theory.old)) (record { table = table.old; log = log.old })
         (record { table = table.new; log = log.new }))
         (λ _. (table.new ≡ table.old) × (log.new ≡ log.old)) }
     ensures clash { IfOk result (λ found. IfSome found (IsClash table.new log.new (a ∷ b ∷ []))) }

@@ -7,7 +7,7 @@ use Rattle.spec_sorts.specs.TermValues.{value_at}
 use Rattle.spec_sorts.specs.Signatures.{Signature, symbols_in}
 use Rattle.spec_sorts.specs.Meaning.{value_under}
 use Rattle.spec_commands.specs.Stack.{Assertion, Stack, signature_of, assertions_of, terms_asserted}
-use Rattle.spec_commands.specs.Checks.{IsTrueUnder}
+use Rattle.spec_commands.specs.Checks.{IsTrueAssertion}
 use Rattle.spec_causes.specs.Checks.{ArePivotsSpent}
 use Rattle.spec_sessions.specs.Evidence.{Limits, Kept, model, spent, strained, out_of_pivots, IsProblemOf, IsKeptOf, Justifies}
 use Rattle.term_core.specs.Tables.{TableView, literal_at}
@@ -31,7 +31,7 @@ abbrev pub HasValue : Signature → Interpretation → Assertion → Type 0
 HasValue g i a = value_under i g a.text ≡ value_at i [] a.term
 
 -- what is true of the terms is true of the texts
-texts_true : (g : Signature) (i : Interpretation) (xs : List Assertion) → All (HasValue g i) xs → All (λ u. value_at i [] u ≡ truth true) (terms_asserted xs) → All (IsTrueUnder i g) xs
+texts_true : (g : Signature) (i : Interpretation) (xs : List Assertion) → All (HasValue g i) xs → All (λ u. value_at i [] u ≡ truth true) (terms_asserted xs) → All (IsTrueAssertion i g) xs
 texts_true g i xs same each = λ k d lt.
     same k d lt ∙ ap (value_at i []) (sym (get_or-map (λ (a : Assertion). a.term) xs k d (d.term) lt)) ∙ each k d.term (omega (arith, length-map xs (λ (a : Assertion). a.term), lt))
 
@@ -49,7 +49,7 @@ module _ (limits : Limits) (t : TableView) (s : Stack) (symbols : symbols_in (si
         model i,
         record {
           interprets = subst (Interprets i) (sym symbols) interprets;
-          each = subst (All (IsTrueUnder i (signature_of s))) (sym (append-nil (assertions_of s))) each;
+          each = subst (All (IsTrueAssertion i (signature_of s))) (sym (append-nil (assertions_of s))) each;
         },
         (i, record { count = omega (arith, h.tables); named = h.named }, stands, interprets, refl),
         (interp, is, stands),

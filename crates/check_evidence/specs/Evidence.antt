@@ -12,10 +12,10 @@ use Rattle.spec_sessions.specs.Evidence.{Limits, Kept, Found, model, proof, spen
 use Rattle.spec_sessions.specs.Meaning.{IsKeptCheck}
 use Rattle.term_core.specs.Tables.{TableView, literal_at}
 use Rattle.term_walks.specs.declared.values.Interp.{Interp}
-use Rattle.term_walks.specs.Valuations.{Stands, HasTables}
+use Rattle.term_walks.specs.Valuations.{HasSymbolTables, HasTables}
 use Rattle.proof_log.specs.declared.premises.StepId.{StepId}
 use Rattle.proof_log.specs.Logs.{derivation_in, IsLogOf}
-use Rattle.alethe_writer.specs.Printing.{Fits}
+use Rattle.alethe_writer.specs.Printing.{PlanFits}
 use Rattle.ratio128.specs.Meant.{overflow}
 use Rattle.sat_budget.specs.Budgets.{BudgetView}
 use Rattle.sat_budget.specs.declared.limits.Strain.{Strain}
@@ -24,7 +24,7 @@ use Rattle.sat_budget.specs.declared.limits.Reason.TheVariants as reasons
 use Rattle.assertion_stack.specs.Stacks.{Standing, IsStack}
 use Rattle.search_loop.specs.declared.cdcl.Answer.TheVariants.{Sat, Unsat, Unknown}
 use Rattle.solve_core.specs.declared.outcome.Outcome.{Outcome}
-use Rattle.solve_core.specs.Decisions.{IsDecided}
+use Rattle.solve_core.specs.Decisions.{HasDecision}
 use Rattle.check_evidence.specs.declared.evidence.Evidence.{Evidence}
 use Rattle.check_evidence.specs.declared.evidence.Evidence.TheVariants as found
 
@@ -68,9 +68,9 @@ kept_of t d budget = record {
 -- what was found is this, in the words of the definitions
 abbrev pub IsEvidence : TableView → BudgetView → Evidence → Found → Type 0
 IsEvidence t budget (found.Model interp) f =
-    (i : Interpretation) × HasTables t interp × Stands t interp i × Interprets i t.symbols × (f ≡ model i)
+    (i : Interpretation) × HasTables t interp × HasSymbolTables t interp i × Interprets i t.symbols × (f ≡ model i)
 IsEvidence t budget (found.Proof log plan) f =
-    IsLogOf t log × Fits t log plan × (f ≡ proof (proof_text (lines_of t.terms (derivation_in t log) plan)))
+    IsLogOf t log × PlanFits t log plan × (f ≡ proof (proof_text (lines_of t.terms (derivation_in t log) plan)))
 IsEvidence t budget (found.Reason (reasons.Conflicts n)) f =
     (d : Derivation) × (f ≡ spent n d (map (map (literal_at t)) budget.learned))
 IsEvidence t budget (found.Reason (reasons.Overflow s)) f =
@@ -84,7 +84,7 @@ IsSomeEvidence t e = (budget : BudgetView) × (f : Found) × IsEvidence t budget
 -- what was found is that of an outcome: its model, the proof that is printed of its log, the clauses that it learned, the operation that
 -- leaves the bound, or the number of exchanges
 abbrev pub IsFoundBy : TableView → Outcome → Found → Type 0
-IsFoundBy t o (model i) = (interp : Interp) × (o.answer ≡ Sat interp) × Stands t interp i
+IsFoundBy t o (model i) = (interp : Interp) × (o.answer ≡ Sat interp) × HasSymbolTables t interp i
 IsFoundBy t o (proof text) =
     (step : StepId) × (plan : Plan) × (o.answer ≡ Unsat step) × IsPlan t.terms (derivation_in t o.log) step.0 plan
     × (text ≡ proof_text (lines_of t.terms (derivation_in t o.log) plan))
@@ -104,7 +104,7 @@ IsShown limits t s e o =
 
 -- the outcome is that of a decision on the assertions of a stack
 abbrev pub Decides : Limits → TableView → Stack → Outcome → Type 0
-Decides limits t s o = IsDecided t (terms_asserted (assertions_of s)) (limits_of limits) o
+Decides limits t s o = HasDecision t (terms_asserted (assertions_of s)) (limits_of limits) o
 
 -- the budget is that of a decision on the assertions of a stack, which found this: it has the limit on conflicts, and
 -- its clauses are those that the decision learned and has in its log

@@ -10,7 +10,7 @@ ghost use Rattle.spec_sessions.specs.Meaning.{IsKeptCheck};
 ghost use Rattle.sat_budget.specs.declared.limits.Limits.{Limits as CodeLimits};
 ghost use Rattle.assertion_stack.specs.Stacks.{standing};
 ghost use Rattle.search_loop.specs.Rounds.{HasLimits};
-ghost use Rattle.solve_core.specs.Decisions.{IsDecided};
+ghost use Rattle.solve_core.specs.Decisions.{HasDecision};
 ghost use Rattle.check_evidence.specs.Evidence.{limits_meant, check_on, IsHeld, HoldsSome, Decides, IsShown, Checks};
 
 use alethe_writer::printable::{logs_are_over_their_terms, terms_are_printable};
@@ -89,7 +89,7 @@ fn evidence_of(
     table: &TermTable,
     outcome: Outcome,
 ) -> Result<(Evidence, Budget), NoMemory>
-    requires { (terms : List Term) × (limits : CodeLimits) × IsDecided table.now terms limits outcome }
+    requires { (terms : List Term) × (limits : CodeLimits) × HasDecision table.now terms limits outcome }
     ensures shown { IfOk result (λ x. (limits : SpokenLimits) (s : ScriptStack)
         → IsKeptCheck limits.terms (check_on s) → AreReadable (signature_of s)
         → symbols_in (signature_of s) ≡ table.now.symbols → Decides limits table.now s outcome

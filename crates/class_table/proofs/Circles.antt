@@ -6,18 +6,18 @@ use Rattle.std.proofs.lemmas.List.{length-map, get_or-map}
 use Rattle.std.proofs.lemmas.Bool.Decides.{nat_tests}
 use Rattle.class_table.specs.declared.rings.Merge.{Merge}
 use Rattle.class_table.specs.Classes.{renumbered}
-use Rattle.class_table.specs.Rings.{walk, set_each, swapped, occurrences, Leads, IsRing, Joins}
+use Rattle.class_table.specs.Rings.{walk, set_each, swapped, occurrences, RingLeads, IsRing, Joins}
 use Rattle.class_table.proofs.Lists.{occurrences-append}
 
-leads-append : (next : List ℕ) (s : ℕ) (xs ys : List ℕ) (m e : ℕ) → Leads next s xs m → Leads next m ys e → Leads next s (xs ++ ys) e
+leads-append : (next : List ℕ) (s : ℕ) (xs ys : List ℕ) (m e : ℕ) → RingLeads next s xs m → RingLeads next m ys e → RingLeads next s (xs ++ ys) e
 leads-append next s [] ys m e p q = rw p q
 leads-append next s (x ∷ xs) ys m e p q = (p.0, leads-append next (slice_index next x) xs ys m e p.1 q)
 
-leads_split : (next : List ℕ) (s : ℕ) (xs ys : List ℕ) (e : ℕ) → Leads next s (xs ++ ys) e → (m : ℕ) × Leads next s xs m × Leads next m ys e
+leads_split : (next : List ℕ) (s : ℕ) (xs ys : List ℕ) (e : ℕ) → RingLeads next s (xs ++ ys) e → (m : ℕ) × RingLeads next s xs m × RingLeads next m ys e
 leads_split next s [] ys e p = (s, refl, p)
 leads_split next s (x ∷ xs) ys e p = let r = leads_split next (slice_index next x) xs ys e p.1 in (r.0, (p.0, r.1), r.2)
 
-walk-leads : (next : List ℕ) (s : ℕ) (xs : List ℕ) (e : ℕ) → Leads next s xs e → walk next (length xs) s ≡ xs
+walk-leads : (next : List ℕ) (s : ℕ) (xs : List ℕ) (e : ℕ) → RingLeads next s xs e → walk next (length xs) s ≡ xs
 walk-leads next s [] e p = refl
 walk-leads next s (x ∷ xs) e p = (λ i. p.0 i ∷ walk next (length xs) (slice_index next (p.0 i))) ∙ ap (λ l. x ∷ l) (walk-leads next (slice_index next x) xs e p.1)
 
@@ -42,29 +42,29 @@ module _ (next : List ℕ) (a b : ℕ) (ain : a < length next) (bin : b < length
   next_other t p q = grind (arith, common_steps)
 
   -- a way that meets neither stays
-  leads_still : (s : ℕ) (xs : List ℕ) (e : ℕ) → Leads next s xs e → occurrences a xs ≡ 0 → occurrences b xs ≡ 0 → Leads (swapped next a b) s xs e
+  leads_still : (s : ℕ) (xs : List ℕ) (e : ℕ) → RingLeads next s xs e → occurrences a xs ≡ 0 → occurrences b xs ≡ 0 → RingLeads (swapped next a b) s xs e
   leads_still s [] e p ca cb = p
   leads_still s (x ∷ xs) e p ca cb =
       let xa : x ≢ a = λ h. grind (arith, nat_tests) in
       let xb : x ≢ b = λ h. grind (arith, nat_tests) in
-      (p.0, subst (λ m. Leads (swapped next a b) m xs e) (sym (next_other x xa xb)) (leads_still (slice_index next x) xs e p.1 (omega arith) (omega arith)))
+      (p.0, subst (λ m. RingLeads (swapped next a b) m xs e) (sym (next_other x xa xb)) (leads_still (slice_index next x) xs e p.1 (omega arith) (omega arith)))
 
 -- The rest of a ring, from the successor of one term on.
 record Arc (next ring : List ℕ) (a : ℕ) : Type 0 where
   arc : List ℕ
-  leads : Leads next (slice_index next a) arc a
+  leads : RingLeads next (slice_index next a) arc a
   counts : (t : ℕ) → occurrences t ring ≡ (if t == a then 1 else 0) + occurrences t arc
   long : length ring ≡ suc (length arc)
 
-arc_of : (next ring : List ℕ) (s a : ℕ) → Leads next s ring s → 0 < occurrences a ring → Arc next ring a
+arc_of : (next ring : List ℕ) (s a : ℕ) → RingLeads next s ring s → 0 < occurrences a ring → Arc next ring a
 arc_of next ring s a p h =
     let f = found a ring h in
     let front = f.0 in
     let back = f.1 in
-    let q = leads_split next s front (a ∷ back) s (subst (λ r. Leads next s r s) f.2 p) in
+    let q = leads_split next s front (a ∷ back) s (subst (λ r. RingLeads next s r s) f.2 p) in
     record {
       arc = back ++ front;
-      leads = leads-append next (slice_index next a) back front s a q.2.1 (subst (λ m. Leads next s front m) q.2.0 q.1);
+      leads = leads-append next (slice_index next a) back front s a q.2.1 (subst (λ m. RingLeads next s front m) q.2.0 q.1);
       counts = λ t. ap (occurrences t) f.2 ∙ omega (arith, occurrences-append t front (a ∷ back), occurrences-append t back front);
       long = ap length f.2 ∙ omega (arith, length-append front (a ∷ back), length-append back front);
     }
@@ -134,12 +134,12 @@ module _ (next ns : List ℕ) (m : Merge) (long : length next ≡ length ns) (j 
         start = m.from;
         leads = (
           refl,
-          subst (λ s. Leads new s (y.arc ++ m.into ∷ x.arc) m.from) (sym (next_a next m.from m.into from_in into_in j.apart))
+          subst (λ s. RingLeads new s (y.arc ++ m.into ∷ x.arc) m.from) (sym (next_a next m.from m.into from_in into_in j.apart))
               (leads-append new (slice_index next m.into) y.arc (m.into ∷ x.arc) m.into m.from
               (leads_still next m.from m.into from_in into_in j.apart (slice_index next m.into) y.arc m.into y.leads (omega (arith, y.counts m.from, na))
               (alone_in_arc next ns sb m.into m.into q j.into_in j.into_is)) (
                 refl,
-                subst (λ s. Leads new s x.arc m.from) (sym (next_b next m.from m.into from_in into_in j.apart))
+                subst (λ s. RingLeads new s x.arc m.from) (sym (next_b next m.from m.into from_in into_in j.apart))
                     (leads_still next m.from m.into from_in into_in j.apart (slice_index next m.from) x.arc m.from x.leads
                     (alone_in_arc next ns sa m.from m.from p j.from_in j.from_is) (omega (arith, x.counts m.into, nb))),
               )),

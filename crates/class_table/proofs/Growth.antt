@@ -8,12 +8,12 @@ use Rattle.std.proofs.lemmas.List.FromFn.{length-range_with_len}
 use Rattle.std.proofs.Math.Seq.{take-set-lt}
 use Rattle.class_table.specs.declared.rings.Merge.{Merge}
 use Rattle.class_table.specs.Classes.{renumbered}
-use Rattle.class_table.specs.Rings.{swapped, State, alone, after, after_all, Joins, AreJoins, IsWhole}
+use Rattle.class_table.specs.Rings.{swapped, RingState, alone, after, after_all, Joins, AreJoins, RingsFit}
 use Rattle.class_table.proofs.Lists.{range_follow, take_range, range_kept}
 use Rattle.class_table.proofs.States.{whole_after, whole_alone}
 
 -- so many terms more, each alone
-abbrev pub grown : ℕ → State → State
+abbrev pub grown : ℕ → RingState → RingState
 grown more s = record {
   numbers = s.numbers ++ range_with_len (length s.numbers) more;
   next = s.next ++ range_with_len (length s.numbers) more;
@@ -21,16 +21,16 @@ grown more s = record {
 }
 
 -- the first terms alone
-abbrev pub shortened : ℕ → State → State
+abbrev pub shortened : ℕ → RingState → RingState
 shortened n s = record { numbers = take n s.numbers; next = take n s.next; sizes = take n s.sizes }
 
-pub same_state : {s t : State} → s.numbers ≡ t.numbers → s.next ≡ t.next → s.sizes ≡ t.sizes → s ≡ t
+pub same_state : {s t : RingState} → s.numbers ≡ t.numbers → s.next ≡ t.next → s.sizes ≡ t.sizes → s ≡ t
 same_state p q r = λ i. record { numbers = p i; next = q i; sizes = r i }
 
 pub length-renumbered : (from into : ℕ) (ns : List ℕ) → length (renumbered from into ns) ≡ length ns
 length-renumbered from into ns = length-map ns (λ c. if c == from then into else c)
 
-module _ (more : ℕ) (s : State) (m : Merge) (w : IsWhole s) (j : Joins s.numbers m) where
+module _ (more : ℕ) (s : RingState) (m : Merge) (w : RingsFit s) (j : Joins s.numbers m) where
   joins_grown : Joins (grown more s).numbers m
   joins_grown =
       let ys = range_with_len (length s.numbers) more in
@@ -62,7 +62,7 @@ module _ (more : ℕ) (s : State) (m : Merge) (w : IsWhole s) (j : Joins s.numbe
       (ap₂ (λ a b. slice_set (s.sizes ++ replicate more 1) m.into (a + b)) (get_or_append_left s.sizes (replicate more 1) 0 m.from fs) (get_or_append_left s.sizes (replicate more 1) 0 m.into is)
       ∙ set-append_left s.sizes (replicate more 1) m.into (slice_index s.sizes m.from + slice_index s.sizes m.into) is)
 
-all_grown : (more : ℕ) (s : State) (ms : List Merge) → IsWhole s → AreJoins s ms
+all_grown : (more : ℕ) (s : RingState) (ms : List Merge) → RingsFit s → AreJoins s ms
     → AreJoins (grown more s) ms × (after_all (grown more s) ms ≡ grown more (after_all s ms))
 all_grown more s [] w j = (j, refl)
 all_grown more s (m ∷ ms) w j =
@@ -88,7 +88,7 @@ terms_more n more ms j =
     let r = all_grown more (alone n) ms (whole_alone n) j in
     (subst (λ s. AreJoins s ms) (sym e) r.0, ap (λ s. after_all s ms) e ∙ r.1)
 
-module _ (n : ℕ) (s : State) (m : Merge) (j : Joins (take n s.numbers) m) where
+module _ (n : ℕ) (s : RingState) (m : Merge) (j : Joins (take n s.numbers) m) where
   from_in : m.from < n
   from_in = omega (arith, j.from_in, length-take n s.numbers)
 
@@ -110,7 +110,7 @@ module _ (n : ℕ) (s : State) (m : Merge) (j : Joins (take n s.numbers) m) wher
       (take-set-lt n s.sizes m.into (slice_index s.sizes m.from + slice_index s.sizes m.into) into_in
       ∙ ap₂ (λ a b. slice_set (take n s.sizes) m.into (a + b)) (sym from_size) (sym into_size))
 
-all_shortened : (n : ℕ) (s : State) (ms : List Merge) → AreJoins (shortened n s) ms → shortened n (after_all s ms) ≡ after_all (shortened n s) ms
+all_shortened : (n : ℕ) (s : RingState) (ms : List Merge) → AreJoins (shortened n s) ms → shortened n (after_all s ms) ≡ after_all (shortened n s) ms
 all_shortened n s [] j = refl
 all_shortened n s (m ∷ ms) j =
     let e = after_shortened n s m j.0 in
@@ -122,21 +122,21 @@ terms_fewer k n ms h j =
     let e : shortened k (alone n) ≡ alone k = same_state (take_range 0 k n h) (take_range 0 k n h) (take-replicate k n 1 h) in
     all_shortened k (alone n) ms (subst (λ s. AreJoins s ms) (sym e) j) ∙ ap (λ s. after_all s ms) e
 
-pub length-numbers : (s : State) (ms : List Merge) → length (after_all s ms).numbers ≡ length s.numbers
+pub length-numbers : (s : RingState) (ms : List Merge) → length (after_all s ms).numbers ≡ length s.numbers
 length-numbers s [] = refl
 length-numbers s (m ∷ ms) = length-numbers (after s m) ms ∙ length-renumbered m.from m.into s.numbers
 
 -- one merge more
-pub joins_push : (s : State) (ms : List Merge) (m : Merge) → AreJoins s ms → Joins (after_all s ms).numbers m → AreJoins s (ms ++ m ∷ [])
+pub joins_push : (s : RingState) (ms : List Merge) (m : Merge) → AreJoins s ms → Joins (after_all s ms).numbers m → AreJoins s (ms ++ m ∷ [])
 joins_push s [] m j k = (k, tt)
 joins_push s (x ∷ ms) m j k = (j.0, joins_push (after s x) ms m j.1 k)
 
 -- the newest merge, after the older ones
-pub joins_last : (s : State) (ms : List Merge) (m : Merge) → AreJoins s (ms ++ m ∷ []) → AreJoins s ms × Joins (after_all s ms).numbers m
+pub joins_last : (s : RingState) (ms : List Merge) (m : Merge) → AreJoins s (ms ++ m ∷ []) → AreJoins s ms × Joins (after_all s ms).numbers m
 joins_last s [] m j = (tt, j.0)
 joins_last s (x ∷ ms) m j = let r = joins_last (after s x) ms m j.1 in ((j.0, r.0), r.1)
 
-pub after_push : (s : State) (ms : List Merge) (m : Merge) → after_all s (ms ++ m ∷ []) ≡ after (after_all s ms) m
+pub after_push : (s : RingState) (ms : List Merge) (m : Merge) → after_all s (ms ++ m ∷ []) ≡ after (after_all s ms) m
 after_push s ms m = fold-append after s ms (m ∷ [])
 
 -- how many places from one on have their own number
@@ -173,7 +173,7 @@ module _ (from into : ℕ) (apart : from ≢ into) where
       let here : n ≡ from → i ≢ into = λ e h. other 0 (omega arith) e (omega (arith, h)) in
       grind (arith, nat_tests, here)
 
-joins_few : (s : State) (ms : List Merge) → AreJoins s ms → length ms ≤ lives 0 s.numbers
+joins_few : (s : RingState) (ms : List Merge) → AreJoins s ms → length ms ≤ lives 0 s.numbers
 joins_few s [] j = omega arith
 joins_few s (m ∷ ms) j =
     let p = j.0 in

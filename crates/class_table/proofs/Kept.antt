@@ -6,14 +6,14 @@ use Rattle.std.proofs.lemmas.List.FromFn.{length-range_with_len}
 use Rattle.class_table.specs.declared.rings.Merge.{Merge}
 use Rattle.class_table.specs.declared.rings.Rings.TheInside.{Inside}
 use Rattle.class_table.specs.Classes.{renumbered}
-use Rattle.class_table.specs.Rings.{walk, set_each, swapped, State, IsWhole, AreKept, state_in, alone, after, after_all, Joins, AreJoins}
+use Rattle.class_table.specs.Rings.{walk, set_each, swapped, RingState, RingsFit, MergesFit, state_in, alone, after, after_all, Joins, AreJoins}
 use Rattle.class_table.proofs.Lists.{occurrences_two}
 use Rattle.class_table.proofs.States.{whole, numbers_forth, next_back, numbers_back, sizes_back, size_kept, from_class, into_class, size_joined}
 use Rattle.class_table.proofs.Growth.{length-renumbered, length-numbers, merges_few, joins_push, joins_last, after_push, same_state, terms_more, terms_fewer, shortened}
 
-module _ (r : Inside) (k : AreKept r) where
-  pub kept_whole : IsWhole (state_in r)
-  kept_whole = subst IsWhole (sym k.state) (whole (length r.numbers.items) r.merges.items k.joins)
+module _ (r : Inside) (k : MergesFit r) where
+  pub kept_whole : RingsFit (state_in r)
+  kept_whole = subst RingsFit (sym k.state) (whole (length r.numbers.items) r.merges.items k.joins)
 
   pub next_inside : All (λ t. t < length r.next.items) r.next.items
   next_inside i d lt = subst (λ x. x < length r.next.items) (sym (get_or_default r.next.items i d 0 lt)) (kept_whole.next_low i lt)
@@ -28,7 +28,7 @@ module _ (r : Inside) (k : AreKept r) where
   -- a merge of two classes, and the sizes that are read for it
   module _ (m : Merge) (j : Joins r.numbers.items m) where
     joins_all : AreJoins (alone (length r.numbers.items)) (r.merges.items ++ m ∷ [])
-    joins_all = joins_push (alone (length r.numbers.items)) r.merges.items m k.joins (subst (λ (s : State). Joins s.numbers m) k.state j)
+    joins_all = joins_push (alone (length r.numbers.items)) r.merges.items m k.joins (subst (λ (s : RingState). Joins s.numbers m) k.state j)
 
     pub room_left : length r.merges.items + 1 ≤ vec_capacity r.merges
     room_left = omega (arith, merges_few (length r.numbers.items) (r.merges.items ++ m ∷ []) joins_all, length_push r.merges.items m, k.room)
@@ -41,7 +41,7 @@ module _ (r : Inside) (k : AreKept r) where
       pub kept_joined : (q : Inside) → q.numbers.items ≡ set_each r.numbers.items m.into (walk r.next.items one m.from)
           → q.next.items ≡ swapped r.next.items m.from m.into → q.sizes.items ≡ slice_set r.sizes.items m.into (other + one)
           → q.merges.items ≡ r.merges.items ++ m ∷ [] → vec_capacity q.merges ≡ vec_capacity r.merges
-          → (q.numbers.items ≡ renumbered m.from m.into r.numbers.items) × AreKept q
+          → (q.numbers.items ≡ renumbered m.from m.into r.numbers.items) × MergesFit q
       kept_joined q numbers next sizes merges room =
           let size = size_read m.from one j.from_in first in
           let forth : q.numbers.items ≡ renumbered m.from m.into r.numbers.items =
@@ -63,13 +63,13 @@ module _ (r : Inside) (k : AreKept r) where
     abbrev n : ℕ
     n = length r.numbers.items
 
-    abbrev before : State
+    abbrev before : RingState
     before = after_all (alone n) ms
 
     last : AreJoins (alone n) ms × Joins before.numbers m
     last = joins_last (alone n) ms m (subst (AreJoins (alone n)) split k.joins)
 
-    whole_before : IsWhole before
+    whole_before : RingsFit before
     whole_before = whole n ms last.0
 
     is_after : state_in r ≡ after before m
@@ -82,7 +82,7 @@ module _ (r : Inside) (k : AreKept r) where
     undone_low = (omega (arith, last.1.from_in, long_before), omega (arith, last.1.into_in, long_before))
 
     next_before : swapped r.next.items m.from m.into ≡ before.next
-    next_before = ap (λ (s : State). swapped s.next m.from m.into) is_after ∙ next_back before m whole_before last.1
+    next_before = ap (λ (s : RingState). swapped s.next m.from m.into) is_after ∙ next_back before m whole_before last.1
 
     pub undone_inside : (next : List ℕ) → next ≡ swapped r.next.items m.from m.into → (n ≡ length next) × All (λ t. t < length next) next
     undone_inside next e =
@@ -93,10 +93,10 @@ module _ (r : Inside) (k : AreKept r) where
 
     module _ (one other : ℕ) (first : one ≡ get_or r.sizes.items m.from one) (second : other ≡ get_or r.sizes.items m.into other) where
       size_one : one ≡ slice_index before.sizes m.from
-      size_one = size_read m.from one undone_low.0 first ∙ ap (λ (s : State). slice_index s.sizes m.from) is_after ∙ size_kept before m whole_before last.1
+      size_one = size_read m.from one undone_low.0 first ∙ ap (λ (s : RingState). slice_index s.sizes m.from) is_after ∙ size_kept before m whole_before last.1
 
       size_other : other ≡ slice_index (after before m).sizes m.into
-      size_other = size_read m.into other undone_low.1 second ∙ ap (λ (s : State). slice_index s.sizes m.into) is_after
+      size_other = size_read m.into other undone_low.1 second ∙ ap (λ (s : RingState). slice_index s.sizes m.into) is_after
 
       pub undone_less : one ≤ other
       undone_less = omega (arith, size_one, size_other, size_joined before m whole_before last.1)
@@ -104,16 +104,16 @@ module _ (r : Inside) (k : AreKept r) where
       pub kept_undone : (q : Inside) → q.numbers.items ≡ set_each r.numbers.items m.from (walk q.next.items one m.from)
           → q.next.items ≡ swapped r.next.items m.from m.into → q.sizes.items ≡ slice_set r.sizes.items m.into (other - one)
           → q.merges.items ≡ ms → vec_capacity q.merges ≡ vec_capacity r.merges
-          → (length q.numbers.items ≡ length r.numbers.items) × AreKept q
+          → (length q.numbers.items ≡ length r.numbers.items) × MergesFit q
       kept_undone q numbers next sizes merges room =
           let back : q.next.items ≡ before.next = next ∙ next_before in
           let numbers_are : q.numbers.items ≡ before.numbers =
           numbers ∙ ap₂ (λ xs size. set_each r.numbers.items m.from (walk xs size m.from)) back size_one
-          ∙ ap (λ (s : State). set_each s.numbers m.from (walk before.next (slice_index before.sizes m.from) m.from)) is_after
+          ∙ ap (λ (s : RingState). set_each s.numbers m.from (walk before.next (slice_index before.sizes m.from) m.from)) is_after
           ∙ numbers_back before m whole_before last.1 in
           let sizes_are : q.sizes.items ≡ before.sizes =
           sizes ∙ ap₂ (λ a b. slice_set r.sizes.items m.into (a - b)) size_other size_one
-          ∙ ap (λ (s : State). slice_set s.sizes m.into (slice_index (after before m).sizes m.into - slice_index before.sizes m.from)) is_after
+          ∙ ap (λ (s : RingState). slice_set s.sizes m.into (slice_index (after before m).sizes m.into - slice_index before.sizes m.from)) is_after
           ∙ sizes_back before m whole_before last.1 in
           let long : length q.numbers.items ≡ n = ap length numbers_are ∙ long_before in (
             long,
@@ -127,14 +127,14 @@ module _ (r : Inside) (k : AreKept r) where
   -- more terms, each alone
   pub kept_grown : (q : Inside) (more : ℕ) → q.numbers.items ≡ r.numbers.items ++ range_with_len (length r.numbers.items) more
       → q.next.items ≡ r.next.items ++ range_with_len (length r.numbers.items) more → q.sizes.items ≡ r.sizes.items ++ replicate more 1
-      → q.merges.items ≡ r.merges.items → length q.numbers.items ≤ vec_capacity q.merges → AreKept q
+      → q.merges.items ≡ r.merges.items → length q.numbers.items ≤ vec_capacity q.merges → MergesFit q
   kept_grown q more numbers next sizes merges room =
       let n = length r.numbers.items in
       let g = terms_more n more r.merges.items k.joins in
       let long : length q.numbers.items ≡ n + more = omega (arith, ap length numbers, length-append r.numbers.items (range_with_len n more), length-range_with_len n more) in
       record {
         state = same_state numbers next sizes
-            ∙ ap (λ (s : State). record { numbers = s.numbers ++ range_with_len (length s.numbers) more; next = s.next ++ range_with_len (length s.numbers) more; sizes = s.sizes ++ replicate more 1 }) k.state
+            ∙ ap (λ (s : RingState). record { numbers = s.numbers ++ range_with_len (length s.numbers) more; next = s.next ++ range_with_len (length s.numbers) more; sizes = s.sizes ++ replicate more 1 }) k.state
             ∙ sym g.1 ∙ ap₂ (λ i ms. after_all (alone i) ms) (sym long) (sym merges);
         joins = subst₂ (λ i ms. AreJoins (alone i) ms) (sym long) (sym merges) g.0;
         room = room;
@@ -144,13 +144,13 @@ module _ (r : Inside) (k : AreKept r) where
   pub kept_cut : (q : Inside) (terms : ℕ) → terms ≤ length r.numbers.items → AreJoins (alone terms) r.merges.items
       → q.numbers.items ≡ take terms r.numbers.items → q.next.items ≡ take terms r.next.items → q.sizes.items ≡ take terms r.sizes.items
       → q.merges.items ≡ r.merges.items → vec_capacity q.merges ≡ vec_capacity r.merges
-      → (q.numbers.items ≡ (after_all (alone terms) r.merges.items).numbers) × (length q.numbers.items ≡ terms) × AreKept q
+      → (q.numbers.items ≡ (after_all (alone terms) r.merges.items).numbers) × (length q.numbers.items ≡ terms) × MergesFit q
   kept_cut q terms few j numbers next sizes merges room =
       let n = length r.numbers.items in
       let e : state_in q ≡ after_all (alone terms) r.merges.items =
       same_state numbers next sizes ∙ ap (shortened terms) k.state ∙ terms_fewer terms n r.merges.items few j in
-      let long : length q.numbers.items ≡ terms = ap (λ (s : State). length s.numbers) e ∙ length-numbers (alone terms) r.merges.items ∙ length-range_with_len 0 terms in (
-        ap (λ (s : State). s.numbers) e,
+      let long : length q.numbers.items ≡ terms = ap (λ (s : RingState). length s.numbers) e ∙ length-numbers (alone terms) r.merges.items ∙ length-range_with_len 0 terms in (
+        ap (λ (s : RingState). s.numbers) e,
         long,
         record {
           state = e ∙ ap₂ (λ i ms. after_all (alone i) ms) (sym long) (sym merges);

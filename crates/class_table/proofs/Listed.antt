@@ -4,7 +4,7 @@ use Rattle.std.proofs.lemmas.Bool.Decides.{nat_tests}
 use Rattle.std.proofs.lemmas.List.{length-map, get_or-map}
 use Rattle.term_core.specs.declared.ids.TermId.{TermId}
 use Rattle.class_table.specs.Classes.{class_at, AreMembers}
-use Rattle.class_table.specs.Rings.{walk, occurrences, State, IsWhole}
+use Rattle.class_table.specs.Rings.{walk, occurrences, RingState, RingsFit}
 use Rattle.class_table.proofs.Lists.{occurs, has_place, occurrences-count}
 use Rattle.class_table.proofs.Circles.{walk-members, length-walk}
 
@@ -27,7 +27,7 @@ module _ (ns xs : List ℕ) (t : TermId) (once : (n : ℕ) → occurrences n xs 
         (k.0, omega (arith, k.1, length-map xs named), get_or-map named xs k.0 0 m k.1 ∙ ap named k.2),
   )
 
-pub are_members : (s : State) (t : TermId) → IsWhole s → t.0 < length s.numbers
+pub are_members : (s : RingState) (t : TermId) → RingsFit s → t.0 < length s.numbers
     → AreMembers s.numbers t (map (λ n. record { 0 = n }) (walk s.next (slice_index s.sizes (class_at s.numbers t)) t.0))
 unfolding named
 are_members s t w h =

@@ -4,7 +4,7 @@ use Rattle.std.proofs.lemmas.List.{take-map, take-take, take-append-le}
 use Rattle.class_table.specs.declared.rings.Merge.{Merge}
 use Rattle.class_table.specs.declared.rings.Mark.{Mark}
 use Rattle.class_table.specs.Rings.{alone, after_all}
-use Rattle.class_table.specs.Kept.{numbers_at, mark_at, no_mark, AreMarks}
+use Rattle.class_table.specs.Kept.{numbers_at, mark_at, no_mark, AreMergeMarks}
 
 -- of the merges of a mark no others matter
 same_numbers : (ms ns : List Merge) (marks : List Mark) → ((k : ℕ) → k < length marks → take (mark_at marks k).merges ms ≡ take (mark_at marks k).merges ns)
@@ -13,7 +13,7 @@ same_numbers ms ns [] same = refl
 same_numbers ms ns (mark ∷ marks) same =
     ap₂ (λ xs rest. (after_all (alone mark.terms) xs).numbers ∷ rest) (same 0 (omega arith)) (same_numbers ms ns marks (λ k lt. same (suc k) (omega (arith, lt))))
 
-module _ (marks : List Mark) (terms : ℕ) (merges : List Merge) (are : AreMarks marks terms merges) where
+module _ (marks : List Mark) (terms : ℕ) (merges : List Merge) (are : AreMergeMarks marks terms merges) where
   -- one merge more changes none
   pub marks_kept : (after : List Merge) (m : Merge) → after ≡ merges ++ m ∷ [] → map (numbers_at after) marks ≡ map (numbers_at merges) marks
   marks_kept after m e =

@@ -9,11 +9,11 @@ use Rattle.std.proofs.lemmas.List.FromFn.{length-range_with_len}
 use Rattle.term_core.proofs.Numbers.{range-at}
 use Rattle.class_table.specs.declared.rings.Merge.{Merge}
 use Rattle.class_table.specs.Classes.{renumbered}
-use Rattle.class_table.specs.Rings.{walk, set_each, swapped, occurrences, IsRing, State, alone, after, after_all, Joins, AreJoins, IsClass, IsWhole}
+use Rattle.class_table.specs.Rings.{walk, set_each, swapped, occurrences, IsRing, RingState, alone, after, after_all, Joins, AreJoins, IsClass, RingsFit}
 use Rattle.class_table.proofs.Lists.{set_back, occurrences-range, occurrences_joined, occurrences_other}
 use Rattle.class_table.proofs.Circles.{merged, other_ring, next_a, next_b, next_other, walk-members, set_members, unset_members}
 
-module _ (s : State) (m : Merge) (whole : IsWhole s) (j : Joins s.numbers m) where
+module _ (s : RingState) (m : Merge) (whole : RingsFit s) (j : Joins s.numbers m) where
   long : length (renumbered m.from m.into s.numbers) ≡ length s.numbers
   long = length-map s.numbers (λ c. if c == m.from then m.into else c)
 
@@ -76,7 +76,7 @@ module _ (s : State) (m : Merge) (whole : IsWhole s) (j : Joins s.numbers m) whe
   next_after_long : length (after s m).next ≡ length s.next
   next_after_long = length-set _ _ _ ∙ length-set _ _ _
 
-  pub whole_after : IsWhole (after s m)
+  pub whole_after : RingsFit (after s m)
   whole_after = record {
     next_long = next_after_long ∙ whole.next_long ∙ sym long;
     sizes_long = length-set _ _ _ ∙ whole.sizes_long ∙ sym long;
@@ -129,7 +129,7 @@ module _ (n t : ℕ) (h : t < n) where
   one : slice_index (replicate n 1) t ≡ 1
   one = get_or-replicate n t 1 0 h
 
-pub whole_alone : (n : ℕ) → IsWhole (alone n)
+pub whole_alone : (n : ℕ) → RingsFit (alone n)
 whole_alone n = record {
   next_long = refl;
   sizes_long = length-replicate n 1 ∙ sym range_long;
@@ -161,9 +161,9 @@ whole_alone n = record {
       size = one n t h ∙ sym (occurrences-range t 0 n ∙ grind (arith, nat_tests, h));
     }
 
-whole_all : (s : State) (ms : List Merge) → IsWhole s → AreJoins s ms → IsWhole (after_all s ms)
+whole_all : (s : RingState) (ms : List Merge) → RingsFit s → AreJoins s ms → RingsFit (after_all s ms)
 whole_all s [] whole j = whole
 whole_all s (m ∷ ms) whole j = whole_all (after s m) ms (whole_after s m whole j.0) j.1
 
-pub whole : (n : ℕ) (ms : List Merge) → AreJoins (alone n) ms → IsWhole (after_all (alone n) ms)
+pub whole : (n : ℕ) (ms : List Merge) → AreJoins (alone n) ms → RingsFit (after_all (alone n) ms)
 whole n ms j = whole_all (alone n) ms (whole_alone n) j

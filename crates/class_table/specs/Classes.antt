@@ -40,7 +40,7 @@ abbrev pub with_terms : ℕ → List ℕ → List ℕ
 with_terms count numbers = numbers ++ range_with_len (length numbers) (count - length numbers)
 
 -- Each class has the number of one of its terms.
-pub record AreNumbered (numbers : List ℕ) : Type 0 where
+pub record ClassesAreNumbered (numbers : List ℕ) : Type 0 where
   -- it is the number of a term
   pub low : (t : TermId) → t.0 < length numbers → class_at numbers t < length numbers
   -- which is in the class

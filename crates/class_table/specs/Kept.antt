@@ -11,8 +11,8 @@ abbrev pub numbers_at : List Merge → Mark → List ℕ
 numbers_at merges mark = (after_all (alone mark.terms) (take mark.merges merges)).numbers
 
 -- what the fields mean
-abbrev pub view_of : Inside → ClassesView
-view_of t = record { numbers = t.rings.numbers; marks = map (numbers_at t.rings.merges) t.marks.items }
+abbrev pub classes_view : Inside → ClassesView
+classes_view t = record { numbers = t.rings.numbers; marks = map (numbers_at t.rings.merges) t.marks.items }
 
 -- what no place has
 abbrev pub no_mark : Mark
@@ -27,7 +27,7 @@ abbrev pub IsUpTo : Mark → Mark → Type 0
 IsUpTo one other = (one.terms ≤ other.terms) × (one.merges ≤ other.merges)
 
 -- Marks that can be gone back to.
-pub record AreMarks (marks : List Mark) (terms : ℕ) (merges : List Merge) : Type 0 where
+pub record AreMergeMarks (marks : List Mark) (terms : ℕ) (merges : List Merge) : Type 0 where
   -- an older one has no more than a newer one
   pub ordered : (i j : ℕ) → i ≤ j → j < length marks → IsUpTo (mark_at marks i) (mark_at marks j)
   -- and none has more than there is now

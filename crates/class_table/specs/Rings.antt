@@ -29,9 +29,9 @@ occurrences n [] = 0
 occurrences n (x ∷ xs) = once_if (n == x) + occurrences n xs
 
 -- one who goes along successors from a term meets these, and comes to the end
-abbrev pub Leads : List ℕ → ℕ → List ℕ → ℕ → Type 0
-Leads next start [] end = start ≡ end
-Leads next start (t ∷ ts) end = (start ≡ t) × Leads next (slice_index next t) ts end
+abbrev pub RingLeads : List ℕ → ℕ → List ℕ → ℕ → Type 0
+RingLeads next start [] end = start ≡ end
+RingLeads next start (t ∷ ts) end = (start ≡ t) × RingLeads next (slice_index next t) ts end
 
 -- The members of a class stand in a ring of such a size.
 pub record IsRing (next numbers : List ℕ) (size class : ℕ) : Type 0 where
@@ -39,14 +39,14 @@ pub record IsRing (next numbers : List ℕ) (size class : ℕ) : Type 0 where
   pub ring : List ℕ
   pub start : ℕ
   -- which they lead back to
-  pub leads : Leads next start ring start
+  pub leads : RingLeads next start ring start
   -- as many as the size says
   pub long : length ring ≡ size
   -- each member is there once, and no other term
   pub members : (t : ℕ) → occurrences t ring ≡ once_if (nat_lt t (length numbers) && (slice_index numbers t == class))
 
 -- Terms in classes.
-pub record State : Type 0 where
+pub record RingState : Type 0 where
   -- for each term the number of its class
   pub numbers : List ℕ
   -- for each term the next one in the ring of its class
@@ -55,11 +55,11 @@ pub record State : Type 0 where
   pub sizes : List ℕ
 
 -- so many terms, each alone
-abbrev pub alone : ℕ → State
+abbrev pub alone : ℕ → RingState
 alone n = record { numbers = range_with_len 0 n; next = range_with_len 0 n; sizes = replicate n 1 }
 
 -- one class went into another
-abbrev pub after : State → Merge → State
+abbrev pub after : RingState → Merge → RingState
 after s m = record {
   numbers = renumbered m.from m.into s.numbers;
   next = swapped s.next m.from m.into;
@@ -67,7 +67,7 @@ after s m = record {
 }
 
 -- some merges, oldest first
-abbrev pub after_all : State → List Merge → State
+abbrev pub after_all : RingState → List Merge → RingState
 after_all s ms = fold after s ms
 
 -- The merge joins two classes. Each has the number of one of its terms.
@@ -82,12 +82,12 @@ pub record Joins (numbers : List ℕ) (m : Merge) : Type 0 where
   pub apart : m.from ≢ m.into
 
 -- each merge joins two classes that the older ones left
-abbrev pub AreJoins : State → List Merge → Type 0
+abbrev pub AreJoins : RingState → List Merge → Type 0
 AreJoins s [] = ⊤
 AreJoins s (m ∷ ms) = Joins s.numbers m × AreJoins (after s m) ms
 
 -- A class that terms are in.
-pub record IsClass (s : State) (class : ℕ) : Type 0 where
+pub record IsClass (s : RingState) (class : ℕ) : Type 0 where
   -- it has the number of a term
   pub low : class < length s.numbers
   -- which is one of its own
@@ -98,7 +98,7 @@ pub record IsClass (s : State) (class : ℕ) : Type 0 where
   pub size : slice_index s.sizes class ≡ occurrences class s.numbers
 
 -- Each term has a class and a successor.
-pub record IsWhole (s : State) : Type 0 where
+pub record RingsFit (s : RingState) : Type 0 where
   pub next_long : length s.next ≡ length s.numbers
   pub sizes_long : length s.sizes ≡ length s.numbers
   -- the successors are terms
@@ -114,11 +114,11 @@ pub record RingsView : Type 0 where
   pub merges : List Merge
 
 -- the rows of the fields
-abbrev pub state_in : Inside → State
+abbrev pub state_in : Inside → RingState
 state_in r = record { numbers = r.numbers.items; next = r.next.items; sizes = r.sizes.items }
 
 -- The rows are what the merges make of terms that are each alone, and there is room for as many merges as terms.
-pub record AreKept (r : Inside) : Type 0 where
+pub record MergesFit (r : Inside) : Type 0 where
   -- what the merges make
   pub state : state_in r ≡ after_all (alone (length r.numbers.items)) r.merges.items
   -- each joins two classes

@@ -1,7 +1,7 @@
 //! Class numbers with the rings of their members, and merges that can be undone.
 
 ghost use Rattle.std.specs.Prelude.{◌≡◌, ◌-◌, ◌<◌, ◌≤◌, ◌++◌, ◌∷◌, [], length, take, slice_index, IfOk, OnOk, OnErr};
-ghost use Rattle.class_table.specs.Classes.{class_at, members_count, renumbered, with_terms, AreMembers, AreNumbered};
+ghost use Rattle.class_table.specs.Classes.{class_at, members_count, renumbered, with_terms, AreMembers, ClassesAreNumbered};
 ghost use Rattle.class_table.specs.Rings.{alone, Joins, AreJoins};
 ghost use Rattle.class_table.specs.Kept.{numbers_at};
 
@@ -45,13 +45,13 @@ pub(crate) struct Rings {
 }
 
 impl Model for Rings {
-    ghost use Rattle.class_table.specs.Rings.{RingsView, AreKept};
+    ghost use Rattle.class_table.specs.Rings.{RingsView, MergesFit};
 
     ghost Value = { RingsView };
 
     ghost view = { λ r. record { numbers = r.numbers.items; merges = r.merges.items } };
 
-    ghost invariant = { AreKept };
+    ghost invariant = { MergesFit };
 }
 
 impl Rings {
@@ -87,7 +87,7 @@ impl Rings {
 
     /// States that each class has the number of one of its terms.
     pub(crate) fn numbers_are_of_terms(&self)
-        ensures { AreNumbered self.now.numbers }
+        ensures { ClassesAreNumbered self.now.numbers }
     {
         let _ = &self.numbers;
     }

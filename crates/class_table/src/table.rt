@@ -1,7 +1,7 @@
 //! The table of classes, with marks.
 
 ghost use Rattle.std.specs.Prelude.{◌≡◌, ◌≢◌, ◌-◌, ◌<◌, ◌≤◌, ◌==◌, ◌++◌, ◌∷◌, [], suc, length, take, slice_index_or, IfOk, OnOk, OnErr};
-ghost use Rattle.class_table.specs.Classes.{class_at, members_count, joined, with_terms, AreMembers, AreNumbered};
+ghost use Rattle.class_table.specs.Classes.{class_at, members_count, joined, with_terms, AreMembers, ClassesAreNumbered};
 
 use crate::rings::{Mark, Rings};
 use std::alloc::Global;
@@ -28,11 +28,11 @@ impl Model for ClassTable {
 
     ghost Value = { ClassesView };
 
-    ghost use Rattle.class_table.specs.Kept.{view_of, AreMarks};
+    ghost use Rattle.class_table.specs.Kept.{classes_view, AreMergeMarks};
 
-    ghost view = { view_of };
+    ghost view = { classes_view };
 
-    ghost invariant = { λ t. AreMarks t.marks.items (length t.rings.numbers) t.rings.merges };
+    ghost invariant = { λ t. AreMergeMarks t.marks.items (length t.rings.numbers) t.rings.merges };
 }
 
 impl ClassTable {
@@ -157,7 +157,7 @@ impl ClassTable {
 
     /// States that each class has the number of one of its terms.
     pub fn classes_have_numbers_of_terms(&self)
-        ensures { AreNumbered self.now.numbers }
+        ensures { ClassesAreNumbered self.now.numbers }
     {
         self.rings.numbers_are_of_terms();
     }

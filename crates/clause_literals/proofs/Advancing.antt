@@ -9,7 +9,7 @@ use Rattle.spec_proofs.specs.Resolution.{Derives, unit, false_clause}
 use Rattle.term_core.specs.declared.ids.Lit.{Lit}
 use Rattle.clause_literals.specs.Literals.{lit_complement, has, IsConsistent}
 use Rattle.clause_literals.specs.Statuses.{IsFalsified, IsUnit, IsSatisfied}
-use Rattle.clause_literals.specs.Propagation.{IsRefuted, failing, untouched, Follows, Advances}
+use Rattle.clause_literals.specs.Propagation.{LeadsToConflict, failing, untouched, GivesUnit, Advances}
 use Rattle.clause_literals.proofs.LiteralLists.{decide, Contains-from_has, has-from_Contains}
 use Rattle.clause_literals.proofs.Start.{consistent_more}
 
@@ -87,7 +87,7 @@ module _ (premises : List (List Lit)) (old : List Lit) (c : List Lit) (l : Lit) 
   }
 
 -- what one clause gives may be added
-pub advances_by : (premises : List (List Lit)) (old new c : List Lit) → Contains premises c → Follows c old new → Advances premises old new
+pub advances_by : (premises : List (List Lit)) (old new c : List Lit) → Contains premises c → GivesUnit c old new → Advances premises old new
 advances_by premises old new c c_in (inl e) = subst (λ (h : List Lit). Advances premises old h) (sym e) (advances_none premises old)
 advances_by premises old new c c_in (inr f) = subst (λ (h : List Lit). Advances premises old h) (sym f.2) (advances_one premises old c f.0 c_in f.1)
 
@@ -106,9 +106,9 @@ pub held_on : (premises : List (List Lit)) (old new : List Lit) → Advances pre
 held_on premises old new a m i = subst (λ (h : List Lit). Contains h m) (sym a.is) (Contains-append_left old a.added m i)
 
 -- a false clause refutes what is held
-pub refuted_by : (premises : List (List Lit)) (held c : List Lit) → Contains premises c → IsFalsified held c → IsRefuted premises held
+pub refuted_by : (premises : List (List Lit)) (held c : List Lit) → Contains premises c → IsFalsified held c → LeadsToConflict premises held
 refuted_by premises held c c_in f start d = false_clause c c_in (λ m i. d (lit_complement m) (f m i))
 
 -- and what led to it
-pub refuted_on : (premises : List (List Lit)) (old new : List Lit) → Advances premises old new → IsRefuted premises new → IsRefuted premises old
+pub refuted_on : (premises : List (List Lit)) (old new : List Lit) → Advances premises old new → LeadsToConflict premises new → LeadsToConflict premises old
 refuted_on premises old new a r start d = r start (a.derived start d)

@@ -14,7 +14,7 @@ use Rattle.indexmap.specs.IndexSet.{insert_key}
 use Rattle.term_core.specs.declared.ids.Lit.{Lit}
 use Rattle.term_core.specs.contracts.ids.LitPartialEq.TheImpl.{ghosts}
 use Rattle.clause_literals.specs.Literals.{HasNoTwice, lists}
-use Rattle.clause_literals.specs.Occurring.{IsWhole, IsListed, Places, Notes, IsIndexOf, OccursIn, AreBelow}
+use Rattle.clause_literals.specs.Occurring.{OccurrencesFit, IsListed, Places, Notes, IsIndexOf, OccursIn, AreBelow}
 use Rattle.clause_literals.specs.declared.occurrences.Occurrences.{Occurrences}
 use Rattle.clause_literals.proofs.LiteralLists.{equal_is, contains_by}
 use Rattle.clause_literals.proofs.Counting.{Contains-first}
@@ -82,7 +82,7 @@ pub stored_at : (new : List Lit) (l : Lit) (index : ℕ) → ((k : Lit) × (slic
 stored_at new l index s = (slice_get_within new index s.0 s.1, get_or_from_slice_get new index s.0 l s.1 ∙ sym (equal_is l s.0 s.2))
 
 -- a new literal gets an empty list
-pub placed_new : (old new : Occurrences) (l : Lit) (index : ℕ) → IsWhole old → new.literals.keys ≡ old.literals.keys ++ l ∷ [] → HasNoTwice new.literals.keys
+pub placed_new : (old new : Occurrences) (l : Lit) (index : ℕ) → OccurrencesFit old → new.literals.keys ≡ old.literals.keys ++ l ∷ [] → HasNoTwice new.literals.keys
     → (v : Vec ℕ Global) → v.items ≡ [] → new.lists.items ≡ old.lists.items ++ v ∷ [] → (index < length new.literals.keys) × (get_or new.literals.keys index l ≡ l) → Places old l index new
 placed_new old new l index whole keys once v empty pushed s =
     let ls : lists new.lists.items ≡ lists old.lists.items ++ [] ∷ [] = ap lists pushed ∙ map_push numbers old.lists.items v ∙ ap (λ (ks : List ℕ). lists old.lists.items ++ ks ∷ []) empty in
@@ -96,7 +96,7 @@ placed_new old new l index whole keys once v empty pushed s =
     }
 
 -- one that is there keeps its list
-pub placed_old : (old new : Occurrences) (l : Lit) (index : ℕ) → IsWhole old → new.literals.keys ≡ old.literals.keys → new.lists.items ≡ old.lists.items → (index < length new.literals.keys) × (get_or new.literals.keys index l ≡ l) → Places old l index new
+pub placed_old : (old new : Occurrences) (l : Lit) (index : ℕ) → OccurrencesFit old → new.literals.keys ≡ old.literals.keys → new.lists.items ≡ old.lists.items → (index < length new.literals.keys) × (get_or new.literals.keys index l ≡ l) → Places old l index new
 placed_old old new l index whole keys ls s = record {
   whole = record { paired = ap length keys ∙ whole.paired ∙ sym (ap length ls); once = subst HasNoTwice (sym keys) whole.once };
   within = s.0;
@@ -149,7 +149,7 @@ notes_one old mid new l index number p keys v w read pushed written =
     }
 
 -- nothing is noted at first
-pub notes_none : (w : Occurrences) (number : ℕ) → IsWhole w → Notes w [] number w
+pub notes_none : (w : Occurrences) (number : ℕ) → OccurrencesFit w → Notes w [] number w
 notes_none w number whole = record { whole = whole; kept = λ m k h. h; added = λ m i. absurd (omega (arith, i.1)); below = λ n lt all. all }
 
 -- one literal after others
@@ -163,7 +163,7 @@ notes_more old mid new front l number a b = record {
 
 -- the first n clauses are in the lists
 pub record HasIndexed (w : Occurrences) (clauses : List (List Lit)) (n : ℕ) : Type 0 where
-  pub whole : IsWhole w
+  pub whole : OccurrencesFit w
   pub below : AreBelow (length clauses) w
   pub complete : (k : ℕ) (l : Lit) → k < n → Contains (get_or clauses k []) l → OccursIn w l k
 

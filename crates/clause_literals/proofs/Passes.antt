@@ -7,8 +7,8 @@ use Rattle.spec_text.proofs.Members.{cases}
 use Rattle.term_core.specs.declared.ids.Lit.{Lit}
 use Rattle.clause_literals.specs.declared.scan.Pass.TheVariants.{Same}
 use Rattle.clause_literals.specs.Literals.{lists}
-use Rattle.clause_literals.specs.Statuses.{IsFalsified, IsUnit, IsUnresolved, IsSatisfied, IsSettled}
-use Rattle.clause_literals.specs.Propagation.{IsRefuted, Advances}
+use Rattle.clause_literals.specs.Statuses.{IsFalsified, IsUnit, IsUnresolved, IsSatisfied, PropagatesNothing}
+use Rattle.clause_literals.specs.Propagation.{LeadsToConflict, Advances}
 use Rattle.clause_literals.specs.Scanning.{Scans, Moves}
 use Rattle.clause_literals.specs.declared.status.ClauseStatus.{ClauseStatus}
 use Rattle.clause_literals.specs.declared.status.ClauseStatus.TheVariants.{Unresolved, Satisfied}
@@ -17,12 +17,12 @@ use Rattle.clause_literals.proofs.Advancing.{advances_one, advances_on, refuted_
 -- what a pass has come to, by whether a literal was added
 abbrev pub SoFar : List (List Lit) → List (List Lit) → List Lit → List Lit → Bool → Type 0
 SoFar premises seen old new true = Advances premises old new × (length old < length new)
-SoFar premises seen old new false = (new ≡ old) × ((c : List Lit) → Contains seen c → IsSettled new c)
+SoFar premises seen old new false = (new ≡ old) × ((c : List Lit) → Contains seen c → PropagatesNothing new c)
 
 -- a pass that comes to a false clause
-pub to_false : (premises seen : List (List Lit)) (old mid c : List Lit) (b : Bool) → SoFar premises seen old mid b → Contains premises c → IsFalsified mid c → IsRefuted premises old
+pub to_false : (premises seen : List (List Lit)) (old mid c : List Lit) (b : Bool) → SoFar premises seen old mid b → Contains premises c → IsFalsified mid c → LeadsToConflict premises old
 to_false premises seen old mid c true m c_in f = refuted_on premises old mid m.0 (refuted_by premises mid c c_in f)
-to_false premises seen old mid c false m c_in f = subst (λ (h : List Lit). IsRefuted premises h) m.0 (refuted_by premises mid c c_in f)
+to_false premises seen old mid c false m c_in f = subst (λ (h : List Lit). LeadsToConflict premises h) m.0 (refuted_by premises mid c c_in f)
 
 -- to a unit clause
 pub to_unit : (premises seen : List (List Lit)) (old mid new c : List Lit) (l : Lit) (b : Bool) → SoFar premises seen old mid b → Contains premises c → IsUnit mid c l → new ≡ mid ++ l ∷ [] → Advances premises old new × (length old < length new)
@@ -34,9 +34,9 @@ to_unit premises seen old mid new c l false m c_in u e =
     (subst (λ (h : List Lit). Advances premises h new) m.0 a, omega (arith, ap length m.0, ap length e, length_push mid l))
 
 -- to a settled one
-pub to_settled : (premises seen more : List (List Lit)) (old mid new c : List Lit) (b : Bool) → SoFar premises seen old mid b → new ≡ mid → IsSettled mid c → more ≡ c ∷ seen → SoFar premises more old new b
+pub to_settled : (premises seen more : List (List Lit)) (old mid new c : List Lit) (b : Bool) → SoFar premises seen old mid b → new ≡ mid → PropagatesNothing mid c → more ≡ c ∷ seen → SoFar premises more old new b
 to_settled premises seen more old mid new c true m e s each = subst (λ (h : List Lit). Advances premises old h × (length old < length h)) (sym e) m
-to_settled premises seen more old mid new c false m e s each = (e ∙ m.0, λ d i. subst (λ (h : List Lit). IsSettled h d) (sym e) (elim (cases c seen d (subst (λ (cs : List (List Lit)). Contains cs d) each i)) [ inl is ↦ subst (λ (x : List Lit). IsSettled mid x) is s | inr was ↦ m.1 d was ]))
+to_settled premises seen more old mid new c false m e s each = (e ∙ m.0, λ d i. subst (λ (h : List Lit). PropagatesNothing h d) (sym e) (elim (cases c seen d (subst (λ (cs : List (List Lit)). Contains cs d) each i)) [ inl is ↦ subst (λ (x : List Lit). PropagatesNothing mid x) is s | inr was ↦ m.1 d was ]))
 
 abbrev to_items : Vec Lit Global → List Lit
 to_items w = w.items
@@ -60,6 +60,6 @@ ended premises zero old new l m = m
 ended premises (suc n) old new l m = absurd (omega (arith, l))
 
 -- an open or a true clause
-pub settles : (c old new : List Lit) (f : ClauseStatus) → (f ≡ Unresolved) ⊎ (f ≡ Satisfied) → Scans c old new f → IsSettled old c × (new ≡ old)
+pub settles : (c old new : List Lit) (f : ClauseStatus) → (f ≡ Unresolved) ⊎ (f ≡ Satisfied) → Scans c old new f → PropagatesNothing old c × (new ≡ old)
 settles c old new f (inl e) s = let t : IsUnresolved old c × (new ≡ old) = let P : ClauseStatus → Type 0 = Scans c old new in subst P e s in (inr t.0, t.1)
 settles c old new f (inr e) s = let t : IsSatisfied old c × (new ≡ old) = let P : ClauseStatus → Type 0 = Scans c old new in subst P e s in (inl t.0, t.1)

@@ -5,12 +5,12 @@ use Rattle.spec_text.proofs.Members.{cases, later}
 use Rattle.spec_proofs.specs.Resolution.{Derives, given, unit, Conflicts, false_clause, both_ways, IsWithin}
 use Rattle.term_core.specs.declared.ids.Lit.{Lit}
 use Rattle.clause_literals.specs.Literals.{lit_complement, SameLits, HasNoTwice, IsSetOf, IsConsistent}
-use Rattle.clause_literals.specs.Statuses.{IsSettled}
+use Rattle.clause_literals.specs.Statuses.{PropagatesNothing}
 use Rattle.clause_literals.proofs.LiteralLists.{decide}
 use Rattle.clause_literals.proofs.Counting.{Contains-first}
 
 -- where nothing follows any more, all that is derived holds
-module _ (premises : List (List Lit)) (start held : List Lit) (started : IsWithin start held) (ok : IsConsistent held) (f : (c : List Lit) → Contains premises c → IsSettled held c) where
+module _ (premises : List (List Lit)) (start held : List Lit) (started : IsWithin start held) (ok : IsConsistent held) (f : (c : List Lit) → Contains premises c → PropagatesNothing held c) where
   derived_held : (l : Lit) → Derives lit_complement premises start l → Contains held l
   derived_held _ (given l i) = started l i
   derived_held _ (unit c l c_in l_in others) = elim (f c c_in) [

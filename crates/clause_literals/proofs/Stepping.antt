@@ -9,7 +9,7 @@ use Rattle.clause_literals.specs.declared.occurrences.Occurrences.{Occurrences}
 use Rattle.clause_literals.specs.Literals.{lit_complement, lists, HasNoTwice, IsConsistent}
 use Rattle.clause_literals.specs.Occurring.{OccursIn, IsIndexOf}
 use Rattle.clause_literals.specs.Statuses.{IsFalsified}
-use Rattle.clause_literals.specs.Propagation.{IsRefuted, untouched, Advances, AreTracked, TakesUp, Begins, Loses, IsQuiet}
+use Rattle.clause_literals.specs.Propagation.{LeadsToConflict, untouched, Advances, AreTracked, TakesUp, BeginsPropagation, Loses, HasPropagatedAll}
 use Rattle.clause_literals.proofs.Advancing.{advances_none, advances_by, advances_on, held_on, refuted_by, refuted_on}
 use Rattle.clause_literals.proofs.Tracking.{begins_more, loses_one, within_take, loses_all, settled}
 use Rattle.clause_literals.proofs.Start.{taken_more}
@@ -54,10 +54,10 @@ begun_more vs i v lt e first held new left after count n counted h t pushed =
 
 -- a false one
 pub refuted_here : (vs : List (Vec Lit Global)) (i : ℕ) (v : Vec Lit Global) → i < length vs → v ≡ get_or vs i v
-    → (first held : List Lit) → Advances (lists vs) first held → IsFalsified held v.items → IsRefuted (lists vs) first
+    → (first held : List Lit) → Advances (lists vs) first held → IsFalsified held v.items → LeadsToConflict (lists vs) first
 refuted_here vs i v lt e first held a f = refuted_on (lists vs) first held a (refuted_by (lists vs) held v.items (item_in vs i v lt e) f)
 
-pub begun_all : (vs : List (Vec Lit Global)) (i : ℕ) → i ≡ length vs → (first held : List Lit) (left : List ℕ) → HasBegun (lists vs) first held left i → Begins (lists vs) first held left
+pub begun_all : (vs : List (Vec Lit Global)) (i : ℕ) → i ≡ length vs → (first held : List Lit) (left : List ℕ) → HasBegun (lists vs) first held left i → BeginsPropagation (lists vs) first held left
 begun_all vs i e first held left h =
     let n : i ≡ length (lists vs) = rw length-map e in
     record {
@@ -123,15 +123,15 @@ pub going_smaller : (premises : List (List Lit)) (first held new : List Lit) (le
     → (length new + untouched new premises) - (done + 1) < (length held + untouched held premises) - done
 going_smaller premises first held new left done ok h lt a = let f = a.fewer (h.advances.consistent ok) in omega (arith, f, lt)
 
-pub going_all : (premises : List (List Lit)) → All HasNoTwice premises → (first held : List Lit) (left : List ℕ) (done : ℕ) → length held ≤ done → IsGoing premises first held left done → IsQuiet premises first held
+pub going_all : (premises : List (List Lit)) → All HasNoTwice premises → (first held : List Lit) (left : List ℕ) (done : ℕ) → length held ≤ done → IsGoing premises first held left done → HasPropagatedAll premises first held
 going_all premises once first held left done all h = record {
   advances = h.advances;
   settled = settled premises once (take done held) held left (take_all done held all) h.tracked;
 }
 
 -- what taking up all premises gives of their own numbers
-pub begun_counted : (vs : List (Vec Lit Global)) (old held : List Lit) (left after : List ℕ) → after ≡ left → Begins (lists vs) old held left → length after ≡ length vs
+pub begun_counted : (vs : List (Vec Lit Global)) (old held : List Lit) (left after : List ℕ) → after ≡ left → BeginsPropagation (lists vs) old held left → length after ≡ length vs
 begun_counted vs old held left after e h = ap length e ∙ h.counted ∙ length-map vs to_items
 
-pub begun_tracked : (vs : List (Vec Lit Global)) (old held : List Lit) (left after : List ℕ) → after ≡ left → Begins (lists vs) old held left → AreTracked (length vs) [] [] (lists vs) held after
+pub begun_tracked : (vs : List (Vec Lit Global)) (old held : List Lit) (left after : List ℕ) → after ≡ left → BeginsPropagation (lists vs) old held left → AreTracked (length vs) [] [] (lists vs) held after
 begun_tracked vs old held left after e h = subst (λ (ls : List ℕ). AreTracked (length vs) [] [] (lists vs) held ls) (sym e) (subst (λ n. AreTracked n [] [] (lists vs) held left) (length-map vs to_items) h.tracked)

@@ -7,7 +7,7 @@ use Rattle.std.proofs.lemmas.List.Elements.{Contains-push, Contains-append_left}
 use Rattle.spec_proofs.specs.Resolution.{IsWithin}
 use Rattle.term_core.specs.declared.ids.Lit.{Lit}
 use Rattle.clause_literals.specs.Literals.{lit_complement, HasNoTwice, AddsLast}
-use Rattle.clause_literals.specs.Statuses.{IsUnit, IsUnresolved, IsSatisfied, IsSettled}
+use Rattle.clause_literals.specs.Statuses.{IsUnit, IsUnresolved, IsSatisfied, PropagatesNothing}
 use Rattle.clause_literals.specs.Propagation.{Advances, IsBounded, IsTracked, AreTracked, TakesUp, unseen, times}
 use Rattle.clause_literals.proofs.LiteralLists.{is_in, adds_new}
 use Rattle.clause_literals.proofs.Advancing.{held_on}
@@ -120,8 +120,8 @@ module _ (premises : List (List Lit)) (once : All HasNoTwice premises) (held : L
   ]
 
 -- where all that holds was taken out
-pub settled : (premises : List (List Lit)) → All HasNoTwice premises → (seen held : List Lit) (left : List ℕ) → seen ≡ held → AreTracked (length premises) seen [] premises held left → (c : List Lit) → Contains premises c → IsSettled held c
-settled premises once seen held left e all c i = subst (λ (x : List Lit). IsSettled held x) (get_or_default premises i.0 [] c i.1 ∙ i.2) (elim (all i.0 i.1) [
+pub settled : (premises : List (List Lit)) → All HasNoTwice premises → (seen held : List Lit) (left : List ℕ) → seen ≡ held → AreTracked (length premises) seen [] premises held left → (c : List Lit) → Contains premises c → PropagatesNothing held c
+settled premises once seen held left e all c i = subst (λ (x : List Lit). PropagatesNothing held x) (get_or_default premises i.0 [] c i.1 ∙ i.2) (elim (all i.0 i.1) [
   | inl t ↦ inl t
   | inr h ↦ inr (counted_two held (get_or premises i.0 []) (once i.0 [] i.1) (subst (λ (s : List Lit). 2 ≤ unseen s (get_or premises i.0 [])) e (omega (arith, h.0, h.1))))
 ])

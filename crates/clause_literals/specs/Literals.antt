@@ -49,15 +49,15 @@ abbrev pub IsConsistent : List Lit → Type 0
 IsConsistent held = (l : Lit) → Contains held l → Contains held (lit_complement l) → ⊥
 
 -- each literal's term is one of the table's
-abbrev pub AreOf : TableView → List Lit → Type 0
-AreOf table ls = All (λ l. IsIn table l.term) ls
+abbrev pub AreLiteralsIn : TableView → List Lit → Type 0
+AreLiteralsIn table ls = All (λ l. IsIn table l.term) ls
 
 -- The literals are those of the clause.
-pub record Means (table : TableView) (literals : List Lit) (clause : Clause) : Type 0 where
+pub record LiteralsMean (table : TableView) (literals : List Lit) (clause : Clause) : Type 0 where
   -- they are the same in their order
   pub same : map (literal_at table) literals ≡ literals_of clause
   -- their terms are of the table
-  pub there : AreOf table literals
+  pub there : AreLiteralsIn table literals
 
 -- a test says yes exactly where the statement is so
 abbrev pub Tests : Type 0 → Bool → Type 0

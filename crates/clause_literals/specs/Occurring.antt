@@ -5,7 +5,7 @@ use Rattle.clause_literals.specs.declared.occurrences.Occurrences.{Occurrences}
 use Rattle.clause_literals.specs.Literals.{lists, HasNoTwice}
 
 -- each literal has a list, and none has two
-pub record IsWhole (w : Occurrences) : Type 0 where
+pub record OccurrencesFit (w : Occurrences) : Type 0 where
   pub paired : length w.literals.keys ≡ length w.lists.items
   pub once : HasNoTwice w.literals.keys
 
@@ -23,7 +23,7 @@ AreBelow n w = All (λ ks. All (λ k. k < n) ks) (lists w.lists.items)
 
 -- the literal has a list, with that index, and the lists are as they were
 pub record Places (old : Occurrences) (l : Lit) (index : ℕ) (new : Occurrences) : Type 0 where
-  pub whole : IsWhole new
+  pub whole : OccurrencesFit new
   pub within : index < length new.literals.keys
   pub stored : get_or new.literals.keys index l ≡ l
   pub kept : (m : Lit) (k : ℕ) → OccursIn old m k → OccursIn new m k
@@ -31,13 +31,13 @@ pub record Places (old : Occurrences) (l : Lit) (index : ℕ) (new : Occurrences
 
 -- the lists are as they were, but that those of some literals have one more number
 pub record Notes (old : Occurrences) (noted : List Lit) (number : ℕ) (new : Occurrences) : Type 0 where
-  pub whole : IsWhole new
+  pub whole : OccurrencesFit new
   pub kept : (m : Lit) (k : ℕ) → OccursIn old m k → OccursIn new m k
   pub added : (m : Lit) → Contains noted m → OccursIn new m number
   pub below : (n : ℕ) → number < n → AreBelow n old → AreBelow n new
 
 -- each literal of the clauses has their numbers
 pub record IsIndexOf (w : Occurrences) (clauses : List (List Lit)) : Type 0 where
-  pub whole : IsWhole w
+  pub whole : OccurrencesFit w
   pub below : AreBelow (length clauses) w
   pub complete : (k : ℕ) (l : Lit) → k < length clauses → Contains (get_or clauses k []) l → OccursIn w l k

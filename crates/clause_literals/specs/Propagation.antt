@@ -4,15 +4,15 @@ use Rattle.std.specs.List.{list_any}
 use Rattle.spec_proofs.specs.Resolution.{Derives, Conflicts, IsWithin}
 use Rattle.term_core.specs.declared.ids.Lit.{Lit}
 use Rattle.clause_literals.specs.Literals.{lit_complement, has, IsConsistent}
-use Rattle.clause_literals.specs.Statuses.{IsUnit, IsSatisfied, IsSettled}
+use Rattle.clause_literals.specs.Statuses.{IsUnit, IsSatisfied, PropagatesNothing}
 
 -- all that is held follows from the start
 abbrev pub IsDerived : List (List Lit) → List Lit → List Lit → Type 0
 IsDerived premises start held = (l : Lit) → Contains held l → Derives lit_complement premises start l
 
 -- what is held leads to a conflict
-abbrev pub IsRefuted : List (List Lit) → List Lit → Type 0
-IsRefuted premises held = (start : List Lit) → IsDerived premises start held → Conflicts lit_complement premises start
+abbrev pub LeadsToConflict : List (List Lit) → List Lit → Type 0
+LeadsToConflict premises held = (start : List Lit) → IsDerived premises start held → Conflicts lit_complement premises start
 
 -- no conflict follows from anything that is held
 abbrev pub IsUnrefuted : List (List Lit) → List Lit → Type 0
@@ -37,8 +37,8 @@ times k [] = zero
 times k (j ∷ js) = if j == k then suc (times k js) else times k js
 
 -- the clause gives its one open literal, or nothing
-abbrev pub Follows : List Lit → List Lit → List Lit → Type 0
-Follows clause old new = (new ≡ old) ⊎ ((l : Lit) × IsUnit old clause l × (new ≡ old ++ l ∷ []))
+abbrev pub GivesUnit : List Lit → List Lit → List Lit → Type 0
+GivesUnit clause old new = (new ≡ old) ⊎ ((l : Lit) × IsUnit old clause l × (new ≡ old ++ l ∷ []))
 
 -- what is held grows by what follows, and each literal leaves fewer clauses untouched
 pub record Advances (premises : List (List Lit)) (old new : List Lit) : Type 0 where
@@ -62,11 +62,11 @@ AreTracked n seen losing premises held left = (k : ℕ) → k < n → IsTracked 
 
 -- a premise goes from bounded to tracked
 pub record TakesUp (clause old new : List Lit) (before after : ℕ) : Type 0 where
-  pub follows : Follows clause old new
+  pub follows : GivesUnit clause old new
   pub tracked : (seen : List Lit) (more : ℕ) → IsWithin seen old → IsBounded seen old more clause before → IsTracked seen new more clause after
 
 -- each premise was taken up once
-pub record Begins (premises : List (List Lit)) (old new : List Lit) (left : List ℕ) : Type 0 where
+pub record BeginsPropagation (premises : List (List Lit)) (old new : List Lit) (left : List ℕ) : Type 0 where
   pub advances : Advances premises old new
   pub counted : length left ≡ length premises
   pub tracked : AreTracked (length premises) [] [] premises new left
@@ -77,11 +77,11 @@ pub record Loses (premises : List (List Lit)) (losing : List ℕ) (old new : Lis
   pub tracked : (seen : List Lit) → IsWithin seen old → AreTracked (length premises) seen losing premises old before → AreTracked (length premises) seen [] premises new after
 
 -- nothing more follows
-pub record IsQuiet (premises : List (List Lit)) (old new : List Lit) : Type 0 where
+pub record HasPropagatedAll (premises : List (List Lit)) (old new : List Lit) : Type 0 where
   pub advances : Advances premises old new
-  pub settled : (c : List Lit) → Contains premises c → IsSettled new c
+  pub settled : (c : List Lit) → Contains premises c → PropagatesNothing new c
 
 -- a premise comes to be false, or nothing more follows
 abbrev pub Propagates : List (List Lit) → List Lit → List Lit → Bool → Type 0
-Propagates premises old new true = IsRefuted premises old
-Propagates premises old new false = IsQuiet premises old new
+Propagates premises old new true = LeadsToConflict premises old
+Propagates premises old new false = HasPropagatedAll premises old new

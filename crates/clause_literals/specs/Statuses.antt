@@ -33,8 +33,8 @@ pub record IsSatisfied (held clause : List Lit) : Type 0 where
   pub holds : Contains held literal
 
 -- nothing follows from the clause
-abbrev pub IsSettled : List Lit → List Lit → Type 0
-IsSettled held clause = IsSatisfied held clause ⊎ IsUnresolved held clause
+abbrev pub PropagatesNothing : List Lit → List Lit → Type 0
+PropagatesNothing held clause = IsSatisfied held clause ⊎ IsUnresolved held clause
 
 -- the status of the clause
 abbrev pub HasStatus : List Lit → List Lit → ClauseStatus → Type 0

@@ -2,7 +2,7 @@
 
 ghost use Rattle.std.specs.Prelude.{◌≡◌, ◌≢◌, IfOk, MatchBool};
 ghost use Rattle.term_core.specs.Tables.{AreIn, clause_at};
-ghost use Rattle.clause_literals.specs.Literals.{lit_complement, Means};
+ghost use Rattle.clause_literals.specs.Literals.{lit_complement, LiteralsMean};
 
 use std::alloc::{AllocError, Global};
 use term_core::{Lit, TermId, TermTable};
@@ -34,7 +34,7 @@ pub fn literals_of(
     clause: &[TermId],
 ) -> Result<Vec<Lit>, AllocError>
     requires { AreIn table.now clause.now }
-    ensures { IfOk result (λ v. Means table.now v.items (clause_at table.now clause.now)) }
+    ensures { IfOk result (λ v. LiteralsMean table.now v.items (clause_at table.now clause.now)) }
 {
     let mut literals = Vec::new(alloc);
     for id in clause {

@@ -2,7 +2,7 @@
 
 ghost use Rattle.std.specs.Prelude.{◌≡◌, ◌<◌, ◌∷◌, [], ℕ, All, Contains, IfOk, OnOk};
 ghost use Rattle.clause_literals.specs.Literals.{lists};
-ghost use Rattle.clause_literals.specs.Occurring.{IsWhole, OccursIn, AreBelow, Places, Notes, IsIndexOf};
+ghost use Rattle.clause_literals.specs.Occurring.{OccurrencesFit, OccursIn, AreBelow, Places, Notes, IsIndexOf};
 
 use indexmap::IndexSet;
 use std::alloc::{AllocError, Global};
@@ -29,7 +29,7 @@ impl Occurrences {
 
     /// Gives the numbers of the clauses in which a literal occurs.
     pub(crate) fn of(&self, l: Lit) -> &[usize]
-        requires { IsWhole self.now }
+        requires { OccurrencesFit self.now }
         ensures complete { (k : ℕ) → OccursIn self.now l k → Contains result.now k }
         ensures below { (n : ℕ) → AreBelow n self.now → All (λ k. k < n) result.now }
     {
@@ -41,7 +41,7 @@ impl Occurrences {
 
     /// Finds the index of a literal's list, where it is new after a list for it is made.
     fn place(&mut self, alloc: Global, l: Lit) -> Result<usize, AllocError>
-        requires { IsWhole self.old }
+        requires { OccurrencesFit self.old }
         ensures { IfOk result (λ index. Places self.old l index self.new) }
     {
         let Ok((index, is_new)) = self.literals.insert_full(l) else {
@@ -56,7 +56,7 @@ impl Occurrences {
 
     /// Notes that a literal occurs in a clause.
     fn note(&mut self, alloc: Global, l: Lit, number: usize) -> Result<(), AllocError>
-        requires { IsWhole self.old }
+        requires { OccurrencesFit self.old }
         ensures { OnOk result (Notes self.old (l ∷ []) number self.new) }
     {
         let index = self.place(alloc, l)?;
@@ -66,7 +66,7 @@ impl Occurrences {
 
     /// Notes each literal of a clause.
     fn note_each(&mut self, alloc: Global, clause: &[Lit], number: usize) -> Result<(), AllocError>
-        requires { IsWhole self.old }
+        requires { OccurrencesFit self.old }
         ensures { OnOk result (Notes self.old clause.now number self.new) }
     {
         for l in clause {

@@ -5,7 +5,7 @@ ghost use Rattle.spec_proofs.specs.Resolution.{Resolves};
 ghost use Rattle.clause_literals.specs.Literals.{lit_complement, lists, HasNoTwice, IsConsistent, Tests};
 ghost use Rattle.clause_literals.specs.Statuses.{IsFalsified};
 ghost use Rattle.clause_literals.specs.Occurring.{IsIndexOf};
-ghost use Rattle.clause_literals.specs.Propagation.{TakesUp, IsRefuted, IsUnrefuted, Begins, AreTracked, Loses, Propagates};
+ghost use Rattle.clause_literals.specs.Propagation.{TakesUp, LeadsToConflict, IsUnrefuted, BeginsPropagation, AreTracked, Loses, Propagates};
 
 use crate::assignment::{Assignment, start_of};
 use crate::distinct::distinct_each;
@@ -41,8 +41,8 @@ fn begin(
     premises: &[Vec<Lit>],
     held: &mut Assignment,
 ) -> Result<Option<Vec<usize>>, AllocError>
-    ensures { IfOk result (λ o. MatchOption o (IsRefuted (lists premises.now) held.old)
-        (λ left. Begins (lists premises.now) held.old held.new left.items)) }
+    ensures { IfOk result (λ o. MatchOption o (LeadsToConflict (lists premises.now) held.old)
+        (λ left. BeginsPropagation (lists premises.now) held.old held.new left.items)) }
 {
     let mut left = Vec::new(alloc);
     for premise in premises {
@@ -63,7 +63,7 @@ fn pass_on(
 ) -> Result<bool, AllocError>
     requires counted { length left.old ≡ length premises.now }
     requires below { All (λ k. k < length premises.now) losing.now }
-    ensures { IfOk result (λ no. MatchBool no (IsRefuted (lists premises.now) held.old)
+    ensures { IfOk result (λ no. MatchBool no (LeadsToConflict (lists premises.now) held.old)
         (Loses (lists premises.now) losing.now held.old held.new left.old left.new)) }
 {
     for number in losing {
@@ -129,7 +129,7 @@ pub(crate) fn refutes(
     held: &mut Assignment,
 ) -> Result<bool, AllocError>
     requires { IsConsistent held.old }
-    ensures { IfOk result (λ yes. MatchBool yes (IsRefuted (lists premises.now) held.old)
+    ensures { IfOk result (λ yes. MatchBool yes (LeadsToConflict (lists premises.now) held.old)
         (IsUnrefuted (lists premises.now) held.old)) }
 {
     let sets = distinct_each(alloc, premises)?;

@@ -9,10 +9,10 @@ use Rattle.clause_literals.specs.Literals.{lit_complement}
 use Rattle.proof_log.specs.declared.premises.StepId.{StepId}
 use Rattle.sat_trail.specs.Trails.{TrailView, no_lit, IsPushed}
 use Rattle.clause_store.specs.Stores.{StoreView, no_step}
-use Rattle.clause_store.specs.Propagating.{IsImplied, Adds, Advances}
+use Rattle.clause_store.specs.Propagating.{IsImplied, AddsImplied, Advances}
 
 -- nothing is added
-pub adds_none : (s : StoreView) (t : TrailView) → Adds s t t
+pub adds_none : (s : StoreView) (t : TrailView) → AddsImplied s t t
 adds_none s t = record {
   more = [];
   why = [];
@@ -25,7 +25,7 @@ adds_none s t = record {
   vars = refl;
 }
 
-module _ (s : StoreView) (a b c : TrailView) (one : Adds s a b) (two : Adds s b c) where
+module _ (s : StoreView) (a b c : TrailView) (one : AddsImplied s a b) (two : AddsImplied s b c) where
   -- a later one's place among both
   implied_late : (j : ℕ) → j < length two.more → IsImplied s (a.literals ++ take (length one.more + j) (one.more ++ two.more)) (get_or (one.more ++ two.more) (length one.more + j) no_lit) (get_or (one.why ++ two.why) (length one.more + j) None)
   implied_late j lt =
@@ -45,7 +45,7 @@ module _ (s : StoreView) (a b c : TrailView) (one : Adds s a b) (two : Adds s b 
       (subst (IsImplied s (a.literals ++ take k one.more) (get_or one.more k no_lit)) (sym (get_or_append_left one.why two.why None k (omega (arith, lt, one.paired)))) (one.implied k lt)))
 
   -- one after the other
-  pub adds_on : Adds s a c
+  pub adds_on : AddsImplied s a c
   adds_on = record {
     more = one.more ++ two.more;
     why = one.why ++ two.why;
@@ -68,7 +68,7 @@ module _ (s : StoreView) (a b c : TrailView) (one : Adds s a b) (two : Adds s b 
 
 -- a clause all but one of whose literals are false implies this one
 pub adds_one : (s : StoreView) (a b : TrailView) (n : ℕ) (l : Lit) (step : StepId) → n < length s.clauses → Contains (get_or s.clauses n []) l → ((m : Lit) → Contains (get_or s.clauses n []) m → m ≢ l → Contains a.literals (lit_complement m))
-    → step ≡ get_or s.steps n no_step → IsPushed a l (Some step.0) a.level b → Adds s a b
+    → step ≡ get_or s.steps n no_step → IsPushed a l (Some step.0) a.level b → AddsImplied s a b
 adds_one s a b n l step lt there others e p = record {
   more = l ∷ [];
   why = Some step.0 ∷ [];
@@ -103,15 +103,15 @@ pub advances_on : (s : StoreView) (a b c : TrailView) → Advances s a b → Adv
 advances_on s a b c one two = (adds_on s a b c one.0 two.0, two.1 ∙ one.1)
 
 -- what held holds
-pub holds_on : (s : StoreView) (a b : TrailView) → Adds s a b → (l : Lit) → Contains a.literals l → Contains b.literals l
+pub holds_on : (s : StoreView) (a b : TrailView) → AddsImplied s a b → (l : Lit) → Contains a.literals l → Contains b.literals l
 holds_on s a b g l x = subst (λ (xs : List Lit). Contains xs l) (sym g.literals) (Contains-append_left a.literals g.more l x)
 
 -- a prefix that was there is the same
-pub same_front : (s : StoreView) (a b : TrailView) (n : ℕ) → Adds s a b → n ≤ length a.literals → take n b.literals ≡ take n a.literals
+pub same_front : (s : StoreView) (a b : TrailView) (n : ℕ) → AddsImplied s a b → n ≤ length a.literals → take n b.literals ≡ take n a.literals
 same_front s a b n g le = ap (take n) g.literals ∙ take-append-le n a.literals g.more le
 
 -- clauses and steps alone tell what is implied
-pub adds_same : (s t : StoreView) (a b : TrailView) → t.clauses ≡ s.clauses → t.steps ≡ s.steps → Adds t a b → Adds s a b
+pub adds_same : (s t : StoreView) (a b : TrailView) → t.clauses ≡ s.clauses → t.steps ≡ s.steps → AddsImplied t a b → AddsImplied s a b
 adds_same s t a b ec es g = record {
   more = g.more;
   why = g.why;

@@ -10,9 +10,9 @@ use Rattle.clause_store.specs.declared.parts.Parts.{Parts}
 use Rattle.clause_store.specs.declared.watched.Watched.{Watched}
 use Rattle.clause_store.specs.Stores.{StoreView, HasSeen, no_pair}
 use Rattle.clause_store.specs.Entries.{clauses_of, bare}
-use Rattle.clause_store.specs.Propagating.{Adds, Advances, IsQuiet}
-use Rattle.clause_store.specs.Watching.{IsWatched, ArePairs, AreKnownIn, Rests, AreResting, IsWithin, IsFresh, Goes}
-use Rattle.clause_store.specs.Resting.{store_of, IsPrefixOf, HaveRested, AreSettled, IsKept, IsAtWork, WorksOn, IsSameBut}
+use Rattle.clause_store.specs.Propagating.{AddsImplied, Advances, IsPropagated}
+use Rattle.clause_store.specs.Watching.{IsWatched, ArePairs, AreKnownIn, Rests, AreResting, AreLiteralsAmong, IsFresh, PropagatesPart}
+use Rattle.clause_store.specs.Resting.{store_of, IsPrefixOf, HaveRested, AreSettled, StoreFits, IsAtWork, WorksOn, IsSameBut}
 use Rattle.clause_store.proofs.Adding.{adds_on, advances_none, advances_on, holds_on, same_front}
 use Rattle.clause_store.proofs.Resting.{front_within, quiet, resting_on}
 use Rattle.clause_store.proofs.Seen.{seen_more}
@@ -20,7 +20,7 @@ use Rattle.clause_store.proofs.Stored.{clause_count}
 use Rattle.clause_store.proofs.Working.{front_had, rested_by, rested_front, rested_goes, rested_more, settled_on}
 
 -- after propagation that ended early the parts fit by what was seen
-pub kept_by : (p : Parts) (t : TrailView) → IsAtWork p t → IsKept p
+pub kept_by : (p : Parts) (t : TrailView) → IsAtWork p t → StoreFits p
 kept_by p t w = record {
   watched = w.watched;
   settled = w.settled;
@@ -51,7 +51,7 @@ works_on p q r t u v g h = record {
 }
 
 -- the first pairs rest by what holds now
-pub resting_goes : (es : List Entry) (count : ℕ) (old new : Watched) (t u : TrailView) → Goes (bare es) count old.pairs.items new.pairs.items t u → (F : List Lit) → IsWithin F t.literals → AreResting count old.pairs.items F t.literals → AreResting count new.pairs.items F u.literals
+pub resting_goes : (es : List Entry) (count : ℕ) (old new : Watched) (t u : TrailView) → PropagatesPart (bare es) count old.pairs.items new.pairs.items t u → (F : List Lit) → AreLiteralsAmong F t.literals → AreResting count old.pairs.items F t.literals → AreResting count new.pairs.items F u.literals
 resting_goes es count old new t u g F w h = resting_on count new.pairs.items F t.literals u.literals (holds_on (bare es) t u g.advances.0) (g.prefixes F t.literals w (λ l i. i) h)
 
 -- with one pair more
@@ -64,7 +64,7 @@ resting_more count pairs F held h one n lt = elim (cases_lt n count) [
 -- ---- a part of propagation, from parts at work
 
 module _ (p q : Parts) (t u : TrailView) (le : t.propagated ≤ length t.literals) (ok : IsWatched q.watched) (es : q.watched.entries.items ≡ p.watched.entries.items) (se : q.seen.items ≡ p.seen.items)
-    (g : Goes (bare p.watched.entries.items) p.settled p.watched.pairs.items q.watched.pairs.items t u) (h : IsAtWork p t) where
+    (g : PropagatesPart (bare p.watched.entries.items) p.settled p.watched.pairs.items q.watched.pairs.items t u) (h : IsAtWork p t) where
   known_now : AreKnownIn q.watched u.vars
   known_now = subst (λ (es : List Entry). All (All (λ (l : Lit). l.term.0 < u.vars)) (clauses_of es)) (sym es) (subst (λ (n : ℕ). All (All (λ (l : Lit). l.term.0 < n)) (clauses_of p.watched.entries.items)) (sym g.advances.0.vars) h.known)
 
@@ -139,8 +139,8 @@ module _ (p : Parts) (ok : IsWatched p.watched) (all : p.settled ≡ length p.wa
   pub count_settled : length p.watched.pairs.items ≡ p.settled
   count_settled = omega (arith, all, ok.pairs_by.paired, clause_count p.watched.entries.items)
 
-  pub goes_settled : (new : List Pair) (t u : TrailView) → Goes (bare p.watched.entries.items) (length p.watched.pairs.items) p.watched.pairs.items new t u → Goes (bare p.watched.entries.items) p.settled p.watched.pairs.items new t u
-  goes_settled new t u g = subst (λ (n : ℕ). Goes (bare p.watched.entries.items) n p.watched.pairs.items new t u) count_settled g
+  pub goes_settled : (new : List Pair) (t u : TrailView) → PropagatesPart (bare p.watched.entries.items) (length p.watched.pairs.items) p.watched.pairs.items new t u → PropagatesPart (bare p.watched.entries.items) p.settled p.watched.pairs.items new t u
+  goes_settled new t u g = subst (λ (n : ℕ). PropagatesPart (bare p.watched.entries.items) n p.watched.pairs.items new t u) count_settled g
 
 -- the parts with another count of those that were looked at
 abbrev pub looked : Parts → ℕ → Parts
@@ -149,11 +149,11 @@ looked p n = record { watched = p.watched; settled = n; short = p.short; seen = 
 -- ---- the whole of propagation
 
 -- what is added by both parts
-pub adds_after : (p q r : Parts) (t u v : TrailView) → q.watched ≡ p.watched → Advances (bare p.watched.entries.items) t u → WorksOn q r u v → Adds (bare p.watched.entries.items) t v
-adds_after p q r t u v e a g = adds_on (bare p.watched.entries.items) t u v a.0 (subst (λ (w : Watched). Adds (bare w.entries.items) u v) e g.advances.0)
+pub adds_after : (p q r : Parts) (t u v : TrailView) → q.watched ≡ p.watched → Advances (bare p.watched.entries.items) t u → WorksOn q r u v → AddsImplied (bare p.watched.entries.items) t v
+adds_after p q r t u v e a g = adds_on (bare p.watched.entries.items) t u v a.0 (subst (λ (w : Watched). AddsImplied (bare w.entries.items) u v) e g.advances.0)
 
 -- then the literals are marked
-pub adds_marked : (s : StoreView) (t u v : TrailView) → Adds s t u → IsSameBut u v → Adds s t v
+pub adds_marked : (s : StoreView) (t u v : TrailView) → AddsImplied s t u → IsSameBut u v → AddsImplied s t v
 adds_marked s t u v g e = record {
   more = g.more;
   why = g.why;
@@ -172,5 +172,5 @@ rested_still p q t u n le g h = subst (λ (F : List Lit). AreResting q.settled q
     (g.prefixes (take n t.literals) (front_within n t.literals le) h)
 
 -- where all rest, nothing follows
-pub quiet_by : (p : Parts) (t : TrailView) → IsAtWork p t → p.settled ≡ length p.watched.entries.items → AreResting p.settled p.watched.pairs.items t.literals t.literals → IsQuiet (clauses_of p.watched.entries.items) t.literals
+pub quiet_by : (p : Parts) (t : TrailView) → IsAtWork p t → p.settled ≡ length p.watched.entries.items → AreResting p.settled p.watched.pairs.items t.literals t.literals → IsPropagated (clauses_of p.watched.entries.items) t.literals
 quiet_by p t w all h = quiet (clauses_of p.watched.entries.items) p.watched.pairs.items t.literals w.watched.pairs_by (λ n lt. w.settled.there n (omega (arith, lt, all, clause_count p.watched.entries.items))) (λ n lt. h n (omega (arith, lt, all, clause_count p.watched.entries.items)))

@@ -5,7 +5,7 @@ use Rattle.std.proofs.lemmas.Bool.{cases_lt, cases_eq, eqb-true, eq-eqb}
 use Rattle.std.proofs.lemmas.List.{length-map, length-set, get_or-map, get_or_past, map-set, map_push, get_or-set_same, get_or-set_other, get_or_push, get_or_append_left, length_push}
 use Rattle.std.proofs.lemmas.List.Sums.{sum_by-cons, sum_by_push, sum_by-swap_remove, get_or-le-sum_by}
 use Rattle.term_core.specs.declared.ids.Lit.{Lit}
-use Rattle.watch_index.specs.Indexes.{code, one_if, list_of, IsPut, IsMoved}
+use Rattle.watch_index.specs.Indexes.{code, one_if, list_of, IsAppended, IsMoved}
 use Rattle.clause_store.specs.declared.pair.Pair.{Pair}
 use Rattle.clause_store.specs.Stores.{tally, hits, hits_at, no_pair}
 use Rattle.clause_store.specs.Watching.{IsIndexed, HaveSameLists, IsEnteredIfTwo}
@@ -188,7 +188,7 @@ module _ (pairs : List Pair) (index : List (List ℕ)) (h : IsIndexed pairs inde
 
   -- a clause more
   module _ (p : Pair) (new : List (List ℕ)) (m : IsEnteredIfTwo index p (length pairs) new) where
-    put_tally : (a b : List (List ℕ)) (i n : ℕ) → IsPut a i n b → (k j : ℕ) → tally j (get_or b k []) ≡ tally j (get_or a k []) + one_if (i == k) * one_if (n == j)
+    put_tally : (a b : List (List ℕ)) (i n : ℕ) → IsAppended a i n b → (k j : ℕ) → tally j (get_or b k []) ≡ tally j (get_or a k []) + one_if (i == k) * one_if (n == j)
     put_tally a b i n put k j = elim (cases_eq k i) [
       | inl e ↦ ap (λ x. tally j (get_or b x [])) e ∙ ap (tally j) put.list ∙ sum_by_push (λ x. one_if (x == j)) (get_or a i []) n
           ∙ adds_it (tally j (get_or a i [])) _ (one_if (i == k)) (one_if (n == j)) (ap (λ x. tally j (get_or a x [])) (sym e)) (is_one i k (sym e))

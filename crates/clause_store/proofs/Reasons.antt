@@ -7,14 +7,14 @@ use Rattle.std.proofs.Math.Seq.{take-append-add}
 use Rattle.term_core.specs.declared.ids.Lit.{Lit}
 use Rattle.term_core.specs.Tables.{TableView}
 use Rattle.clause_literals.specs.Literals.{lit_complement, IsConsistent}
-use Rattle.clause_literals.specs.Statuses.{IsFalsified, IsUnit, IsSettled}
+use Rattle.clause_literals.specs.Statuses.{IsFalsified, IsUnit, PropagatesNothing}
 use Rattle.clause_literals.proofs.LiteralLists.{decide}
 use Rattle.proof_log.specs.declared.premises.StepId.{StepId}
 use Rattle.proof_log.specs.Logs.{Logged}
 use Rattle.sat_trail.specs.Trails.{TrailView, no_lit, HasSame, IsPushed, IsCutTo}
 use Rattle.sat_trail.proofs.ValueLaws.{not_some}
-use Rattle.clause_store.specs.Stores.{StoreView, no_step, AreKnown, IsAdded}
-use Rattle.clause_store.specs.Propagating.{IsImplied, Adds, AreImplied}
+use Rattle.clause_store.specs.Stores.{StoreView, no_step, LiteralsAreBelow, IsAdded}
+use Rattle.clause_store.specs.Propagating.{IsImplied, AddsImplied, AreImplied}
 
 module _ (s : StoreView) (t u : TrailView) (h : AreImplied s t) where
   -- literals come after those that are there
@@ -49,7 +49,7 @@ module _ (s : StoreView) (t u : TrailView) (h : AreImplied s t) where
       each zero r lt e = absurd (not_some r e)
       each (suc j) r lt e = absurd (omega (arith, lt))
 
-  pub implied_more : Adds s t u → AreImplied s u
+  pub implied_more : AddsImplied s t u → AreImplied s u
   implied_more a = implied_after a.more a.why a.literals a.reasons a.paired (λ j r lt e. subst (IsImplied s (t.literals ++ take j a.more) (get_or a.more j no_lit)) e (a.implied j lt))
 
   pub implied_cut : (n : ℕ) → IsCutTo t n u → AreImplied s u
@@ -91,17 +91,17 @@ implied_with x log id s n t paired h a = record { paired = h.paired; implied = �
         }
 
 -- the terms of a clause more are the table's
-pub known_with : (x : TableView) (log : List Logged) (id : StepId) (s n : StoreView) (vars : ℕ) → AreKnown s vars → IsAdded x log id s n → length x.terms ≤ vars → AreKnown n vars
+pub known_with : (x : TableView) (log : List Logged) (id : StepId) (s n : StoreView) (vars : ℕ) → LiteralsAreBelow s vars → IsAdded x log id s n → length x.terms ≤ vars → LiteralsAreBelow n vars
 known_with x log id s n vars h a le = subst (All (All (λ (l : Lit). l.term.0 < vars))) (sym a.clauses)
     (All-push (All (λ (l : Lit). l.term.0 < vars)) s.clauses a.clause h (λ i l il. omega (arith, a.means.there i l il, le)))
 
 -- what is quiet is neither false nor unit
 module _ (held : List Lit) (consistent : IsConsistent held) (c : List Lit) where
-  pub not_false : IsSettled held c → IsFalsified held c → ⊥
+  pub not_false : PropagatesNothing held c → IsFalsified held c → ⊥
   not_false (inl h) f = consistent h.literal h.holds (f h.literal h.there)
   not_false (inr h) f = h.one_open (f h.one h.has_one)
 
-  pub not_unit : (l : Lit) → IsSettled held c → IsUnit held c l → ⊥
+  pub not_unit : (l : Lit) → PropagatesNothing held c → IsUnit held c l → ⊥
   not_unit l (inl h) u = elim (decide h.literal l) [
     | inl e ↦ u.not_held (subst (Contains held) e h.holds)
     | inr o ↦ consistent h.literal h.holds (u.others_false h.literal h.there o)

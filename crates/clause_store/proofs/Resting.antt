@@ -4,40 +4,40 @@ use Rattle.std.proofs.lemmas.Bool.{cases_eq}
 use Rattle.std.proofs.lemmas.List.{length-set, get_or-set_same, get_or-set_other, get_or_default, length-take-le, get_or-take}
 use Rattle.term_core.specs.declared.ids.Lit.{Lit}
 use Rattle.clause_literals.specs.Literals.{lit_complement, IsConsistent}
-use Rattle.clause_literals.specs.Statuses.{IsSettled}
+use Rattle.clause_literals.specs.Statuses.{PropagatesNothing}
 use Rattle.clause_literals.proofs.LiteralLists.{is_in}
 use Rattle.sat_trail.specs.Trails.{TrailView, no_lit}
 use Rattle.clause_store.specs.declared.pair.Pair.{Pair}
 use Rattle.clause_store.specs.Stores.{StoreView, no_pair}
-use Rattle.clause_store.specs.Propagating.{Advances, IsQuiet}
-use Rattle.clause_store.specs.Watching.{Has, IsPairOf, ArePairs, Rests, AreResting, IsWithin, HaveSameShapes, Goes, IsRepaired, IsFresh, AnyPrefix, Below}
+use Rattle.clause_store.specs.Propagating.{Advances, IsPropagated}
+use Rattle.clause_store.specs.Watching.{Has, IsPairOf, ArePairs, Rests, AreResting, AreLiteralsAmong, HaveSameShapes, PropagatesPart, IsRepaired, IsFresh, AnyPrefix, Below}
 use Rattle.clause_store.proofs.Adding.{advances_none, advances_on, holds_on}
 use Rattle.clause_store.proofs.Indexing.{one_or_two}
 
 -- ---- rest
 
 -- more may hold
-pub rests_on : (front held more : List Lit) (p : Pair) → IsWithin held more → Rests front held p → Rests front more p
+pub rests_on : (front held more : List Lit) (p : Pair) → AreLiteralsAmong held more → Rests front held p → Rests front more p
 rests_on front held more p w h = record { by_first = λ c. w _ (h.by_first c); by_second = λ c. w _ (h.by_second c); alone = λ e. w _ (h.alone e) }
 
-pub resting_on : (count : ℕ) (pairs : List Pair) (front held more : List Lit) → IsWithin held more → AreResting count pairs front held → AreResting count pairs front more
+pub resting_on : (count : ℕ) (pairs : List Pair) (front held more : List Lit) → AreLiteralsAmong held more → AreResting count pairs front held → AreResting count pairs front more
 resting_on count pairs front held more w h n lt = rests_on front held more _ w (h n lt)
 
 -- a prefix is within
-pub front_within : (n : ℕ) (held : List Lit) → n ≤ length held → IsWithin (take n held) held
+pub front_within : (n : ℕ) (held : List Lit) → n ≤ length held → AreLiteralsAmong (take n held) held
 front_within n held le l (i, lt, e) =
     let k : i < n = omega (arith, lt, length-take-le n held le) in
     (i, omega (arith, k, le), sym (get_or-take n held i l k) ∙ e)
 
 -- where all rest by what holds, nothing follows
 pub quiet : (clauses : List (List Lit)) (pairs : List Pair) (held : List Lit) → ArePairs clauses pairs → ((n : ℕ) → n < length clauses → Contains (get_or clauses n []) (get_or pairs n no_pair).first)
-    → AreResting (length clauses) pairs held held → IsQuiet clauses held
-quiet clauses pairs held ps there r c (n, lt, e) = subst (IsSettled held) (get_or_default clauses n [] c lt ∙ e) (go (one_or_two p) (is_in held (lit_complement p.first)) (is_in held (lit_complement p.second)))
+    → AreResting (length clauses) pairs held held → IsPropagated clauses held
+quiet clauses pairs held ps there r c (n, lt, e) = subst (PropagatesNothing held) (get_or_default clauses n [] c lt ∙ e) (go (one_or_two p) (is_in held (lit_complement p.first)) (is_in held (lit_complement p.second)))
   where
     p : Pair
     p = get_or pairs n no_pair
 
-    go : (p.first ≡ p.second) ⊎ (p.first ≢ p.second) → Contains held (lit_complement p.first) ⊎ (Contains held (lit_complement p.first) → ⊥) → Contains held (lit_complement p.second) ⊎ (Contains held (lit_complement p.second) → ⊥) → IsSettled held (get_or clauses n [])
+    go : (p.first ≡ p.second) ⊎ (p.first ≢ p.second) → Contains held (lit_complement p.first) ⊎ (Contains held (lit_complement p.first) → ⊥) → Contains held (lit_complement p.second) ⊎ (Contains held (lit_complement p.second) → ⊥) → PropagatesNothing held (get_or clauses n [])
     go (inl s) a b = inl (record { literal = p.first; there = there n lt; holds = (r n lt).alone s })
     go (inr d) (inl a) b = inl (record { literal = p.second; there = (ps.each n lt).second_in d; holds = (r n lt).by_first a })
     go (inr d) (inr a) (inl b) = inl (record { literal = p.first; there = (ps.each n lt).first_in d; holds = (r n lt).by_second b })
@@ -67,10 +67,10 @@ shapes_set pairs n p below two d = record {
   ];
 }
 
-pub goes_none : (s : StoreView) (count : ℕ) (pairs : List Pair) (t : TrailView) → Goes s count pairs pairs t t
+pub goes_none : (s : StoreView) (count : ℕ) (pairs : List Pair) (t : TrailView) → PropagatesPart s count pairs pairs t t
 goes_none s count pairs t = record { advances = advances_none s t; paired = refl; shapes = shapes_none pairs; prefixes = λ F G f g h. h }
 
-pub goes_on : (s : StoreView) (count : ℕ) (a b c : List Pair) (u v w : TrailView) → Goes s count a b u v → Goes s count b c v w → Goes s count a c u w
+pub goes_on : (s : StoreView) (count : ℕ) (a b c : List Pair) (u v w : TrailView) → PropagatesPart s count a b u v → PropagatesPart s count b c v w → PropagatesPart s count a c u w
 goes_on s count a b c u v w g h = record {
   advances = advances_on s u v w g.advances h.advances;
   paired = h.paired ∙ g.paired;
@@ -79,11 +79,11 @@ goes_on s count a b c u v w g h = record {
 }
 
 -- literals alone are added
-pub goes_by : (s : StoreView) (count : ℕ) (pairs : List Pair) (t u : TrailView) → Advances s t u → Goes s count pairs pairs t u
+pub goes_by : (s : StoreView) (count : ℕ) (pairs : List Pair) (t u : TrailView) → Advances s t u → PropagatesPart s count pairs pairs t u
 goes_by s count pairs t u a = record { advances = a; paired = refl; shapes = shapes_none pairs; prefixes = λ F G f g h. h }
 
 -- other pairs than the first are changed
-pub goes_past : (s : StoreView) (n : ℕ) (old new : List Pair) (t u : TrailView) → Advances s t u → IsRepaired n old new → Goes s n old new t u
+pub goes_past : (s : StoreView) (n : ℕ) (old new : List Pair) (t u : TrailView) → Advances s t u → IsRepaired n old new → PropagatesPart s n old new t u
 goes_past s n old new t u a r = record {
   advances = a;
   paired = r.paired;
@@ -96,17 +96,17 @@ module _ (s : StoreView) (pairs : List Pair) (t : TrailView) (n : ℕ) (f d othe
     (below : n < length pairs) (two : (get_or pairs n no_pair).first ≢ (get_or pairs n no_pair).second) (consistent : IsConsistent t.literals) (fails : Contains t.literals (lit_complement f))
     (open_d : Contains t.literals (lit_complement d) → ⊥) (differs : d ≢ other) (is : p ≡ record { first = other; second = d })
     (keeps : (F G : List Lit) → Rests F G (get_or pairs n no_pair) → Contains F (lit_complement other) → Contains G f) where
-  pub goes_moved : Goes s (length pairs) pairs (set pairs n p) t t
+  pub goes_moved : PropagatesPart s (length pairs) pairs (set pairs n p) t t
   goes_moved = record { advances = advances_none s t; paired = length-set pairs n p; shapes = shapes_set pairs n p below two (rw is (λ e. differs (sym e))); prefixes = prefixes }
     where
-      here : (F G : List Lit) → IsWithin F t.literals → IsWithin G t.literals → Rests F G (get_or pairs n no_pair) → Rests F G (record { first = other; second = d })
+      here : (F G : List Lit) → AreLiteralsAmong F t.literals → AreLiteralsAmong G t.literals → Rests F G (get_or pairs n no_pair) → Rests F G (record { first = other; second = d })
       here F G a b h = record {
         by_first = λ c. absurd (consistent f (b f (keeps F G h c)) fails);
         by_second = λ c. absurd (open_d (a (lit_complement d) c));
         alone = λ e. absurd (differs (sym e));
       }
 
-      prefixes : (F G : List Lit) → IsWithin F t.literals → IsWithin G t.literals → AreResting (length pairs) pairs F G → AreResting (length pairs) (set pairs n p) F G
+      prefixes : (F G : List Lit) → AreLiteralsAmong F t.literals → AreLiteralsAmong G t.literals → AreResting (length pairs) pairs F G → AreResting (length pairs) (set pairs n p) F G
       prefixes F G a b h m lt = elim (cases_eq m n) [
         | inl e ↦ rw (e, get_or-set_same pairs n p no_pair below, is) (here F G a b (h n below))
         | inr o ↦ rw (get_or-set_other pairs n m p no_pair o) (h m lt)
@@ -139,7 +139,7 @@ module _ (clause held : List Lit) (p : Pair) (a b : Lit) (d : a ≢ b) (one : Ha
   pub fresh_open : (Contains held (lit_complement a) → ⊥) → (Contains held (lit_complement b) → ⊥) → IsFresh clause held p AnyPrefix
   fresh_open na nb =
       let none = either (λ (l : Lit). Contains held (lit_complement l) → ⊥) na nb in
-      let rests : (F G : List Lit) → IsWithin F held → Rests F G p = λ F G w. record { by_first = λ c. absurd (none.0 (w _ c)); by_second = λ c. absurd (none.1 (w _ c)); alone = λ e. absurd (two_differ e) } in
+      let rests : (F G : List Lit) → AreLiteralsAmong F held → Rests F G p = λ F G w. record { by_first = λ c. absurd (none.0 (w _ c)); by_second = λ c. absurd (none.1 (w _ c)); alone = λ e. absurd (two_differ e) } in
       record { there = pair.first_in two_differ; now = λ F w. rests F held w; prefixes = λ r le s. rests (take r held) (take r held) (front_within r held le) }
 
   -- the one holds, and the other may be false

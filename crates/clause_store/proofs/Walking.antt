@@ -11,18 +11,18 @@ use Rattle.sat_trail.specs.Trails.{TrailView, no_lit}
 use Rattle.watch_index.specs.Indexes.{code, list_of}
 use Rattle.clause_store.specs.declared.pair.Pair.{Pair}
 use Rattle.clause_store.specs.Stores.{StoreView, no_pair}
-use Rattle.clause_store.specs.Watching.{Rests, AreResting, Passes, HavePassed, HaveAllPassed, IsIndexed, IsExchanged, IsWithin, Goes}
+use Rattle.clause_store.specs.Watching.{Rests, AreResting, Passes, HavePassed, HaveAllPassed, IsIndexed, IsExchanged, AreLiteralsAmong, PropagatesPart}
 use Rattle.clause_store.proofs.Adding.{holds_on, same_front}
 use Rattle.clause_store.proofs.Indexing.{lists, one_or_two}
 use Rattle.clause_store.proofs.Resting.{rests_on, front_within}
 
-passes_on : (held more : List Lit) (f : Lit) (p : Pair) → IsWithin held more → Passes held f p → Passes more f p
+passes_on : (held more : List Lit) (f : Lit) (p : Pair) → AreLiteralsAmong held more → Passes held f p → Passes more f p
 passes_on held more f p w h = record { as_first = λ e. w _ (h.as_first e); as_second = λ e. w _ (h.as_second e) }
 
 pub passed_none : (pairs : List Pair) (list : List ℕ) (held : List Lit) (f : Lit) → HavePassed pairs list 0 held f
 passed_none pairs list held f j lt = absurd (omega (arith, lt))
 
-pub passed_stays : (pairs : List Pair) (list : List ℕ) (at n : ℕ) (held more : List Lit) (f : Lit) → IsWithin held more → n ≡ get_or list at 0 → Passes more f (get_or pairs n no_pair) → HavePassed pairs list at held f → HavePassed pairs list (at + 1) more f
+pub passed_stays : (pairs : List Pair) (list : List ℕ) (at n : ℕ) (held more : List Lit) (f : Lit) → AreLiteralsAmong held more → n ≡ get_or list at 0 → Passes more f (get_or pairs n no_pair) → HavePassed pairs list at held f → HavePassed pairs list (at + 1) more f
 passed_stays pairs list at n held more f w is p h j lt within = elim (cases_lt j at) [
   | inl before ↦ passes_on held more f _ w (h j before within)
   | inr from ↦ let e : j ≡ at = omega (arith, lt, from) in rw e (rw (sym is) p)
@@ -31,7 +31,7 @@ passed_stays pairs list at n held more f w is p h j lt within = elim (cases_lt j
 swapped_before : (xs : List ℕ) (i j : ℕ) → i < length xs → j < i → get_or (swap_remove xs i 0) j 0 ≡ get_or xs j 0
 swapped_before xs i j lt before = get_or-take (length xs - 1) (set xs i (get_or xs (length xs - 1) 0)) j 0 (omega (arith, lt, before)) ∙ get_or-set_other xs i j (get_or xs (length xs - 1) 0) 0 (omega (arith, before))
 
-pub passed_moved : (pairs new : List Pair) (index new_index : List (List ℕ)) (at n : ℕ) (held more : List Lit) (f : Lit) → IsWithin held more → at < length (list_of index f) → IsExchanged (record { number = n; place = at; literal = f }) pairs new index new_index
+pub passed_moved : (pairs new : List Pair) (index new_index : List (List ℕ)) (at n : ℕ) (held more : List Lit) (f : Lit) → AreLiteralsAmong held more → at < length (list_of index f) → IsExchanged (record { number = n; place = at; literal = f }) pairs new index new_index
     → HavePassed pairs (list_of index f) at held f → HavePassed new (list_of new_index f) at more f
 passed_moved pairs new index new_index at n held more f w lt m h j before within =
     let list : List ℕ = list_of index f in
@@ -55,7 +55,7 @@ passed_all pairs index at held f ix le h n lt d = record {
     found (j, within, e) = subst (λ (k : ℕ). Passes held f (get_or pairs k no_pair)) (get_or_default (list_of index f) j 0 n within ∙ e) (h j (omega (arith, within, le)) within)
 
 -- one literal of the trail is done
-pub rests_more : (s : StoreView) (a b : List Pair) (u v : TrailView) (done : ℕ) (f : Lit) → done < length u.literals → f ≡ lit_complement (get_or u.literals done no_lit) → Goes s (length a) a b u v → HaveAllPassed b v.literals f
+pub rests_more : (s : StoreView) (a b : List Pair) (u v : TrailView) (done : ℕ) (f : Lit) → done < length u.literals → f ≡ lit_complement (get_or u.literals done no_lit) → PropagatesPart s (length a) a b u v → HaveAllPassed b v.literals f
     → AreResting (length a) a (take done u.literals) u.literals → AreResting (length a) b (take (done + 1) v.literals) v.literals
 rests_more s a b u v done f lt is g passed r n below = go (one_or_two (get_or b n no_pair))
   where

@@ -7,8 +7,8 @@ use Rattle.term_core.specs.declared.ids.Lit.{Lit}
 use Rattle.sat_trail.specs.Trails.{TrailView}
 use Rattle.clause_store.specs.declared.pair.Pair.{Pair}
 use Rattle.clause_store.specs.Stores.{StoreView, no_pair}
-use Rattle.clause_store.specs.Watching.{ArePairs, Rests, AreResting, HaveSameShapes, Goes, Below}
-use Rattle.clause_store.specs.Resting.{AreRising, IsPrefixOf, HaveRested, AreSettled, last_of}
+use Rattle.clause_store.specs.Watching.{ArePairs, Rests, AreResting, HaveSameShapes, PropagatesPart, Below}
+use Rattle.clause_store.specs.Resting.{LengthsRise, IsPrefixOf, HaveRested, AreSettled, last_of}
 use Rattle.clause_store.proofs.Adding.{same_front}
 use Rattle.clause_store.proofs.Indexing.{one_or_two}
 use Rattle.clause_store.proofs.Resting.{front_within}
@@ -24,11 +24,11 @@ module _ (new old : List ℕ) (f : IsPrefixOf new old) where
   front_had r (i, lt, e) = (i, omega (arith, lt, f.0), get_or_default old i r 0 (omega (arith, lt, f.0)) ∙ sym (front_at i lt) ∙ sym (get_or_default new i r 0 lt) ∙ e)
 
   -- they rise still
-  pub front_rising : AreRising old → AreRising new
+  pub front_rising : LengthsRise old → LengthsRise new
   front_rising h i j lt within = subst (λ (a : ℕ). a ≤ get_or new j 0) (sym (front_at i (omega (arith, lt, within)))) (subst (λ (b : ℕ). get_or old i 0 ≤ b) (sym (front_at j within)) (h i j lt (omega (arith, within, f.0))))
 
 -- none is longer than the last
-pub last_most : (rests : List ℕ) → AreRising rests → (r : ℕ) → Contains rests r → r ≤ last_of rests
+pub last_most : (rests : List ℕ) → LengthsRise rests → (r : ℕ) → Contains rests r → r ≤ last_of rests
 last_most rests h r (i, lt, e) =
     let is : get_or rests i 0 ≡ r = get_or_default rests i 0 r lt ∙ e in
     elim (cases_lt i (length rests - 1)) [
@@ -57,7 +57,7 @@ pub none_there : (rests : List ℕ) → rests ≡ [] → (r : ℕ) → Contains 
 none_there rests e r (i, lt, is) = omega (arith, lt, ap length e)
 
 -- a greater one comes last
-pub rising_push : (rests : List ℕ) (most : ℕ) → AreRising rests → ((r : ℕ) → Contains rests r → r ≤ most) → AreRising (rests ++ most ∷ [])
+pub rising_push : (rests : List ℕ) (most : ℕ) → LengthsRise rests → ((r : ℕ) → Contains rests r → r ≤ most) → LengthsRise (rests ++ most ∷ [])
 rising_push rests most h within i j lt jlt = elim (cases_lt j (length rests)) [
   | inl before ↦ subst (λ (a : ℕ). a ≤ get_or (rests ++ most ∷ []) j 0) (sym (get_or_append_left rests (most ∷ []) 0 i (omega (arith, lt, before))))
       (subst (λ (b : ℕ). get_or rests i 0 ≤ b) (sym (get_or_append_left rests (most ∷ []) 0 j before)) (h i j lt before))
@@ -68,7 +68,7 @@ rising_push rests most h within i j lt jlt = elim (cases_lt j (length rests)) [
 ]
 
 -- where the last literal of the longest is below a level, so are all
-pub below_last : (t : TrailView) (rests : List ℕ) (level : ℕ) → AreRising rests → ((p q : ℕ) → p < q → q < length t.literals → get_or t.levels p 0 ≤ get_or t.levels q 0) → last_of rests ≤ length t.literals
+pub below_last : (t : TrailView) (rests : List ℕ) (level : ℕ) → LengthsRise rests → ((p q : ℕ) → p < q → q < length t.literals → get_or t.levels p 0 ≤ get_or t.levels q 0) → last_of rests ≤ length t.literals
     → (0 < last_of rests → get_or t.levels (last_of rests - 1) 0 < level) → (r : ℕ) → Contains rests r → Below t level r
 below_last t rests level h rising le last r c i lt =
     let most = last_most rests h r c in
@@ -105,7 +105,7 @@ rested_by rests count pairs most small new held other e le within h = record {
 }
 
 -- after a part of propagation
-pub rested_goes : (s : StoreView) (rests : List ℕ) (count : ℕ) (old new : List Pair) (t u : TrailView) → t.propagated ≤ length t.literals → Goes s count old new t u → HaveRested rests count old t.propagated t.literals → HaveRested rests count new u.propagated u.literals
+pub rested_goes : (s : StoreView) (rests : List ℕ) (count : ℕ) (old new : List Pair) (t u : TrailView) → t.propagated ≤ length t.literals → PropagatesPart s count old new t u → HaveRested rests count old t.propagated t.literals → HaveRested rests count new u.propagated u.literals
 rested_goes s rests count old new t u le g h = record {
   rising = h.rising;
   within = λ r c. omega (arith, h.within r c, g.advances.1);
@@ -127,7 +127,7 @@ rested_more rests count pairs most held h one = record {
 }
 
 -- with one prefix more
-pub rested_push : (new old : List ℕ) (count : ℕ) (pairs : List Pair) (most len : ℕ) (held : List Lit) → HaveRested old count pairs most held → most ≤ len → AreRising new → ((r : ℕ) → Contains new r → Contains old r ⊎ (r ≡ len)) → AreResting count pairs (take len held) (take len held)
+pub rested_push : (new old : List ℕ) (count : ℕ) (pairs : List Pair) (most len : ℕ) (held : List Lit) → HaveRested old count pairs most held → most ≤ len → LengthsRise new → ((r : ℕ) → Contains new r → Contains old r ⊎ (r ≡ len)) → AreResting count pairs (take len held) (take len held)
     → HaveRested new count pairs len held
 rested_push new old count pairs most len held h le rising each last = record {
   rising = rising;
@@ -143,7 +143,7 @@ pub rested_seen : (rests : List ℕ) (count : ℕ) (pairs : List Pair) (most : �
 rested_seen rests count pairs most held seen h le e = rested_by rests count pairs most most (length seen) held seen (seen_same most held seen le e) le h.within h
 
 -- with a prefix of all that holds, which was seen
-pub rested_all : (new old : List ℕ) (count : ℕ) (pairs : List Pair) (most len : ℕ) (held seen : List Lit) → seen ≡ held → len ≡ length held → HaveRested old count pairs most held → most ≤ length held → AreRising new → ((r : ℕ) → Contains new r → Contains old r ⊎ (r ≡ len))
+pub rested_all : (new old : List ℕ) (count : ℕ) (pairs : List Pair) (most len : ℕ) (held seen : List Lit) → seen ≡ held → len ≡ length held → HaveRested old count pairs most held → most ≤ length held → LengthsRise new → ((r : ℕ) → Contains new r → Contains old r ⊎ (r ≡ len))
     → AreResting count pairs held held → HaveRested new count pairs (length seen) seen
 rested_all new old count pairs most len held seen se is h le rising each rested =
     let whole : take len held ≡ held = take_all len held (omega (arith, is)) in

@@ -2,7 +2,7 @@
 use Rattle.std.specs.Prelude.{◌≡◌, ◌≢◌, ◌<◌, ℕ, List, [], ◌++◌, length, map, take, get_or, Contains, Option, Some, None}
 use Rattle.term_core.specs.declared.ids.Lit.{Lit}
 use Rattle.clause_literals.specs.Literals.{lit_complement}
-use Rattle.clause_literals.specs.Statuses.{IsFalsified, IsSettled}
+use Rattle.clause_literals.specs.Statuses.{IsFalsified, PropagatesNothing}
 use Rattle.proof_log.specs.declared.premises.StepId.{StepId}
 use Rattle.sat_trail.specs.Trails.{TrailView, no_lit}
 use Rattle.clause_store.specs.Stores.{StoreView, no_step}
@@ -22,7 +22,7 @@ pub record IsImplied (s : StoreView) (held : List Lit) (l : Lit) (reason : Optio
   pub others_false : (m : Lit) → Contains (get_or s.clauses number []) m → m ≢ l → Contains held (lit_complement m)
 
 -- Literals are implied, each by a clause whose others are false by earlier ones.
-pub record Adds (s : StoreView) (old new : TrailView) : Type 0 where
+pub record AddsImplied (s : StoreView) (old new : TrailView) : Type 0 where
   -- the literals
   pub more : List Lit
   -- their reasons
@@ -44,7 +44,7 @@ pub record Adds (s : StoreView) (old new : TrailView) : Type 0 where
 
 -- literals are implied, and none is marked as propagated
 abbrev pub Advances : StoreView → TrailView → TrailView → Type 0
-Advances s old new = Adds s old new × (new.propagated ≡ old.propagated)
+Advances s old new = AddsImplied s old new × (new.propagated ≡ old.propagated)
 
 -- Each reason along the trail is that of a clause whose others are false by earlier literals.
 pub record AreImplied (s : StoreView) (t : TrailView) : Type 0 where
@@ -65,10 +65,10 @@ pub record IsClash (s : StoreView) (held : List Lit) (step : StepId) : Type 0 wh
   pub fails : IsFalsified held (get_or s.clauses number [])
 
 -- no clause is false or unit: of each a literal holds, or two different ones are not false
-abbrev pub IsQuiet : List (List Lit) → List Lit → Type 0
-IsQuiet clauses held = (c : List Lit) → Contains clauses c → IsSettled held c
+abbrev pub IsPropagated : List (List Lit) → List Lit → Type 0
+IsPropagated clauses held = (c : List Lit) → Contains clauses c → PropagatesNothing held c
 
 -- what propagation comes to: nothing more follows, or the clause of a step is false
-abbrev pub Ends : StoreView → List Lit → Propagation → Type 0
-Ends s held Quiet = IsQuiet s.clauses held
-Ends s held (Clash step) = IsClash s held step
+abbrev pub EndsPropagation : StoreView → List Lit → Propagation → Type 0
+EndsPropagation s held Quiet = IsPropagated s.clauses held
+EndsPropagation s held (Clash step) = IsClash s held step

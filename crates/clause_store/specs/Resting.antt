@@ -7,7 +7,7 @@ use Rattle.clause_store.specs.declared.parts.Parts.{Parts}
 use Rattle.clause_store.specs.Stores.{StoreView, no_pair, HasSeen}
 use Rattle.clause_store.specs.Entries.{clauses_of, steps_of, bare}
 use Rattle.clause_store.specs.Propagating.{Advances}
-use Rattle.clause_store.specs.Watching.{IsWatched, IsWithin, IsFalseOf, AreResting, AreKnownIn}
+use Rattle.clause_store.specs.Watching.{IsWatched, AreLiteralsAmong, IsFalseOf, AreResting, AreKnownIn}
 
 -- what the parts mean
 abbrev pub store_of : Parts → StoreView
@@ -19,13 +19,13 @@ store_of p = record {
 }
 
 -- the lengths rise
-abbrev pub AreRising : List ℕ → Type 0
-AreRising rests = (i j : ℕ) → i < j → j < length rests → get_or rests i 0 ≤ get_or rests j 0
+abbrev pub LengthsRise : List ℕ → Type 0
+LengthsRise rests = (i j : ℕ) → i < j → j < length rests → get_or rests i 0 ≤ get_or rests j 0
 
 -- The first pairs rest by the prefixes of these lengths, which are no longer than one.
 pub record HaveRested (rests : List ℕ) (count : ℕ) (pairs : List Pair) (most : ℕ) (held : List Lit) : Type 0 where
   -- they rise
-  pub rising : AreRising rests
+  pub rising : LengthsRise rests
   -- none is longer
   pub within : (r : ℕ) → Contains rests r → r ≤ most
   -- by each the pairs rest
@@ -51,7 +51,7 @@ abbrev pub IsPrefixOf : List ℕ → List ℕ → Type 0
 IsPrefixOf new old = (length new ≤ length old) × (new ≡ take (length new) old)
 
 -- The parts fit together.
-pub record IsKept (p : Parts) : Type 0 where
+pub record StoreFits (p : Parts) : Type 0 where
   -- clauses, pairs and lists
   pub watched : IsWatched p.watched
   -- what was looked at
@@ -81,7 +81,7 @@ pub record WorksOn (old new : Parts) (before after : TrailView) : Type 0 where
   -- so is what was seen
   pub seen : new.seen.items ≡ old.seen.items
   -- where the clauses that were looked at rested by what holds, they rest
-  pub prefixes : (F : List Lit) → IsWithin F before.literals → AreResting old.settled old.watched.pairs.items F before.literals
+  pub prefixes : (F : List Lit) → AreLiteralsAmong F before.literals → AreResting old.settled old.watched.pairs.items F before.literals
       → AreResting new.settled new.watched.pairs.items F after.literals
 
 -- what a look at the next clause comes to: it is false, or it was looked at

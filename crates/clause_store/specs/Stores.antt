@@ -3,7 +3,7 @@ use Rattle.std.specs.Prelude.{◌≡◌, ◌≢◌, ◌+◌, ◌<◌, ◌≤◌,
 use Rattle.std.specs.List.{sum_by}
 use Rattle.term_core.specs.declared.ids.Lit.{Lit}
 use Rattle.term_core.specs.Tables.{TableView, clause_at}
-use Rattle.clause_literals.specs.Literals.{Means}
+use Rattle.clause_literals.specs.Literals.{LiteralsMean}
 use Rattle.proof_log.specs.declared.premises.StepId.{StepId}
 use Rattle.proof_log.specs.Logs.{Logged, named, logged_at}
 use Rattle.sat_trail.specs.Trails.{TrailView, no_lit}
@@ -64,8 +64,8 @@ pub record AreWatchedBy (s : StoreView) (l : Lit) (list : List ℕ) : Type 0 whe
       → ((get_or s.pairs n no_pair).first ≡ l) ⊎ ((get_or s.pairs n no_pair).second ≡ l) → tally n list ≡ 1
 
 -- each literal's term is one of so many variables
-abbrev pub AreKnown : StoreView → ℕ → Type 0
-AreKnown s vars = All (All (λ (l : Lit). l.term.0 < vars)) s.clauses
+abbrev pub LiteralsAreBelow : StoreView → ℕ → Type 0
+LiteralsAreBelow s vars = All (All (λ (l : Lit). l.term.0 < vars)) s.clauses
 
 -- What the trail has marked as propagated are the oldest literals of what the store has seen.
 pub record HasSeen (s : StoreView) (t : TrailView) : Type 0 where
@@ -86,7 +86,7 @@ pub record IsAdded (t : TableView) (log : List Logged) (step : StepId) (old new 
   -- its literals
   pub clause : List Lit
   -- they are those of the step's clause
-  pub means : Means t clause (clause_at t (named (logged_at log step)))
+  pub means : LiteralsMean t clause (clause_at t (named (logged_at log step)))
   -- the clause is the last
   pub clauses : new.clauses ≡ old.clauses ++ clause ∷ []
   -- so is its step

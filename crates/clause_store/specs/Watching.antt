@@ -5,7 +5,7 @@ use Rattle.term_core.specs.declared.ids.Lit.{Lit}
 use Rattle.clause_literals.specs.Literals.{lit_complement}
 use Rattle.clause_literals.specs.Statuses.{IsFalsified}
 use Rattle.sat_trail.specs.Trails.{TrailView}
-use Rattle.watch_index.specs.Indexes.{code, IsPut}
+use Rattle.watch_index.specs.Indexes.{code, IsAppended}
 use Rattle.clause_store.specs.declared.pair.Pair.{Pair}
 use Rattle.clause_store.specs.Stores.{StoreView, no_pair, hits_at, tally}
 use Rattle.clause_store.specs.Entries.{clauses_of}
@@ -47,9 +47,9 @@ pub record IsEntered (old : List (List ℕ)) (p : Pair) (n : ℕ) (new : List (L
   -- the lists between
   pub middle : List (List ℕ)
   -- into the one first
-  pub first : IsPut old (code p.first) n middle
+  pub first : IsAppended old (code p.first) n middle
   -- then into the other
-  pub second : IsPut middle (code p.second) n new
+  pub second : IsAppended middle (code p.second) n new
 
 -- so it is where they are two, else each list is as it was
 pub record IsEnteredIfTwo (old : List (List ℕ)) (p : Pair) (n : ℕ) (new : List (List ℕ)) : Type 0 where
@@ -153,8 +153,8 @@ HaveAllPassed pairs held f = (n : ℕ) → n < length pairs → (get_or pairs n 
     → Passes held f (get_or pairs n no_pair)
 
 -- one list's literals are among the other's
-abbrev pub IsWithin : List Lit → List Lit → Type 0
-IsWithin xs ys = (l : Lit) → Contains xs l → Contains ys l
+abbrev pub AreLiteralsAmong : List Lit → List Lit → Type 0
+AreLiteralsAmong xs ys = (l : Lit) → Contains xs l → Contains ys l
 
 -- The clause of a number is false.
 pub record IsFalseOf (clauses : List (List Lit)) (held : List Lit) (n : ℕ) : Type 0 where
@@ -172,7 +172,7 @@ pub record HaveSameShapes (old new : List Pair) : Type 0 where
       → (get_or new n no_pair).first ≢ (get_or new n no_pair).second
 
 -- What a part of propagation does to the trail and to the first pairs: it adds what is implied, and undoes no rest.
-pub record Goes (s : StoreView) (count : ℕ) (old new : List Pair) (before after : TrailView) : Type 0 where
+pub record PropagatesPart (s : StoreView) (count : ℕ) (old new : List Pair) (before after : TrailView) : Type 0 where
   -- literals are implied, and none is marked
   pub advances : Advances s before after
   -- there are as many pairs
@@ -180,7 +180,7 @@ pub record Goes (s : StoreView) (count : ℕ) (old new : List Pair) (before afte
   -- of one literal or of two
   pub shapes : HaveSameShapes old new
   -- where the pairs rested, at whatever prefix of the literals, they rest
-  pub prefixes : (F G : List Lit) → IsWithin F before.literals → IsWithin G before.literals → AreResting count old F G → AreResting count new F G
+  pub prefixes : (F G : List Lit) → AreLiteralsAmong F before.literals → AreLiteralsAmong G before.literals → AreResting count old F G → AreResting count new F G
 
 -- A clause by its number, and the place at which it stands in the list of a literal that came to be false.
 pub record Visit : Type 0 where
@@ -207,10 +207,10 @@ pub record IsExchanged (v : Visit) (old new : List Pair) (index new_index : List
   pub list : get_or new_index (code v.literal) [] ≡ swap_remove (get_or index (code v.literal) []) v.place 0
 
 -- what a look at a clause comes to
-abbrev pub Looks : Visit → Watched → Watched → List Lit → Step → Type 0
-Looks v old new held steps.Stays = (new.pairs.items ≡ old.pairs.items) × (new.index ≡ old.index) × Passes held v.literal (get_or old.pairs.items v.number no_pair)
-Looks v old new held steps.Moved = IsExchanged v old.pairs.items new.pairs.items old.index new.index
-Looks v old new held steps.Clash = IsFalseOf (clauses_of old.entries.items) held v.number
+abbrev pub VisitsClause : Visit → Watched → Watched → List Lit → Step → Type 0
+VisitsClause v old new held steps.Stays = (new.pairs.items ≡ old.pairs.items) × (new.index ≡ old.index) × Passes held v.literal (get_or old.pairs.items v.number no_pair)
+VisitsClause v old new held steps.Moved = IsExchanged v old.pairs.items new.pairs.items old.index new.index
+VisitsClause v old new held steps.Clash = IsFalseOf (clauses_of old.entries.items) held v.number
 
 -- One clause alone may have got another pair.
 pub record IsRepaired (n : ℕ) (old new : List Pair) : Type 0 where
@@ -226,7 +226,7 @@ pub record IsFresh (clause held : List Lit) (p : Pair) (Safe : ℕ → Type 0) :
   -- it has a literal
   pub there : Contains clause p.first
   -- it rests by what holds now
-  pub now : (F : List Lit) → IsWithin F held → Rests F held p
+  pub now : (F : List Lit) → AreLiteralsAmong F held → Rests F held p
   -- and by each prefix that is safe
   pub prefixes : (r : ℕ) → r ≤ length held → Safe r → Rests (take r held) (take r held) p
 

@@ -4,7 +4,7 @@ ghost use Rattle.std.specs.Prelude.{◌≡◌, ◌≢◌, ◌<◌, [], Contains,
 ghost use Rattle.clause_store.specs.Stores.{no_pair};
 ghost use Rattle.clause_store.specs.Entries.{clauses_of, bare};
 ghost use Rattle.clause_store.specs.Propagating.{Advances};
-ghost use Rattle.clause_store.specs.Watching.{IsWatched, AreKnownIn, Has, IsAnother, IsOpenIn, AreFalseBut, IsRepaired, Goes, Freshly};
+ghost use Rattle.clause_store.specs.Watching.{IsWatched, AreKnownIn, Has, IsAnother, IsOpenIn, AreFalseBut, IsRepaired, PropagatesPart, Freshly};
 
 use crate::literals::{find_open, first_open, is_true, latest_but};
 use crate::pair::{Pair, other_of};
@@ -66,7 +66,7 @@ impl Watched {
         requires there { n < length self.old.pairs.items }
         ensures watched { IsWatched self.new }
         ensures entries { self.new.entries.items ≡ self.old.entries.items }
-        ensures goes { Goes (bare self.old.entries.items) n self.old.pairs.items self.new.pairs.items
+        ensures goes { PropagatesPart (bare self.old.entries.items) n self.old.pairs.items self.new.pairs.items
             trail.old trail.new }
         ensures repaired { IsRepaired n self.old.pairs.items self.new.pairs.items }
         ensures fresh { IfOk result (Freshly (get_or (clauses_of self.old.entries.items) n [])

@@ -8,8 +8,8 @@ ghost use Rattle.clause_literals.specs.Statuses.{IsFalsified, IsUnit};
 ghost use Rattle.proof_log.specs.declared.premises.StepId.{StepId};
 ghost use Rattle.proof_log.specs.Logs.{Logged};
 ghost use Rattle.sat_trail.specs.Trails.{TrailView, empty as no_trail, HasSame, IsPushed, IsCutTo};
-ghost use Rattle.clause_store.specs.Stores.{StoreView, AreKnown, HasSeen, IsAdded};
-ghost use Rattle.clause_store.specs.Propagating.{Adds, AreImplied, IsQuiet};
+ghost use Rattle.clause_store.specs.Stores.{StoreView, LiteralsAreBelow, HasSeen, IsAdded};
+ghost use Rattle.clause_store.specs.Propagating.{AddsImplied, AreImplied, IsPropagated};
 
 /// States that a store has seen what its trail has marked as propagated, whatever the calls of either did: at first, when a literal
 /// is decided or implied, after going back, with a variable or a clause more.
@@ -30,7 +30,7 @@ pub fn reasons_stay_right()
     ensures begun { (s : StoreView) → AreImplied s no_trail }
     ensures decided { (s : StoreView) (t u : TrailView) (l : Lit) (n : ℕ) → AreImplied s t → IsPushed t l None n u
         → AreImplied s u }
-    ensures propagated { (s : StoreView) (t u : TrailView) → AreImplied s t → Adds s t u → AreImplied s u }
+    ensures propagated { (s : StoreView) (t u : TrailView) → AreImplied s t → AddsImplied s t u → AreImplied s u }
     ensures cut { (s : StoreView) (t u : TrailView) (n : ℕ) → AreImplied s t → IsCutTo t n u → AreImplied s u }
     ensures grown { (s : StoreView) (t u : TrailView) → AreImplied s t → HasSame t u → AreImplied s u }
     ensures added { (x : TableView) (log : List Logged) (id : StepId) (s n : StoreView) (t : TrailView)
@@ -39,14 +39,14 @@ pub fn reasons_stay_right()
 
 /// States that a clause that is added is over the terms of its table.
 pub fn clauses_stay_known()
-    ensures { (x : TableView) (log : List Logged) (id : StepId) (s n : StoreView) (vars : ℕ) → AreKnown s vars
-        → IsAdded x log id s n → length x.terms ≤ vars → AreKnown n vars }
+    ensures { (x : TableView) (log : List Logged) (id : StepId) (s n : StoreView) (vars : ℕ) → LiteralsAreBelow s vars
+        → IsAdded x log id s n → length x.terms ≤ vars → LiteralsAreBelow n vars }
 {}
 
 /// States that where clauses are quiet under literals none of which holds with its complement, none is false and none is unit.
 pub fn quiet_clauses_are_neither_false_nor_unit()
     ensures no_false { (held : List Lit) (clauses : List (List Lit)) (c : List Lit) → IsConsistent held
-        → IsQuiet clauses held → Contains clauses c → IsFalsified held c → ⊥ }
+        → IsPropagated clauses held → Contains clauses c → IsFalsified held c → ⊥ }
     ensures no_unit { (held : List Lit) (clauses : List (List Lit)) (c : List Lit) (l : Lit) → IsConsistent held
-        → IsQuiet clauses held → Contains clauses c → IsUnit held c l → ⊥ }
+        → IsPropagated clauses held → Contains clauses c → IsUnit held c l → ⊥ }
 {}

@@ -4,8 +4,8 @@ ghost use Rattle.std.specs.Prelude.{◌≡◌, ◌+◌, ◌<◌, ◌≤◌, ◌�
 ghost use Rattle.clause_store.specs.Entries.{clauses_of, bare};
 ghost use Rattle.clause_store.specs.Stores.{HasSeen};
 ghost use Rattle.clause_store.specs.Watching.{AreKnownIn, AreResting, IsFalseOf, Below};
-ghost use Rattle.clause_store.specs.Propagating.{Adds, Advances, IsQuiet};
-ghost use Rattle.clause_store.specs.Resting.{AreRising, IsPrefixOf, last_of, IsKept, IsAtWork, WorksOn, SettlesOne, IsSameBut, store_of};
+ghost use Rattle.clause_store.specs.Propagating.{AddsImplied, Advances, IsPropagated};
+ghost use Rattle.clause_store.specs.Resting.{LengthsRise, IsPrefixOf, last_of, StoreFits, IsAtWork, WorksOn, SettlesOne, IsSameBut, store_of};
 
 use crate::fresh::Fresh;
 use crate::watched::Watched;
@@ -31,7 +31,7 @@ pub(crate) struct Parts {
 
 /// Drops the prefixes that are longer than one.
 fn drop_longer(rests: &mut Vec<usize>, most: usize)
-    requires { AreRising rests.old.items }
+    requires { LengthsRise rests.old.items }
     ensures front { IsPrefixOf rests.new.items rests.old.items }
     ensures within { (r : ℕ) → Contains rests.new.items r → r ≤ most }
 {
@@ -45,7 +45,7 @@ fn drop_longer(rests: &mut Vec<usize>, most: usize)
 
 /// Drops the prefixes of a trail that have literals of a level or of one above.
 fn drop_levels(rests: &mut Vec<usize>, level: u64, trail: &SatTrail)
-    requires rising { AreRising rests.old.items }
+    requires rising { LengthsRise rests.old.items }
     requires within { (r : ℕ) → Contains rests.old.items r → r ≤ length trail.now.literals }
     ensures front { IsPrefixOf rests.new.items rests.old.items }
     ensures below { (r : ℕ) → Contains rests.new.items r → Below trail.now level r }
@@ -78,9 +78,9 @@ fn see(seen: &mut Vec<Lit>, trail: &SatTrail) -> Result<(), NoMemory>
 
 /// Puts a length last, if it is not the last already.
 fn note(rests: &mut Vec<usize>, len: usize) -> Result<(), NoMemory>
-    requires rising { AreRising rests.old.items }
+    requires rising { LengthsRise rests.old.items }
     requires most { (r : ℕ) → Contains rests.old.items r → r ≤ len }
-    ensures rising { AreRising rests.new.items }
+    ensures rising { LengthsRise rests.new.items }
     ensures each { (r : ℕ) → Contains rests.new.items r → Contains rests.old.items r ⊎ (r ≡ len) }
     ensures err { OnErr result (rests.new.items ≡ rests.old.items) }
 {
@@ -182,7 +182,7 @@ impl Parts {
     /// Drops the prefixes that the trail left, and looks at the clauses without a second literal where none is left. It gives the
     /// number of one that is false.
     fn begin(&mut self, trail: &mut SatTrail) -> Option<usize>
-        requires kept { IsKept self.old }
+        requires kept { StoreFits self.old }
         requires known { AreKnownIn self.old.watched trail.old.vars }
         requires seen { HasSeen (store_of self.old) trail.old }
         ensures work { IsAtWork self.new trail.new }
@@ -206,7 +206,7 @@ impl Parts {
         requires work { IsAtWork self.old trail.old }
         requires rested { AreResting self.old.settled self.old.watched.pairs.items
             trail.old.literals trail.old.literals }
-        ensures kept { IsKept self.new }
+        ensures kept { StoreFits self.new }
         ensures watched { self.new.watched ≡ self.old.watched }
         ensures seen { HasSeen (store_of self.new) trail.new }
         ensures same { IsSameBut trail.old trail.new }
@@ -220,15 +220,15 @@ impl Parts {
 
     /// Implies what the clauses force, and gives the number of one that is false.
     pub(crate) fn propagate(&mut self, trail: &mut SatTrail) -> Result<Option<usize>, NoMemory>
-        requires kept { IsKept self.old }
+        requires kept { StoreFits self.old }
         requires known { AreKnownIn self.old.watched trail.old.vars }
         requires seen { HasSeen (store_of self.old) trail.old }
-        ensures kept { IsKept self.new }
+        ensures kept { StoreFits self.new }
         ensures entries { self.new.watched.entries.items ≡ self.old.watched.entries.items }
         ensures seen { HasSeen (store_of self.new) trail.new }
-        ensures adds { Adds (bare self.old.watched.entries.items) trail.old trail.new }
+        ensures adds { AddsImplied (bare self.old.watched.entries.items) trail.old trail.new }
         ensures ends { IfOk result (λ o. MatchOption o
-            (IsQuiet (clauses_of self.old.watched.entries.items) trail.new.literals)
+            (IsPropagated (clauses_of self.old.watched.entries.items) trail.new.literals)
             (IsFalseOf (clauses_of self.old.watched.entries.items) trail.new.literals)) }
     {
         if let Some(n) = self.begin(trail) {

@@ -1,8 +1,8 @@
 //! Unit propagation.
 
 ghost use Rattle.std.specs.Prelude.{IfOk};
-ghost use Rattle.clause_store.specs.Stores.{AreKnown, HasSeen, HasSameClauses};
-ghost use Rattle.clause_store.specs.Propagating.{Adds, Ends};
+ghost use Rattle.clause_store.specs.Stores.{LiteralsAreBelow, HasSeen, HasSameClauses};
+ghost use Rattle.clause_store.specs.Propagating.{AddsImplied, EndsPropagation};
 
 use crate::store::ClauseStore;
 use proof_log::StepId;
@@ -28,12 +28,12 @@ impl ClauseStore {
     /// `NoMemory` may come before the end; what was implied until then stays, and is rightly implied.
     /// Source: Davis, Logemann and Loveland 1962.
     pub fn propagate(&mut self, trail: &mut SatTrail) -> Result<Propagation, NoMemory>
-        requires known { AreKnown self.old trail.old.vars }
+        requires known { LiteralsAreBelow self.old trail.old.vars }
         requires seen { HasSeen self.old trail.old }
         ensures same { HasSameClauses self.old self.new }
         ensures seen { HasSeen self.new trail.new }
-        ensures adds { Adds self.old trail.old trail.new }
-        ensures ends { IfOk result (Ends self.old trail.new.literals) }
+        ensures adds { AddsImplied self.old trail.old trail.new }
+        ensures ends { IfOk result (EndsPropagation self.old trail.new.literals) }
     {
         match self.parts.propagate(trail)? {
             Some(n) => Ok(Propagation::Clash(self.step(n))),

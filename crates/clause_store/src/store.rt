@@ -31,11 +31,11 @@ impl Model for ClauseStore {
 
     ghost Value = { StoreView };
 
-    ghost use Rattle.clause_store.specs.Resting.{store_of, IsKept};
+    ghost use Rattle.clause_store.specs.Resting.{store_of, StoreFits};
 
     ghost view = { λ s. store_of s.parts };
 
-    ghost invariant = { λ s. IsKept s.parts };
+    ghost invariant = { λ s. StoreFits s.parts };
 }
 
 impl ClauseStore {

@@ -4,7 +4,7 @@ ghost use Rattle.std.specs.Prelude.{◌≡◌, ◌≢◌, ◌+◌, ◌<◌, Cont
 ghost use Rattle.clause_literals.specs.Literals.{lit_complement};
 ghost use Rattle.watch_index.specs.Indexes.{list_of};
 ghost use Rattle.clause_store.specs.Entries.{clauses_of, bare};
-ghost use Rattle.clause_store.specs.Watching.{IsWatched, AreKnownIn, IsPairOf, HaveSameLists, IsEntered, IsEnteredIfTwo, IsOneMore, IsAsBefore, HaveAllPassed, IsFalseOf, Goes, Looks};
+ghost use Rattle.clause_store.specs.Watching.{IsWatched, AreKnownIn, IsPairOf, HaveSameLists, IsEntered, IsEnteredIfTwo, IsOneMore, IsAsBefore, HaveAllPassed, IsFalseOf, PropagatesPart, VisitsClause};
 
 use crate::entry::Entry;
 use crate::literals::{is_false, is_true, next_open};
@@ -122,9 +122,9 @@ impl Watched {
         requires number { n ≡ get_or (list_of self.old.index f) at 0 }
         ensures watched { IsWatched self.new }
         ensures entries { self.new.entries.items ≡ self.old.entries.items }
-        ensures goes { Goes (bare self.old.entries.items) (length self.old.pairs.items) self.old.pairs.items
+        ensures goes { PropagatesPart (bare self.old.entries.items) (length self.old.pairs.items) self.old.pairs.items
             self.new.pairs.items trail.old trail.new }
-        ensures looks { IfOk result (Looks (record { number = n; place = at; literal = f }) self.old self.new
+        ensures looks { IfOk result (VisitsClause (record { number = n; place = at; literal = f }) self.old self.new
             trail.new.literals) }
     {
         trail.is_sound();
@@ -160,7 +160,7 @@ impl Watched {
         requires fails { Contains trail.old.literals (lit_complement f) }
         ensures watched { IsWatched self.new }
         ensures entries { self.new.entries.items ≡ self.old.entries.items }
-        ensures goes { Goes (bare self.old.entries.items) (length self.old.pairs.items) self.old.pairs.items
+        ensures goes { PropagatesPart (bare self.old.entries.items) (length self.old.pairs.items) self.old.pairs.items
             self.new.pairs.items trail.old trail.new }
         ensures ends { IfOk result (λ o. MatchOption o (HaveAllPassed self.new.pairs.items trail.new.literals f)
             (IsFalseOf (clauses_of self.old.entries.items) trail.new.literals)) }

@@ -16,7 +16,7 @@ use Rattle.term_core.specs.Tables.{TableView, term_at, AreIn, clause_at}
 use Rattle.term_core.proofs.TermsExtend.{clause_at-kept}
 use Rattle.proof_log.specs.declared.premises.StepId.{StepId}
 use Rattle.proof_log.specs.Logs.{Logged, stated}
-use Rattle.term_clauses.specs.Stating.{Widens, Says}
+use Rattle.term_clauses.specs.Stating.{Widens, StatesClauses}
 use Rattle.term_clauses.specs.Marks.{marked, AreMarksOf, AreMarked}
 use Rattle.term_clauses.proofs.Bases.{flat_marked}
 use Rattle.term_clauses.proofs.Choosing.{term_kept}
@@ -50,7 +50,7 @@ pub record AreMarksOfSearch (t : TableView) (p : Problem) (marks : List Bool) : 
   pub once : AreOnce (marked marks t.terms)
 
 -- the numbers are those of the clauses of the search
-pub has_clauses : (t u : TableView) (log : List Logged) (p : Problem) (marks : List Bool) (steps : List StepId) → AreMarksOfSearch t p marks → AreOnce (whole_terms p) → Says u log steps (alone p.asserted ++ flat_marked whole_clauses_of marks t.terms) → HasClauses u log p steps
+pub has_clauses : (t u : TableView) (log : List Logged) (p : Problem) (marks : List Bool) (steps : List StepId) → AreMarksOfSearch t p marks → AreOnce (whole_terms p) → StatesClauses u log steps (alone p.asserted ++ flat_marked whole_clauses_of marks t.terms) → HasClauses u log p steps
 has_clauses t u log p marks steps m once says =
     let units = alone p.asserted in
     let all = whole_terms p in
@@ -92,7 +92,7 @@ are_search_terms t u wider p ids marks m sorted listed =
     }
 
 -- no number says nothing
-pub Says-none : (t : TableView) (log : List Logged) (steps : List StepId) → steps ≡ [] → Says t log steps []
+pub Says-none : (t : TableView) (log : List Logged) (steps : List StepId) → steps ≡ [] → StatesClauses t log steps []
 Says-none t log steps e = record {
   there = λ k d lt. absurd (omega (arith, lt, ap length e));
   same = ap (map (stated t log)) e;

@@ -22,11 +22,11 @@ use Rattle.ratio128.specs.Meant.{fraction}
 use Rattle.term_core.specs.declared.ids.TermId.{TermId}
 use Rattle.term_core.specs.declared.nodes.Head.TheVariants as heads
 use Rattle.term_core.specs.declared.nodes.Node.{Node}
-use Rattle.term_core.specs.Tables.{TableView, term_at, IsIn, AreIn, clause_at, head_meant, takes, HasHead, IsPlaced, Shape, Fits, shape_term}
+use Rattle.term_core.specs.Tables.{TableView, term_at, IsIn, AreIn, clause_at, head_meant, takes, HasHead, IsPlaced, Shape, ShapeFits, shape_term}
 use Rattle.term_core.proofs.TermsExtend.{term_at-kept}
 use Rattle.proof_log.specs.Logs.{IsFormulaIn}
 use Rattle.proof_log.specs.Theories.{IsTermIn}
-use Rattle.term_clauses.specs.Stating.{Widens, Names}
+use Rattle.term_clauses.specs.Stating.{Widens, NamesTerm}
 use Rattle.term_clauses.proofs.Arguments.{no_number}
 use Rattle.term_clauses.proofs.Parts.{formula_negated, symbols_same}
 use Rattle.term_clauses.proofs.Choosing.{term_kept}
@@ -34,7 +34,7 @@ use Rattle.clausify.specs.declared.sides.Sides.{Sides}
 use Rattle.clausify.specs.Orders.{IsNumberIn, order_at, AreSidesOf, order_clause, arguments_by}
 use Rattle.clausify.proofs.Taken.{forth_taken, back_taken}
 
-equal_fits : (t : TableView) (s : Shape) → Fits t s → s.head ≡ heads.Equal → length s.arguments ≡ 2
+equal_fits : (t : TableView) (s : Shape) → ShapeFits t s → s.head ≡ heads.Equal → length s.arguments ≡ 2
 equal_fits t s f e =
     sym (length-map s.arguments (term_at t)) ∙ sym (length-map (clause_at t s.arguments) sort_of)
     ∙ equal_takes (map sort_of (clause_at t s.arguments)) (ap (λ h. takes (head_meant t h) (map sort_of (clause_at t s.arguments))) (sym e) ∙ f.sorts)
@@ -55,7 +55,7 @@ sides_are t id x whole left_in right_in means number =
     }
 
 -- of a node whose head is `=`
-pub sides_found : (t : TableView) (id : TermId) (s : Shape) (ids : List TermId) → IsTermIn t id → term_at t id ≡ shape_term t s → Fits t s → s.head ≡ heads.Equal → ids ≡ s.arguments
+pub sides_found : (t : TableView) (id : TermId) (s : Shape) (ids : List TermId) → IsTermIn t id → term_at t id ≡ shape_term t s → ShapeFits t s → s.head ≡ heads.Equal → ids ≡ s.arguments
     → sort_of (term_at t (get_or ids 0 no_number)) ≡ Number → AreSidesOf t (term_at t id) (record { left = get_or ids 0 no_number; right = get_or ids 1 no_number })
 sides_found t id s ids whole means fits head same number =
     let count : length ids ≡ 2 = ap length same ∙ equal_fits t s fits head in
@@ -128,19 +128,19 @@ module _ (t u : TableView) (wider : Widens t u) where
   }
 
   -- a formula is one where it is put
-  formula_put : (id : TermId) (w : Term) → IsFormulaOver t.symbols w → Names u w id → IsFormulaIn u id
+  formula_put : (id : TermId) (w : Term) → IsFormulaOver t.symbols w → NamesTerm u w id → IsFormulaIn u id
   formula_put id w f put = (
     put.0,
     subst (λ (fs : List Symbol). IsFormulaOver fs (term_at u id)) (sym (symbols_same t u wider)) (subst (IsFormulaOver t.symbols) (sym put.1) f),
   )
 
-  pub order_in : (a b id : TermId) → IsNumberIn t a → IsNumberIn t b → Names u (order_at t a b) id → IsFormulaIn u id
+  pub order_in : (a b id : TermId) → IsNumberIn t a → IsNumberIn t b → NamesTerm u (order_at t a b) id → IsFormulaIn u id
   order_in a b id h k put = formula_put id (order_at t a b) (order_formula t.symbols (term_at t a) (term_at t b) h.0.1 k.0.1 h.1 k.1) put
 
-  pub denied_in : (a b id : TermId) → IsNumberIn t a → IsNumberIn t b → Names u (negated (order_at t a b)) id → IsFormulaIn u id
+  pub denied_in : (a b id : TermId) → IsNumberIn t a → IsNumberIn t b → NamesTerm u (negated (order_at t a b)) id → IsFormulaIn u id
   denied_in a b id h k put = formula_put id (negated (order_at t a b)) (order_denied t.symbols (term_at t a) (term_at t b) h.0.1 k.0.1 h.1 k.1) put
 
-  pub fact_in : (id : TermId) (x : Sides) (fact : TermId) → IsTermIn t id → AreSidesOf t (term_at t id) x → Names u (order_fact (term_at t x.left) (term_at t x.right)) fact → IsFormulaIn u fact
+  pub fact_in : (id : TermId) (x : Sides) (fact : TermId) → IsTermIn t id → AreSidesOf t (term_at t id) x → NamesTerm u (order_fact (term_at t x.left) (term_at t x.right)) fact → IsFormulaIn u fact
   fact_in id x fact whole is put = formula_put fact (order_fact (term_at t x.left) (term_at t x.right)) (fact_over t id x whole is) put
 
 -- a disjunction of three formulas is placed

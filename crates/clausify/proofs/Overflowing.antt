@@ -17,21 +17,21 @@ use Rattle.clausify.specs.declared.sides.Sides.{Sides}
 use Rattle.clausify.specs.declared.stop.ClauseStop.{ClauseStop}
 use Rattle.clausify.specs.declared.stop.ClauseStop.TheVariants as stops
 use Rattle.clausify.specs.Orders.{order_at, AreSidesOf, order_clause, arguments_by}
-use Rattle.clausify.specs.Overflows.{OnWide}
+use Rattle.clausify.specs.Overflows.{OnClauseOverflow}
 use Rattle.spec_causes.specs.Checks.{LeavesOrder, IsOverflowAmong}
 
-on_wide : (P Q : Overflow → Type 0) → ((o : Overflow) → P o → Q o) → (s : ClauseStop) → OnWide P s → OnWide Q s
+on_wide : (P Q : Overflow → Type 0) → ((o : Overflow) → P o → Q o) → (s : ClauseStop) → OnClauseOverflow P s → OnClauseOverflow Q s
 on_wide P Q f (stops.Wide w) h = f _ h
 on_wide P Q f stops.Memory h = tt
 
 -- what a fault says, where that follows
-pub wide_weaker : {A : Type 0} (r : Result A ClauseStop) (P Q : Overflow → Type 0) → ((o : Overflow) → P o → Q o) → IfErr r (OnWide P) → IfErr r (OnWide Q)
-wide_weaker r P Q f h = IfErr-weaker r (OnWide P) (OnWide Q) (on_wide P Q f) h
+pub wide_weaker : {A : Type 0} (r : Result A ClauseStop) (P Q : Overflow → Type 0) → ((o : Overflow) → P o → Q o) → IfErr r (OnClauseOverflow P) → IfErr r (OnClauseOverflow Q)
+wide_weaker r P Q f h = IfErr-weaker r (OnClauseOverflow P) (OnClauseOverflow Q) (on_wide P Q f) h
 
 -- and so what one that is passed on says
-pub passed_on : {A : Type 0} (P Q : Overflow → Type 0) (r : Result A ClauseStop) (s : ClauseStop) → IsErrAnd r (λ y. y ≡ s) → ((o : Overflow) → P o → Q o) → OnWide P s → IfErr r (OnWide Q)
+pub passed_on : {A : Type 0} (P Q : Overflow → Type 0) (r : Result A ClauseStop) (s : ClauseStop) → IsErrAnd r (λ y. y ≡ s) → ((o : Overflow) → P o → Q o) → OnClauseOverflow P s → IfErr r (OnClauseOverflow Q)
 passed_on P Q (Ok a) s is f h = tt
-passed_on P Q (Err y) s is f h = subst (OnWide Q) (sym is) (on_wide P Q f s h)
+passed_on P Q (Err y) s is f h = subst (OnClauseOverflow Q) (sym is) (on_wide P Q f s h)
 
 -- an equality among terms is one among more
 pub among_more : (ts us : List Term) → AreAmong ts us → (o : Overflow) → IsOverflowAmong ts o → IsOverflowAmong us o

@@ -12,6 +12,6 @@ abbrev pub IsOrderOverflow : Problem → Overflow → Type 0
 IsOrderOverflow p o = IsOverflowAmong (whole_terms p) o
 
 -- a number that leaves the bound has a property; out of memory says nothing
-abbrev pub OnWide : (Overflow → Type 0) → ClauseStop → Type 0
-OnWide P (stops.Wide w) = P (overflow w)
-OnWide P stops.Memory = Unit {0}
+abbrev pub OnClauseOverflow : (Overflow → Type 0) → ClauseStop → Type 0
+OnClauseOverflow P (stops.Wide w) = P (overflow w)
+OnClauseOverflow P stops.Memory = Unit {0}

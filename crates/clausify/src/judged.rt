@@ -8,9 +8,9 @@ ghost use Rattle.ratio128.specs.Meant.{fraction};
 ghost use Rattle.term_core.specs.Tables.{AreIn, clause_at};
 ghost use Rattle.proof_log.specs.Logs.{AreFormulasIn, IsLogOf};
 ghost use Rattle.term_clauses.specs.Growth.{Grows};
-ghost use Rattle.term_clauses.specs.Stating.{listed, Tells};
+ghost use Rattle.term_clauses.specs.Stating.{listed_steps, Tells};
 ghost use Rattle.clausify.specs.Orders.{arguments_by};
-ghost use Rattle.clausify.specs.Overflows.{OnWide};
+ghost use Rattle.clausify.specs.Overflows.{OnClauseOverflow};
 
 use crate::stop::ClauseStop;
 use linear_form::{ArithFault, Coeff, la_generic};
@@ -42,9 +42,9 @@ pub(crate) fn state_judged(
     requires clause { AreFormulasIn table.now clause.items }
     requires taken { IsTakenOrWide (la_generic (clause_at table.now clause.items) (arguments_by weight)) }
     ensures grows { Grows [] table.now table.now log.old log.new }
-    ensures tells { OnOk result (Tells (listed table.now log.old steps.old.items)
-        (listed table.now log.new steps.new.items) (clause_at table.now clause.items ∷ [])) }
-    ensures wide { IfErr result (OnWide
+    ensures tells { OnOk result (Tells (listed_steps table.now log.old steps.old.items)
+        (listed_steps table.now log.new steps.new.items) (clause_at table.now clause.items ∷ [])) }
+    ensures wide { IfErr result (OnClauseOverflow
         (λ o. la_generic (clause_at table.now clause.items) (arguments_by weight) ≡ Err (wide o))) }
 {
     judge(alloc, table, &clause, weight)?;
@@ -62,7 +62,7 @@ fn judge(
     requires there { AreIn table.now clause.now }
     requires taken { IsTakenOrWide (la_generic (clause_at table.now clause.now) (arguments_by weight)) }
     ensures taken { OnOk result (la_generic (clause_at table.now clause.now) (arguments_by weight) ≡ Ok tt) }
-    ensures wide { IfErr result (OnWide
+    ensures wide { IfErr result (OnClauseOverflow
         (λ o. la_generic (clause_at table.now clause.now) (arguments_by weight) ≡ Err (wide o))) }
 {
     let arguments = [Coeff::Number(weight), Coeff::Number(one())];
@@ -88,8 +88,8 @@ fn state_taken(
     requires clause { AreFormulasIn table.now clause.items }
     requires taken { la_generic (clause_at table.now clause.items) (arguments_by weight) ≡ Ok tt }
     ensures grows { Grows [] table.now table.now log.old log.new }
-    ensures tells { OnOk result (Tells (listed table.now log.old steps.old.items)
-        (listed table.now log.new steps.new.items) (clause_at table.now clause.items ∷ [])) }
+    ensures tells { OnOk result (Tells (listed_steps table.now log.old steps.old.items)
+        (listed_steps table.now log.new steps.new.items) (clause_at table.now clause.items ∷ [])) }
 {
     ratios_are_fractions();
     let weights = vec![in alloc; weight, one()]?;

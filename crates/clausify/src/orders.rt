@@ -8,9 +8,9 @@ ghost use Rattle.term_core.specs.Tables.{term_at};
 ghost use Rattle.proof_log.specs.Logs.{IsFormulaIn, IsLogOf};
 ghost use Rattle.proof_log.specs.Theories.{IsTermIn};
 ghost use Rattle.term_clauses.specs.Growth.{Grows};
-ghost use Rattle.term_clauses.specs.Stating.{listed, Tells};
+ghost use Rattle.term_clauses.specs.Stating.{listed_steps, Tells};
 ghost use Rattle.clausify.specs.Orders.{IsNumberIn, AreSidesOf, order_clause, arguments_by};
-ghost use Rattle.clausify.specs.Overflows.{OnWide};
+ghost use Rattle.clausify.specs.Overflows.{OnClauseOverflow};
 ghost use Rattle.spec_causes.specs.Checks.{IsOverflowAmong};
 
 use crate::judged::{one, state_judged};
@@ -37,9 +37,9 @@ pub(crate) fn state_orders(
     requires there { IsTermIn table.old id }
     requires log { IsLogOf table.old log.old }
     ensures grows { Grows [] table.old table.new log.old log.new }
-    ensures tells { OnOk result (Tells (listed table.old log.old steps.old.items)
-        (listed table.new log.new steps.new.items) (order_clauses (term_at table.old id))) }
-    ensures wide { IfErr result (OnWide (IsOverflowAmong (term_at table.old id ∷ []))) }
+    ensures tells { OnOk result (Tells (listed_steps table.old log.old steps.old.items)
+        (listed_steps table.new log.new steps.new.items) (order_clauses (term_at table.old id))) }
+    ensures wide { IfErr result (OnClauseOverflow (IsOverflowAmong (term_at table.old id ∷ []))) }
 {
     let Some(sides) = sides_of(table, id) else {
         return Ok(());
@@ -81,8 +81,8 @@ fn state_fact(
     requires sides { AreSidesOf table.old (term_at table.old id) sides }
     requires log { IsLogOf table.old log.old }
     ensures grows { Grows [] table.old table.new log.old log.new }
-    ensures tells { OnOk result (Tells (listed table.old log.old steps.old.items)
-        (listed table.new log.new steps.new.items)
+    ensures tells { OnOk result (Tells (listed_steps table.old log.old steps.old.items)
+        (listed_steps table.new log.new steps.new.items)
         ((order_fact (term_at table.old sides.left) (term_at table.old sides.right) ∷ []) ∷ [])) }
 {
     proof_log::laws::logs_stand_in_grown_tables();
@@ -109,9 +109,9 @@ fn state_order(
     requires log { IsLogOf table.old log.old }
     requires taken { IsTakenOrWide (la_generic (order_clause table.old id a b) (arguments_by weight)) }
     ensures grows { Grows [] table.old table.new log.old log.new }
-    ensures tells { OnOk result (Tells (listed table.old log.old steps.old.items)
-        (listed table.new log.new steps.new.items) (order_clause table.old id a b ∷ [])) }
-    ensures wide { IfErr result (OnWide
+    ensures tells { OnOk result (Tells (listed_steps table.old log.old steps.old.items)
+        (listed_steps table.new log.new steps.new.items) (order_clause table.old id a b ∷ [])) }
+    ensures wide { IfErr result (OnClauseOverflow
         (λ o. la_generic (order_clause table.old id a b) (arguments_by weight) ≡ Err (wide o))) }
 {
     proof_log::laws::logs_stand_in_grown_tables();

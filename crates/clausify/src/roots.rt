@@ -8,12 +8,12 @@ ghost use Rattle.term_core.specs.Tables.{term_at, clause_at};
 ghost use Rattle.proof_log.specs.Logs.{IsFormulaIn, AreFormulasIn, IsLogOf};
 ghost use Rattle.proof_log.specs.Theories.{IsTermIn};
 ghost use Rattle.term_clauses.specs.Growth.{Grows, AreAllMade};
-ghost use Rattle.term_clauses.specs.Stating.{listed, Tells};
+ghost use Rattle.term_clauses.specs.Stating.{listed_steps, Tells};
 ghost use Rattle.term_clauses.specs.Marks.{marked};
 ghost use Rattle.term_clauses.specs.SpokenTerms.{problem_in};
 ghost use Rattle.clausify.specs.HavingClauses.{HasClauses};
 ghost use Rattle.clausify.specs.SearchTerms.{AreSearchTerms};
-ghost use Rattle.clausify.specs.Overflows.{IsOrderOverflow, OnWide};
+ghost use Rattle.clausify.specs.Overflows.{IsOrderOverflow, OnClauseOverflow};
 ghost use Rattle.spec_causes.specs.Checks.{IsOverflowAmong};
 
 use crate::ordered::ordered_of;
@@ -57,7 +57,7 @@ pub fn clauses_of(
     ensures made { IfOk result (λ x. AreAllMade log.old log.new x.steps) }
     ensures grown { OnOk result (Grows (root ∷ []) table.old table.new log.old log.new) }
     ensures same { OnErr result ((table.new ≡ table.old) × (log.new ≡ log.old)) }
-    ensures wide { IfErr result (OnWide (IsOrderOverflow (problem_in table.old (root ∷ []) []))) }
+    ensures wide { IfErr result (OnClauseOverflow (IsOrderOverflow (problem_in table.old (root ∷ []) []))) }
 {
     clauses_of_all(alloc, table, log, slice::from_ref(&root), &[])
 }
@@ -107,7 +107,7 @@ pub fn clauses_of_all(
     ensures made { IfOk result (λ x. AreAllMade log.old log.new x.steps) }
     ensures grown { OnOk result (Grows roots.now table.old table.new log.old log.new) }
     ensures same { OnErr result ((table.new ≡ table.old) × (log.new ≡ log.old)) }
-    ensures wide { IfErr result (OnWide (IsOrderOverflow (problem_in table.old roots.now beside.now))) }
+    ensures wide { IfErr result (OnClauseOverflow (IsOrderOverflow (problem_in table.old roots.now beside.now))) }
 {
     let terms = table.len();
     let clauses = log.len();
@@ -138,7 +138,7 @@ fn stated_of(
         (λ x. AreSearchTerms table.new (problem_in table.old roots.now beside.now) x.terms.items) }
     ensures made { IfOk result (λ x. AreAllMade log.old log.new x.steps) }
     ensures grows { Grows roots.now table.old table.new log.old log.new }
-    ensures wide { IfErr result (OnWide (IsOrderOverflow (problem_in table.old roots.now beside.now))) }
+    ensures wide { IfErr result (OnClauseOverflow (IsOrderOverflow (problem_in table.old roots.now beside.now))) }
 {
     subterms_are_least();
     proof_log::laws::logs_stand_in_grown_tables();
@@ -164,8 +164,8 @@ fn assume_each(
     requires roots { AreFormulasIn table.now roots.now }
     requires log { IsLogOf table.now log.old }
     ensures grows { Grows roots.now table.now table.now log.old log.new }
-    ensures tells { OnOk result (Tells (listed table.now log.old steps.old.items)
-        (listed table.now log.new steps.new.items) (map (λ t. t ∷ []) (clause_at table.now roots.now))) }
+    ensures tells { OnOk result (Tells (listed_steps table.now log.old steps.old.items)
+        (listed_steps table.now log.new steps.new.items) (map (λ t. t ∷ []) (clause_at table.now roots.now))) }
 {
     'roots: for root in roots.iter() {
         steps.push(log.assume(*root)?)?;
@@ -185,9 +185,9 @@ fn state_marked(
     requires sorted { All (IsWellSorted table.old.symbols []) (marked marks.now table.old.terms) }
     requires log { IsLogOf table.old log.old }
     ensures grows { Grows [] table.old table.new log.old log.new }
-    ensures tells { OnOk result (Tells (listed table.old log.old steps.old.items)
-        (listed table.new log.new steps.new.items) (flat_map whole_clauses_of (marked marks.now table.old.terms))) }
-    ensures wide { IfErr result (OnWide (IsOverflowAmong (marked marks.now table.old.terms))) }
+    ensures tells { OnOk result (Tells (listed_steps table.old log.old steps.old.items)
+        (listed_steps table.new log.new steps.new.items) (flat_map whole_clauses_of (marked marks.now table.old.terms))) }
+    ensures wide { IfErr result (OnClauseOverflow (IsOverflowAmong (marked marks.now table.old.terms))) }
 {
     'marks: for number in 0..marks.len() {
         if !marks[number] {
@@ -209,9 +209,9 @@ fn state_whole(
     requires there { IsTermIn table.old id }
     requires log { IsLogOf table.old log.old }
     ensures grows { Grows [] table.old table.new log.old log.new }
-    ensures tells { OnOk result (Tells (listed table.old log.old steps.old.items)
-        (listed table.new log.new steps.new.items) (whole_clauses_of (term_at table.old id))) }
-    ensures wide { IfErr result (OnWide (IsOverflowAmong (term_at table.old id ∷ []))) }
+    ensures tells { OnOk result (Tells (listed_steps table.old log.old steps.old.items)
+        (listed_steps table.new log.new steps.new.items) (whole_clauses_of (term_at table.old id))) }
+    ensures wide { IfErr result (OnClauseOverflow (IsOverflowAmong (term_at table.old id ∷ []))) }
 {
     define(alloc, table, log, steps, id)?;
     state_orders(alloc, table, log, steps, id)
@@ -228,8 +228,8 @@ fn define(
     requires there { IsTermIn table.old id }
     requires log { IsLogOf table.old log.old }
     ensures grows { Grows [] table.old table.new log.old log.new }
-    ensures tells { OnOk result (Tells (listed table.old log.old steps.old.items)
-        (listed table.new log.new steps.new.items) (defining_clauses (term_at table.old id))) }
+    ensures tells { OnOk result (Tells (listed_steps table.old log.old steps.old.items)
+        (listed_steps table.new log.new steps.new.items) (defining_clauses (term_at table.old id))) }
 {
     state_term(alloc, table, log, steps, id)?;
     state_choice(alloc, table, log, steps, id)

@@ -5,7 +5,7 @@ ghost use Rattle.spec_sorts.specs.Terms.{Number, negated, sort_of};
 ghost use Rattle.spec_derivations.specs.Orders.{order_fact};
 ghost use Rattle.term_core.specs.Tables.{term_at, IsIn};
 ghost use Rattle.proof_log.specs.Theories.{IsTermIn};
-ghost use Rattle.term_clauses.specs.Stating.{Widens, Names};
+ghost use Rattle.term_clauses.specs.Stating.{Widens, NamesTerm};
 ghost use Rattle.clausify.specs.Orders.{IsNumberIn, order_at, HasNoOrders, AreSidesOf};
 
 use std::alloc::Global;
@@ -60,7 +60,7 @@ pub(crate) fn at_most(
     requires left { IsNumberIn table.old a }
     requires right { IsNumberIn table.old b }
     ensures wider { Widens table.old table.new }
-    ensures means { IfOk result (Names table.new (order_at table.old a b)) }
+    ensures means { IfOk result (NamesTerm table.new (order_at table.old a b)) }
 {
     let node = Node::new(alloc, Head::AtMost, &[a, b])?;
     table.put(node)
@@ -76,7 +76,7 @@ fn not_at_most(
     requires left { IsNumberIn table.old a }
     requires right { IsNumberIn table.old b }
     ensures wider { Widens table.old table.new }
-    ensures means { IfOk result (Names table.new (negated (order_at table.old a b))) }
+    ensures means { IfOk result (NamesTerm table.new (negated (order_at table.old a b))) }
 {
     let order = at_most(alloc, table, a, b)?;
     signed(alloc, table, order, false)
@@ -92,7 +92,7 @@ pub(crate) fn order_fact(
     requires there { IsTermIn table.old id }
     requires sides { AreSidesOf table.old (term_at table.old id) sides }
     ensures wider { Widens table.old table.new }
-    ensures means { IfOk result (Names table.new
+    ensures means { IfOk result (NamesTerm table.new
         (order_fact (term_at table.old sides.left) (term_at table.old sides.right))) }
 {
     let forth = not_at_most(alloc, table, sides.left, sides.right)?;

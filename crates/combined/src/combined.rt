@@ -3,7 +3,7 @@
 ghost use Rattle.std.specs.Prelude.{◌≡◌, List, [], IfOk};
 ghost use Rattle.spec_sorts.specs.Terms.{Term, True, False, of};
 ghost use Rattle.term_core.specs.Tables.{IsIn, term_at};
-ghost use Rattle.congruence_relation.specs.Relation.{AreOf};
+ghost use Rattle.congruence_relation.specs.Relation.{AreFactsOf};
 ghost use Rattle.congruence.specs.Views.{theory_of};
 ghost use Rattle.simplex.specs.Checks.{Suits};
 ghost use Rattle.simplex.specs.Coming.{CameBy};
@@ -48,7 +48,7 @@ impl Combined {
         requires false_there { IsIn table.now truths.false_term }
         requires false_is { term_at table.now truths.false_term ≡ of False [] }
         ensures empty { IfOk result (λ c. theory_of c.congruence ≡ record { held = []; watched = []; marks = [] }) }
-        ensures congruence { IfOk result (λ c. AreOf table.now c.congruence.now.facts) }
+        ensures congruence { IfOk result (λ c. AreFactsOf table.now c.congruence.now.facts) }
         ensures simplex { IfOk result (λ c. Suits c.simplex table.now) }
         ensures came { IfOk result (λ c. (ts : List Term) → CameBy table.now ts 0 [] c.simplex) }
     {

@@ -14,13 +14,13 @@ use Rattle.term_core.specs.declared.ids.TermId.{TermId}
 use Rattle.term_core.specs.declared.ids.Lit.{Lit}
 use Rattle.term_core.specs.Tables.{TableView, IsIn, term_at, literal_at, clause_at, positive_literal, Extends}
 use Rattle.term_core.proofs.TermsExtend.{IsIn-kept, literal_at-kept}
-use Rattle.clause_literals.specs.Literals.{lit_complement, Means}
+use Rattle.clause_literals.specs.Literals.{lit_complement, LiteralsMean}
 use Rattle.proof_log.specs.declared.premises.StepId.{StepId}
-use Rattle.proof_log.specs.Logs.{AreOf, IsLogOf, IsFormulaIn, Logged, stepped, numbers_of, inference_of, derivation_in}
+use Rattle.proof_log.specs.Logs.{AreStepsOf, IsLogOf, IsFormulaIn, Logged, stepped, numbers_of, inference_of, derivation_in}
 use Rattle.proof_log.specs.Adding.{IsAdded}
-use Rattle.sat_trail.specs.Trails.{AreApart, IsLeveled}
+use Rattle.sat_trail.specs.Trails.{VariablesAreApart, IsLeveled}
 use Rattle.proof_log.specs.Clashes.{IsClash}
-use Rattle.conflict_learn.specs.Conflicts.{Conflict, AreReasons, IsConflictLevel, IsAboveZero, IsOfZero}
+use Rattle.conflict_learn.specs.Conflicts.{Conflict, AreTrailReasons, IsConflictLevel, IsAboveZero, IsOfZero}
 use Rattle.conflict_learn.specs.Points.{held_at, level_at, IsMet, IsUsed, IsUip}
 use Rattle.conflict_learn.specs.Learned.{Refutes}
 use Rattle.conflict_learn.specs.Analyses.{IsBare, StateAll}
@@ -32,7 +32,7 @@ bare_term : (t : TableView) (l m : Lit) → l.term ≡ m.term → IsBare t l →
 bare_term t l m e b = record { there = subst (IsIn t) e b.there; formula = subst (λ (id : TermId). IsFormulaOver t.symbols (term_at t id)) e b.formula; bare = subst (λ (id : TermId). literal_of (term_at t id) ≡ positive_literal (term_at t id)) e b.bare }
 
 -- in a table that has grown, terms state a clause that they stated
-pub means_kept : (t u : TableView) → Extends t u → (clause : List Lit) → All (IsBare t) clause → (ids : List TermId) → StateAll u (map (literal_at t) clause) ids → Means u clause (clause_at u ids)
+pub means_kept : (t u : TableView) → Extends t u → (clause : List Lit) → All (IsBare t) clause → (ids : List TermId) → StateAll u (map (literal_at t) clause) ids → LiteralsMean u clause (clause_at u ids)
 means_kept t u more clause bare ids h = record {
   same = kept clause bare ∙ sym h.1;
   there = λ k d lt. IsIn-kept t u more (get_or clause k d).term (bare k d lt).there;
@@ -54,12 +54,12 @@ of_zero c zero = record { greatest = λ n k has f. let e = zero n k has f in ome
 pub states_none : (t : TableView) (ids : List TermId) → ids ≡ [] → StateAll t [] ids
 states_none t ids e = subst (StateAll t []) (sym e) (All-nil (IsFormulaIn t), refl)
 
-means_none : (t : TableView) (ids : List TermId) → ids ≡ [] → Means t [] (clause_at t ids)
-means_none t ids e = subst (λ (xs : List TermId). Means t [] (clause_at t xs)) (sym e) (record { same = refl; there = All-nil (λ (l : Lit). IsIn t l.term) })
+means_none : (t : TableView) (ids : List TermId) → ids ≡ [] → LiteralsMean t [] (clause_at t ids)
+means_none t ids e = subst (λ (xs : List TermId). LiteralsMean t [] (clause_at t xs)) (sym e) (record { same = refl; there = All-nil (λ (l : Lit). IsIn t l.term) })
 
-module _ (c : Conflict) (once : AreApart c.trail.literals) (leveled : IsLeveled c.trail) (clash : IsClash c.table c.log c.trail.literals c.clash) (reasons : AreReasons c.table c.log c.trail) where
+module _ (c : Conflict) (once : VariablesAreApart c.trail.literals) (leveled : IsLeveled c.trail) (clash : IsClash c.table c.log c.trail.literals c.clash) (reasons : AreTrailReasons c.table c.log c.trail) where
   -- premises that are used are of the log
-  pub premises_there : (from : ℕ) (premises : List StepId) → ((s : StepId) → Contains premises s → IsUsed c from s) → AreOf c.log premises
+  pub premises_there : (from : ℕ) (premises : List StepId) → ((s : StepId) → Contains premises s → IsUsed c from s) → AreStepsOf c.log premises
   premises_there from premises others k d lt = used_in_log c once leveled clash reasons from (get_or premises k d) (others (get_or premises k d) (Contains-get_or premises k d lt))
 
   -- terms that state a clause which has what is left follow from the premises

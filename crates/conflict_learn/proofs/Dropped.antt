@@ -9,17 +9,17 @@ use Rattle.term_core.specs.Tables.{AreDifferent}
 use Rattle.clause_literals.specs.Literals.{lit_complement}
 use Rattle.clause_literals.proofs.LiteralLists.{negation_twice}
 use Rattle.proof_log.specs.declared.premises.StepId.{StepId}
-use Rattle.sat_trail.specs.Trails.{AreApart, IsLeveled}
+use Rattle.sat_trail.specs.Trails.{VariablesAreApart, IsLeveled}
 use Rattle.proof_log.specs.Clashes.{literals_in, IsClash}
-use Rattle.conflict_learn.specs.Conflicts.{Conflict, step_of, AreReasons, IsConflictLevel}
+use Rattle.conflict_learn.specs.Conflicts.{Conflict, step_of, AreTrailReasons, IsConflictLevel}
 use Rattle.conflict_learn.specs.Points.{held_at, level_at, Falsifies, IsMet, IsPoint, IsDropped, of_point, of_dropped, IsUsed, IsLeft}
-use Rattle.conflict_learn.specs.Analyses.{IsMarkedAt, Marks, IsLower, Sorting, HasMet, HasCome, AreDropped, IsNewest, IsBack}
+use Rattle.conflict_learn.specs.Analyses.{IsMarkedAt, MarksVariables, IsLower, Sorting, HasMet, HasCome, AreDropped, IsNewest, IsBack}
 use Rattle.conflict_learn.proofs.Places.{later_or_here, same_place, one_level}
 use Rattle.conflict_learn.proofs.Uip.{met_within, reason_before, dropped_within, dropped_level, met_level, one_left}
 use Rattle.conflict_learn.proofs.Following.{same_reason, newly, falsifier_marked}
 
-module _ (c : Conflict) (once : AreApart c.trail.literals) (differ : AreDifferent c.table.terms) (leveled : IsLeveled c.trail)
-    (clash : IsClash c.table c.log c.trail.literals c.clash) (reasons : AreReasons c.table c.log c.trail) where
+module _ (c : Conflict) (once : VariablesAreApart c.trail.literals) (differ : AreDifferent c.table.terms) (leveled : IsLeveled c.trail)
+    (clash : IsClash c.table c.log c.trail.literals c.clash) (reasons : AreTrailReasons c.table c.log c.trail) where
   abbrev held : List Lit
   held = c.trail.literals
 
@@ -48,7 +48,7 @@ module _ (c : Conflict) (once : AreApart c.trail.literals) (differ : AreDifferen
 
     -- a marked literal is dropped for its reason
     module _ (at : ℕ) (lt : at < length held) (fixed : level_at c at ≡ 0) (n : ℕ) (is_marked : IsMarkedAt c.trail marks at) (reason : get_or c.trail.reasons at None ≡ Some n) (more : List Bool)
-        (h : Marks c.table (literals_in c.table c.log (step_of n)) marks more) (d : AreDropped c from (at + 1) marks premises) where
+        (h : MarksVariables c.table (literals_in c.table c.log (step_of n)) marks more) (d : AreDropped c from (at + 1) marks premises) where
       is_new : (p : ℕ) → p < length held → IsMarkedAt c.trail more p → IsMarkedAt c.trail marks p ⊎ Falsifies c p (step_of n)
       is_new = newly c once differ leveled clash reasons at lt n reason marks more h is_marked
 

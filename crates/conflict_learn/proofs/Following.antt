@@ -10,11 +10,11 @@ use Rattle.clause_literals.specs.Literals.{lit_complement}
 use Rattle.clause_literals.proofs.LiteralLists.{decide}
 use Rattle.clause_literals.proofs.TableLiterals.{literals_apart}
 use Rattle.proof_log.specs.declared.premises.StepId.{StepId}
-use Rattle.sat_trail.specs.Trails.{TrailView, no_lit, AreApart, IsLeveled}
+use Rattle.sat_trail.specs.Trails.{TrailView, no_lit, VariablesAreApart, IsLeveled}
 use Rattle.proof_log.specs.Clashes.{literals_in, HasLit, IsClash}
-use Rattle.conflict_learn.specs.Conflicts.{Conflict, step_of, IsReason, AreReasons, IsConflictLevel}
+use Rattle.conflict_learn.specs.Conflicts.{Conflict, step_of, IsTrailReason, AreTrailReasons, IsConflictLevel}
 use Rattle.conflict_learn.specs.Points.{held_at, level_at, Falsifies, IsMet, of_clash, of_reason, HasTwo, IsResolved}
-use Rattle.conflict_learn.specs.Analyses.{IsMarked, IsMarkedAt, IsMarkedFor, Marks, IsBefore, Sorting, Sorts, HasMet, HasCome}
+use Rattle.conflict_learn.specs.Analyses.{IsVariableMarked, IsMarkedAt, IsMarkedFor, MarksVariables, IsBefore, Sorting, Sorts, HasMet, HasCome}
 use Rattle.conflict_learn.proofs.Places.{place_of, early_place, later_or_here, same_place}
 use Rattle.conflict_learn.proofs.Sorting.{count_two, counted_two}
 use Rattle.conflict_learn.proofs.Uip.{met_within, met_more, falsified, reason_before, met_level}
@@ -31,7 +31,7 @@ pub no_reason : (o : Option ℕ) (s : ℕ) → o ≡ None → o ≡ Some s → �
 no_reason o s e f = let same : None ≡ Some s = sym e ∙ f in cc
 
 -- of no variable there is a mark at first
-pub unmarked : (k n : ℕ) → IsMarked (replicate k false) n → ⊥
+pub unmarked : (k n : ℕ) → IsVariableMarked (replicate k false) n → ⊥
 unmarked k n m = elim (cases_lt n k) [
   | inl lt ↦ true≢false (sym m ∙ get_or-replicate k n false false lt)
   | inr le ↦ true≢false (sym m ∙ get_or_past (replicate k false) n false (omega (arith, le, length-replicate k false)))
@@ -42,8 +42,8 @@ pub placed : (v : TrailView) (marks : List Bool) (at : ℕ) (l : Lit) (b : Bool)
 placed v marks at l b e lt is = ap (λ (x : Lit). get_or marks x.term.0 false) (sym e) ∙ get_or_default marks l.term.0 false b lt ∙ sym is
 
 -- what is marked for a literal is its variable
-pub marked_lit : (t : TableView) → AreDifferent t.terms → (marks : List Bool) (m : Lit) → IsIn t m.term → IsMarkedFor t marks (literal_at t m) → IsMarked marks m.term.0
-marked_lit t differ marks m there (x, x_in, same, is) = subst (λ (l : Lit). IsMarked marks l.term.0) (literals_apart t differ x m x_in there same) is
+pub marked_lit : (t : TableView) → AreDifferent t.terms → (marks : List Bool) (m : Lit) → IsIn t m.term → IsMarkedFor t marks (literal_at t m) → IsVariableMarked marks m.term.0
+marked_lit t differ marks m there (x, x_in, same, is) = subst (λ (l : Lit). IsVariableMarked marks l.term.0) (literals_apart t differ x m x_in there same) is
 
 -- literals of the clash and of reasons are of variables
 module _ (c : Conflict) (vars : ℕ) (known : (p : ℕ) → p < length c.trail.literals → (get_or c.trail.literals p no_lit).term.0 < vars) where
@@ -52,7 +52,7 @@ module _ (c : Conflict) (vars : ℕ) (known : (p : ℕ) → p < length c.trail.l
       let k = place_of c.trail.literals (lit_complement m) (clash.fails m has) in
       subst (λ (l : Lit). l.term.0 < vars) k.2 (known k.0 k.1)
 
-  pub reason_known : (at n : ℕ) → at < length c.trail.literals → IsReason c.table c.log (take at c.trail.literals) (get_or c.trail.literals at no_lit) (step_of n) → (m : Lit) → HasLit c.table c.log (step_of n) m → m.term.0 < vars
+  pub reason_known : (at n : ℕ) → at < length c.trail.literals → IsTrailReason c.table c.log (take at c.trail.literals) (get_or c.trail.literals at no_lit) (step_of n) → (m : Lit) → HasLit c.table c.log (step_of n) m → m.term.0 < vars
   reason_known at n lt by m has = elim (decide m (get_or c.trail.literals at no_lit)) [
     | inl e ↦ subst (λ (l : Lit). l.term.0 < vars) (sym e) (known at lt)
     | inr ne ↦
@@ -60,12 +60,12 @@ module _ (c : Conflict) (vars : ℕ) (known : (p : ℕ) → p < length c.trail.l
         subst (λ (l : Lit). l.term.0 < vars) k.3 (known k.0 k.2)
   ]
 
-module _ (c : Conflict) (once : AreApart c.trail.literals) (differ : AreDifferent c.table.terms) where
+module _ (c : Conflict) (once : VariablesAreApart c.trail.literals) (differ : AreDifferent c.table.terms) where
   abbrev held : List Lit
   held = c.trail.literals
 
   -- a place that makes a literal of a step false is marked, where the step's literals are
-  pub falsifier_marked : (s : StepId) (old marks : List Bool) → Marks c.table (literals_in c.table c.log s) old marks → (p : ℕ) → Falsifies c p s → IsMarkedAt c.trail marks p
+  pub falsifier_marked : (s : StepId) (old marks : List Bool) → MarksVariables c.table (literals_in c.table c.log s) old marks → (p : ℕ) → Falsifies c p s → IsMarkedAt c.trail marks p
   falsifier_marked s old marks h p f = marked_lit c.table differ marks (lit_complement (held_at c p)) f.1.in_table (h.added (literal_at c.table (lit_complement (held_at c p))) f.1.there)
 
   -- the literals of the clash stand before the end
@@ -73,7 +73,7 @@ module _ (c : Conflict) (once : AreApart c.trail.literals) (differ : AreDifferen
   clash_before clash marks m has = let k = place_of held (lit_complement m) (clash.fails m has) in inr (k.0, k.1, k.2)
 
   -- where nothing came up but the clash's literals
-  pub begins : IsClash c.table c.log held c.clash → (none marks : List Bool) → ((x : ℕ) → IsMarked none x → ⊥) → Marks c.table (literals_in c.table c.log c.clash) none marks → HasMet c (length held) marks (c.clash ∷ [])
+  pub begins : IsClash c.table c.log held c.clash → (none marks : List Bool) → ((x : ℕ) → IsVariableMarked none x → ⊥) → MarksVariables c.table (literals_in c.table c.log c.clash) none marks → HasMet c (length held) marks (c.clash ∷ [])
   begins clash none marks empty h = record {
     marked = λ p lt m. elim (h.only (held_at c p).term.0 m) [
       | inl was ↦ absurd (empty (held_at c p).term.0 was)
@@ -95,16 +95,16 @@ module _ (c : Conflict) (once : AreApart c.trail.literals) (differ : AreDifferen
       met_marked _ (of_clash p f) = falsifier_marked c.clash none marks h p f
       met_marked _ (of_reason q r p le m e f) = absurd (omega (arith, le, met_within c (length held) q m))
 
-  module _ (leveled : IsLeveled c.trail) (clash : IsClash c.table c.log held c.clash) (reasons : AreReasons c.table c.log c.trail) (at : ℕ) (lt : at < length held) where
+  module _ (leveled : IsLeveled c.trail) (clash : IsClash c.table c.log held c.clash) (reasons : AreTrailReasons c.table c.log c.trail) (at : ℕ) (lt : at < length held) where
     -- the literals of a reason stand before its place, or came up
     pub reason_lit : (n : ℕ) → get_or c.trail.reasons at None ≡ Some n → (marks : List Bool) → IsMarkedAt c.trail marks at → (m : Lit) → HasLit c.table c.log (step_of n) m → IsBefore c.trail at marks m
     reason_lit n e marks is_marked m has = elim (decide m (held_at c at)) [
-      | inl same ↦ inl (subst (λ (l : Lit). IsMarked marks l.term.0) (sym same) is_marked)
+      | inl same ↦ inl (subst (λ (l : Lit). IsVariableMarked marks l.term.0) (sym same) is_marked)
       | inr ne ↦ let k = early_place held at (lit_complement m) (omega (arith, lt)) ((reasons at n lt e).others_false m has ne) in inr (k.0, k.1, k.3)
     ]
 
     -- what is newly marked makes a literal of the reason false
-    pub newly : (n : ℕ) → get_or c.trail.reasons at None ≡ Some n → (marks more : List Bool) → Marks c.table (literals_in c.table c.log (step_of n)) marks more → IsMarkedAt c.trail marks at
+    pub newly : (n : ℕ) → get_or c.trail.reasons at None ≡ Some n → (marks more : List Bool) → MarksVariables c.table (literals_in c.table c.log (step_of n)) marks more → IsMarkedAt c.trail marks at
         → (p : ℕ) → p < length held → IsMarkedAt c.trail more p → IsMarkedAt c.trail marks p ⊎ Falsifies c p (step_of n)
     newly n e marks more h is_marked p pl m = elim (h.only (held_at c p).term.0 m) [
       | inl was ↦ inl was
@@ -151,7 +151,7 @@ module _ (c : Conflict) (once : AreApart c.trail.literals) (differ : AreDifferen
           ]
 
       -- a marked literal that is replaced by the others of its reason
-      pub passes : (s : ℕ) → IsMarkedAt c.trail a.marks at → get_or c.trail.reasons at None ≡ Some s → (b : Sorting) → Marks c.table (literals_in c.table c.log (step_of s)) a.marks b.marks → Sorts c.trail n at b → HasCome c n at b (premises ++ step_of s ∷ [])
+      pub passes : (s : ℕ) → IsMarkedAt c.trail a.marks at → get_or c.trail.reasons at None ≡ Some s → (b : Sorting) → MarksVariables c.table (literals_in c.table c.log (step_of s)) a.marks b.marks → Sorts c.trail n at b → HasCome c n at b (premises ++ step_of s ∷ [])
       passes s is_marked reason b h sorted = record {
         sorted = sorted;
         reached = record {
@@ -201,7 +201,7 @@ module _ (c : Conflict) (once : AreApart c.trail.literals) (differ : AreDifferen
             | inr is ↦ subst (λ (y : ℕ). Contains (premises ++ step_of s ∷ []) (step_of y)) (same_step o.place x.0 is o.reason) (Contains-push premises (step_of s))
           ]
 
-  module _ (leveled : IsLeveled c.trail) (clash : IsClash c.table c.log held c.clash) (reasons : AreReasons c.table c.log c.trail) (n k : ℕ) (a : Sorting) (premises : List StepId) (r : HasCome c n k a premises) where
+  module _ (leveled : IsLeveled c.trail) (clash : IsClash c.table c.log held c.clash) (reasons : AreTrailReasons c.table c.log c.trail) (n k : ℕ) (a : Sorting) (premises : List StepId) (r : HasCome c n k a premises) where
     -- where two or more are left, two are
     pub has_two : 1 < a.many → HasTwo c n k
     has_two more =

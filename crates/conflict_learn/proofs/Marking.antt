@@ -8,10 +8,10 @@ use Rattle.spec_sorts.specs.Literals.{Literal}
 use Rattle.term_core.specs.declared.ids.Lit.{Lit}
 use Rattle.term_core.specs.Tables.{TableView, IsIn, AreDifferent, literal_at}
 use Rattle.clause_literals.proofs.TableLiterals.{literals_apart}
-use Rattle.sat_trail.specs.Trails.{TrailView, AreApart}
+use Rattle.sat_trail.specs.Trails.{TrailView, VariablesAreApart}
 use Rattle.proof_log.specs.Clashes.{literals_in}
 use Rattle.conflict_learn.specs.Conflicts.{Conflict, IsFalseAt, IsConflictLevel}
-use Rattle.conflict_learn.specs.Analyses.{IsGreatestOf, IsMarked, Marks}
+use Rattle.conflict_learn.specs.Analyses.{IsGreatestOf, IsVariableMarked, MarksVariables}
 use Rattle.conflict_learn.proofs.Places.{one_level}
 
 -- no level is reached by no literals
@@ -19,7 +19,7 @@ pub greatest_none : (t : TableView) (v : TrailView) → IsGreatestOf t v [] 0
 greatest_none t v = record { greatest = λ m k there i f. absurd (none (literal_at t m) i); reached = inl refl }
 
 -- one literal more
-pub greatest_more : (t : TableView) (v : TrailView) (ls : List Literal) (old own new : ℕ) (m : Lit) → AreDifferent t.terms → AreApart v.literals → IsIn t m.term → IsFalseAt v m own
+pub greatest_more : (t : TableView) (v : TrailView) (ls : List Literal) (old own new : ℕ) (m : Lit) → AreDifferent t.terms → VariablesAreApart v.literals → IsIn t m.term → IsFalseAt v m own
     → old ≤ new → own ≤ new → (new ≡ old) ⊎ (new ≡ own) → IsGreatestOf t v ls old → IsGreatestOf t v (ls ++ literal_at t m ∷ []) new
 greatest_more t v ls old own new m differ once there f old_le own_le one g = record {
   greatest = λ n k n_in i h. elim (Contains-push_cases ls (literal_at t m) (literal_at t n) i) [
@@ -39,11 +39,11 @@ greatest_more t v ls old own new m differ once there f old_le own_le one g = rec
 }
 
 -- nothing is marked for nothing
-pub marks_none : (t : TableView) (old : List Bool) → Marks t [] old old
+pub marks_none : (t : TableView) (old : List Bool) → MarksVariables t [] old old
 marks_none t old = record { size = refl; kept = λ n h. h; added = λ x i. absurd (none x i); only = λ n h. inl h }
 
 -- one variable more
-pub marks_more : (t : TableView) (ls : List Literal) (old mid : List Bool) (l : Lit) → IsIn t l.term → l.term.0 < length mid → Marks t ls old mid → Marks t (ls ++ literal_at t l ∷ []) old (set mid l.term.0 true)
+pub marks_more : (t : TableView) (ls : List Literal) (old mid : List Bool) (l : Lit) → IsIn t l.term → l.term.0 < length mid → MarksVariables t ls old mid → MarksVariables t (ls ++ literal_at t l ∷ []) old (set mid l.term.0 true)
 marks_more t ls old mid l there lt h = record {
   size = length-set mid l.term.0 true ∙ h.size;
   kept = λ n m. stays n (h.kept n m);
@@ -60,17 +60,17 @@ marks_more t ls old mid l there lt h = record {
   ];
 }
   where
-    here : IsMarked (set mid l.term.0 true) l.term.0
+    here : IsVariableMarked (set mid l.term.0 true) l.term.0
     here = get_or-set_same mid l.term.0 true false lt
 
-    stays : (n : ℕ) → IsMarked mid n → IsMarked (set mid l.term.0 true) n
+    stays : (n : ℕ) → IsVariableMarked mid n → IsVariableMarked (set mid l.term.0 true) n
     stays n m = elim (cases_eq l.term.0 n) [
-      | inl e ↦ subst (IsMarked (set mid l.term.0 true)) e here
+      | inl e ↦ subst (IsVariableMarked (set mid l.term.0 true)) e here
       | inr ne ↦ get_or-set_other mid l.term.0 n true false (λ e. ne (sym e)) ∙ m
     ]
 
 -- one that was marked
-pub marks_again : (t : TableView) (ls : List Literal) (old mid : List Bool) (l : Lit) → IsIn t l.term → IsMarked mid l.term.0 → Marks t ls old mid → Marks t (ls ++ literal_at t l ∷ []) old mid
+pub marks_again : (t : TableView) (ls : List Literal) (old mid : List Bool) (l : Lit) → IsIn t l.term → IsVariableMarked mid l.term.0 → MarksVariables t ls old mid → MarksVariables t (ls ++ literal_at t l ∷ []) old mid
 marks_again t ls old mid l there m h = record {
   size = h.size;
   kept = h.kept;

@@ -3,7 +3,7 @@ use Rattle.std.proofs.Common.{◌≡◌, ℕ, ◌+◌, ◌<◌, ◌≤◌, List,
 use Rattle.std.proofs.lemmas.Bool.{cases_lt}
 use Rattle.std.proofs.lemmas.List.{get_or-take, length-take-le, get_or_default}
 use Rattle.term_core.specs.declared.ids.Lit.{Lit}
-use Rattle.sat_trail.specs.Trails.{TrailView, no_lit, AreApart}
+use Rattle.sat_trail.specs.Trails.{TrailView, no_lit, VariablesAreApart}
 use Rattle.conflict_learn.specs.Conflicts.{IsFalseAt}
 
 -- the place of a literal that is in a list
@@ -21,7 +21,7 @@ early_place xs p l le (k, lt, e) =
 pub later_or_here : (at p : ℕ) → at ≤ p → (at + 1 ≤ p) ⊎ (p ≡ at)
 later_or_here at p le = elim (cases_lt at p) [ inl lt ↦ inl (omega (arith, lt)) | inr ge ↦ inr (omega (arith, le, ge)) ]
 
-module _ (v : TrailView) (once : AreApart v.literals) where
+module _ (v : TrailView) (once : VariablesAreApart v.literals) where
   -- one variable has one place
   pub same_place : (p q : ℕ) → p < length v.literals → q < length v.literals → (get_or v.literals p no_lit).term.0 ≡ (get_or v.literals q no_lit).term.0 → p ≡ q
   same_place p q pl ql e = elim (cases_lt p q) [

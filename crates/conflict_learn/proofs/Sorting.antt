@@ -10,8 +10,8 @@ use Rattle.spec_text.proofs.Members.{none}
 use Rattle.term_core.specs.declared.ids.Lit.{Lit}
 use Rattle.clause_literals.specs.Literals.{lit_complement}
 use Rattle.clause_literals.proofs.LiteralLists.{negation_twice}
-use Rattle.sat_trail.specs.Trails.{TrailView, no_lit, AreApart}
-use Rattle.conflict_learn.specs.Analyses.{IsMarked, IsMarkedAt, count_before, IsLower, Sorting, Sorts}
+use Rattle.sat_trail.specs.Trails.{TrailView, no_lit, VariablesAreApart}
+use Rattle.conflict_learn.specs.Analyses.{IsVariableMarked, IsMarkedAt, count_before, IsLower, Sorting, Sorts}
 use Rattle.conflict_learn.proofs.Places.{same_place}
 
 plus_one : (k : ℕ) → k + 1 ≡ suc k
@@ -99,7 +99,7 @@ module _ (v : TrailView) (n : ℕ) where
     ]
 
   -- nothing is sorted where nothing came up
-  pub sorts_none : (k size : ℕ) → k ≤ length v.literals → ((x : ℕ) → IsMarked (replicate size false) x → ⊥) → Sorts v n k (record { marks = replicate size false; many = 0; lower = []; back = 0; fixed = false })
+  pub sorts_none : (k size : ℕ) → k ≤ length v.literals → ((x : ℕ) → IsVariableMarked (replicate size false) x → ⊥) → Sorts v n k (record { marks = replicate size false; many = 0; lower = []; back = 0; fixed = false })
   sorts_none k size le free = record {
     within = le;
     counted = no_count k;
@@ -147,8 +147,8 @@ module _ (v : TrailView) (n : ℕ) where
       next = ap (count_before v a.marks n) (plus_one k)
 
   -- one mark more
-  module _ (apart : AreApart v.literals) (k : ℕ) (a : Sorting) (s : Sorts v n k a) (m : Lit) (q : ℕ) (before : q < k) (there : lit q ≡ lit_complement m)
-      (fits : m.term.0 < length a.marks) (new : IsMarked a.marks m.term.0 → ⊥) where
+  module _ (apart : VariablesAreApart v.literals) (k : ℕ) (a : Sorting) (s : Sorts v n k a) (m : Lit) (q : ℕ) (before : q < k) (there : lit q ≡ lit_complement m)
+      (fits : m.term.0 < length a.marks) (new : IsVariableMarked a.marks m.term.0 → ⊥) where
     abbrev more : List Bool
     more = set a.marks m.term.0 true
 
@@ -169,7 +169,7 @@ module _ (v : TrailView) (n : ℕ) where
     marked_other p lt ne = get_or-set_other a.marks m.term.0 (lit p).term.0 true false (λ e. ne (is_place p lt e))
 
     not_there : IsMarkedAt v a.marks q → ⊥
-    not_there h = new (subst (IsMarked a.marks) own h)
+    not_there h = new (subst (IsVariableMarked a.marks) own h)
 
     count_same : (j : ℕ) → j ≤ length v.literals → ((p : ℕ) → p < j → p ≡ q → level p ≡ n → ⊥) → count_before v more n j ≡ count_before v a.marks n j
     count_same zero le free = refl
@@ -268,4 +268,4 @@ module _ (v : TrailView) (n : ℕ) where
         apart_from : (x : Lit) → Contains a.lower x → x.term.0 ≡ m.term.0 → ⊥
         apart_from x i e =
             let h = s.only x i in
-            new (subst (IsMarked a.marks) (ap (λ (l : Lit). l.term.0) h.3 ∙ e) h.1.is_marked)
+            new (subst (IsVariableMarked a.marks) (ap (λ (l : Lit). l.term.0) h.3 ∙ e) h.1.is_marked)

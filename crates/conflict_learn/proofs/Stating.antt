@@ -19,26 +19,26 @@ use Rattle.term_core.specs.Tables.{TableView, IsIn, declared_in, term_at, litera
 use Rattle.term_core.proofs.TermsLiteral.{literal_of-negated}
 use Rattle.term_core.proofs.TermsExtend.{Extends-self, term_at-kept, literal_at-kept, clause_at-kept}
 use Rattle.proof_log.specs.declared.premises.StepId.{StepId}
-use Rattle.proof_log.specs.Logs.{IsFormulaIn, Logged, named, logged_at, AreOf, clauses_in, numbers_of, derivation_in}
+use Rattle.proof_log.specs.Logs.{IsFormulaIn, Logged, named, logged_at, AreStepsOf, clauses_in, numbers_of, derivation_in}
 use Rattle.proof_log.proofs.Logged.{numbers_there, premises_there}
 use Rattle.term_clauses.specs.Stating.{Widens}
 use Rattle.term_clauses.proofs.Parts.{formula_kept, signed_in}
 use Rattle.proof_log.specs.Clashes.{literals_in}
-use Rattle.conflict_learn.specs.Analyses.{IsBare, States, StateAll}
+use Rattle.conflict_learn.specs.Analyses.{IsBare, StatesLiteral, StateAll}
 
 -- a term that is no negation states its literal
-pub states_own : (t : TableView) (l : Lit) → IsBare t l → l.positive ≡ true → States t (literal_at t l) l.term
+pub states_own : (t : TableView) (l : Lit) → IsBare t l → l.positive ≡ true → StatesLiteral t (literal_at t l) l.term
 states_own t l b e = ((b.there, b.formula), b.bare ∙ ap (λ (p : Bool). let x : Literal = record { atom = term_at t l.term; positive = p } in x) (sym e))
 
 -- and its negation the complement
-pub states_negation : (t u : TableView) → Widens t u → (l : Lit) (id : TermId) → IsBare t l → l.positive ≡ false → IsIn u id → term_at u id ≡ negated (term_at t l.term) → States u (literal_at t l) id
+pub states_negation : (t u : TableView) → Widens t u → (l : Lit) (id : TermId) → IsBare t l → l.positive ≡ false → IsIn u id → term_at u id ≡ negated (term_at t l.term) → StatesLiteral u (literal_at t l) id
 states_negation t u wider l id b e there is = (
   signed_in t u wider false l.term id (b.there, b.formula) there is,
   ap literal_of is ∙ literal_of-negated (term_at t l.term) ∙ ap complement b.bare ∙ ap (λ (p : Bool). let x : Literal = record { atom = term_at t l.term; positive = p } in x) (sym e),
 )
 
 -- as a call puts it, where it does
-pub states_put : (t u : TableView) → Widens t u → (l : Lit) → IsBare t l → l.positive ≡ false → (r : Result TermId NoMemory) → IfOk r (λ id. IsIn u id × (term_at u id ≡ negated (term_at t l.term))) → IfOk r (States u (literal_at t l))
+pub states_put : (t u : TableView) → Widens t u → (l : Lit) → IsBare t l → l.positive ≡ false → (r : Result TermId NoMemory) → IfOk r (λ id. IsIn u id × (term_at u id ≡ negated (term_at t l.term))) → IfOk r (StatesLiteral u (literal_at t l))
 states_put t u wider l b e (Ok id) h = states_negation t u wider l id b e h.0 h.1
 states_put t u wider l b e (Err x) h = tt
 
@@ -51,7 +51,7 @@ bare_kept t u wider l b =
 
 -- one literal more
 pub states_more : (t u w : TableView) (clause : List Lit) (i : ℕ) (d : Lit) (ids : List TermId) (id : TermId) → i < length clause → Extends t u → Widens u w → IsIn t (get_or clause i d).term
-    → StateAll u (map (literal_at t) (take i clause)) ids → States w (literal_at u (get_or clause i d)) id → StateAll w (map (literal_at t) (take (i + 1) clause)) (ids ++ id ∷ [])
+    → StateAll u (map (literal_at t) (take i clause)) ids → StatesLiteral w (literal_at u (get_or clause i d)) id → StateAll w (map (literal_at t) (take (i + 1) clause)) (ids ++ id ∷ [])
 states_more t u w clause i d ids id lt more later there h one = (
   All-push (IsFormulaIn w) ids id (λ k e small. formula_kept u w later (get_or ids k e) (h.0 k e small)) one.0,
   ap literals_of (map-append (term_at w) ids (id ∷ [])) ∙ map-append literal_of (clause_at w ids) (term_at w id ∷ [])
@@ -64,7 +64,7 @@ states_more t u w clause i d ids id lt more later there h one = (
     last : literal_of (term_at w id) ≡ literal_at t (get_or clause i d)
     last = one.1 ∙ literal_at-kept t u more (get_or clause i d) there
 
-module _ (t : TableView) (log : List Logged) (premises : List StepId) (there : AreOf log premises) where
+module _ (t : TableView) (log : List Logged) (premises : List StepId) (there : AreStepsOf log premises) where
   -- the premises' literals
   abbrev pub stated_by : List (List Literal)
   stated_by = map literals_of (map (clause_at t) (clauses_in log premises))

@@ -11,9 +11,9 @@ use Rattle.clause_literals.specs.Literals.{lit_complement}
 use Rattle.clause_literals.proofs.LiteralLists.{negation_twice, not_own_negation}
 use Rattle.proof_log.specs.declared.premises.StepId.{StepId}
 use Rattle.proof_log.specs.Logs.{named, no_logged, logged_at, IsLogOf}
-use Rattle.sat_trail.specs.Trails.{AreApart, IsLeveled}
+use Rattle.sat_trail.specs.Trails.{VariablesAreApart, IsLeveled}
 use Rattle.proof_log.specs.Clashes.{literals_in, HasLit, IsClash}
-use Rattle.conflict_learn.specs.Conflicts.{Conflict, step_of, AreReasons, IsNeeded, by_clash, by_reason, IsConflictLevel, IsPremise, IsFalseAt}
+use Rattle.conflict_learn.specs.Conflicts.{Conflict, step_of, AreTrailReasons, IsNeeded, by_clash, by_reason, IsConflictLevel, IsPremise, IsFalseAt}
 use Rattle.conflict_learn.specs.Points.{held_at, level_at, Falsifies, IsMet, of_clash, of_reason, IsPoint, IsDropped, of_point, of_dropped, IsUsed, IsLeft}
 use Rattle.conflict_learn.specs.Learned.{HasOneAt}
 use Rattle.conflict_learn.specs.Analyses.{IsBare, IsBack}
@@ -42,7 +42,7 @@ option_cases : (o : Option ℕ) → (o ≡ None) ⊎ ((r : ℕ) × (o ≡ Some r
 option_cases None = inl refl
 option_cases (Some r) = inr (r, refl)
 
-module _ (c : Conflict) (once : AreApart c.trail.literals) (leveled : IsLeveled c.trail) (clash : IsClash c.table c.log c.trail.literals c.clash) (reasons : AreReasons c.table c.log c.trail) where
+module _ (c : Conflict) (once : VariablesAreApart c.trail.literals) (leveled : IsLeveled c.trail) (clash : IsClash c.table c.log c.trail.literals c.clash) (reasons : AreTrailReasons c.table c.log c.trail) where
   abbrev held : List Lit
   held = c.trail.literals
 

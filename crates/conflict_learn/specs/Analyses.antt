@@ -8,7 +8,7 @@ use Rattle.term_core.specs.Tables.{TableView, IsIn, term_at, literal_at, clause_
 use Rattle.clause_literals.specs.Literals.{lit_complement}
 use Rattle.proof_log.specs.declared.premises.StepId.{StepId}
 use Rattle.proof_log.specs.Logs.{IsFormulaIn, AreFormulasIn}
-use Rattle.sat_trail.specs.Trails.{TrailView, no_lit, AreApart}
+use Rattle.sat_trail.specs.Trails.{TrailView, no_lit, VariablesAreApart}
 use Rattle.conflict_learn.specs.Conflicts.{Conflict, step_of, IsFalseAt}
 use Rattle.conflict_learn.specs.Points.{level_at, Falsifies, IsMet, IsPoint, IsDropped, IsResolved, IsUsed, IsUip}
 use Rattle.conflict_learn.specs.declared.meeting.Seen.{Seen}
@@ -23,31 +23,31 @@ pub record IsGreatestOf (t : TableView) (v : TrailView) (ls : List Literal) (n :
   pub reached : (n ≡ 0) ⊎ ((m : Lit) × IsIn t m.term × Contains ls (literal_at t m) × IsFalseAt v m n)
 
 -- the variable is marked
-abbrev pub IsMarked : List Bool → ℕ → Type 0
-IsMarked marks n = get_or marks n false ≡ true
+abbrev pub IsVariableMarked : List Bool → ℕ → Type 0
+IsVariableMarked marks n = get_or marks n false ≡ true
 
 -- the variable of the literal of a place is marked
 abbrev pub IsMarkedAt : TrailView → List Bool → ℕ → Type 0
-IsMarkedAt v marks p = IsMarked marks (get_or v.literals p no_lit).term.0
+IsMarkedAt v marks p = IsVariableMarked marks (get_or v.literals p no_lit).term.0
 
 -- a literal of the table that has this meaning is marked
 abbrev pub IsMarkedFor : TableView → List Bool → Literal → Type 0
-IsMarkedFor t marks x = (m : Lit) × IsIn t m.term × (literal_at t m ≡ x) × IsMarked marks m.term.0
+IsMarkedFor t marks x = (m : Lit) × IsIn t m.term × (literal_at t m ≡ x) × IsVariableMarked marks m.term.0
 
 -- The variables of literals of these meanings are marked.
-pub record Marks (t : TableView) (ls : List Literal) (old new : List Bool) : Type 0 where
+pub record MarksVariables (t : TableView) (ls : List Literal) (old new : List Bool) : Type 0 where
   -- there are as many variables
   pub size : length new ≡ length old
   -- what was marked stays so
-  pub kept : (n : ℕ) → IsMarked old n → IsMarked new n
+  pub kept : (n : ℕ) → IsVariableMarked old n → IsVariableMarked new n
   -- each literal's variable is marked
   pub added : (x : Literal) → Contains ls x → IsMarkedFor t new x
   -- and no other
-  pub only : (n : ℕ) → IsMarked new n → IsMarked old n ⊎ ((m : Lit) × IsIn t m.term × Contains ls (literal_at t m) × (m.term.0 ≡ n))
+  pub only : (n : ℕ) → IsVariableMarked new n → IsVariableMarked old n ⊎ ((m : Lit) × IsIn t m.term × Contains ls (literal_at t m) × (m.term.0 ≡ n))
 
 -- a false literal came up before, or a place before one makes it false
 abbrev pub IsBefore : TrailView → ℕ → List Bool → Lit → Type 0
-IsBefore v k marks m = IsMarked marks m.term.0 ⊎ ((q : ℕ) × (q < k) × (get_or v.literals q no_lit ≡ lit_complement m))
+IsBefore v k marks m = IsVariableMarked marks m.term.0 ⊎ ((q : ℕ) × (q < k) × (get_or v.literals q no_lit ≡ lit_complement m))
 
 -- how many marked literals of a level stand before a place
 abbrev pub count_before : TrailView → List Bool → ℕ → ℕ → ℕ
@@ -82,7 +82,7 @@ pub record Sorts (v : TrailView) (n k : ℕ) (a : Sorting) : Type 0 where
   pub within : k ≤ length v.literals
   pub counted : a.many ≡ count_before v a.marks n k
   -- the list has each complement once
-  pub once : AreApart a.lower
+  pub once : VariablesAreApart a.lower
   pub all : (p : ℕ) → IsLower v n a.marks p → 0 < get_or v.levels p 0 → Contains a.lower (lit_complement (get_or v.literals p no_lit))
   pub only : (m : Lit) → Contains a.lower m → (p : ℕ) × IsLower v n a.marks p × (0 < get_or v.levels p 0) × (get_or v.literals p no_lit ≡ lit_complement m)
   -- the greatest level of these is known
@@ -173,8 +173,8 @@ pub record IsBare (t : TableView) (l : Lit) : Type 0 where
   pub bare : literal_of (term_at t l.term) ≡ positive_literal (term_at t l.term)
 
 -- the number is that of a formula of the table, which states the literal
-abbrev pub States : TableView → Literal → TermId → Type 0
-States t x id = IsFormulaIn t id × (literal_of (term_at t id) ≡ x)
+abbrev pub StatesLiteral : TableView → Literal → TermId → Type 0
+StatesLiteral t x id = IsFormulaIn t id × (literal_of (term_at t id) ≡ x)
 
 -- the numbers are those of formulas of the table, which state the literals
 abbrev pub StateAll : TableView → List Literal → List TermId → Type 0

@@ -24,7 +24,7 @@ abbrev pub step_of : ℕ → StepId
 step_of r = record { 0 = r }
 
 -- A step's clause has a literal, and its others are false.
-pub record IsReason (t : TableView) (log : List Logged) (held : List Lit) (l : Lit) (s : StepId) : Type 0 where
+pub record IsTrailReason (t : TableView) (log : List Logged) (held : List Lit) (l : Lit) (s : StepId) : Type 0 where
   -- the step is one of the log's
   pub in_log : s.0 < length log
   -- it has the literal
@@ -33,9 +33,9 @@ pub record IsReason (t : TableView) (log : List Logged) (held : List Lit) (l : L
   pub others_false : (m : Lit) → HasLit t log s m → m ≢ l → Contains held (lit_complement m)
 
 -- each reason along a trail is a step that has the literal and whose others are false by earlier ones
-abbrev pub AreReasons : TableView → List Logged → TrailView → Type 0
-AreReasons t log v = (k r : ℕ) → k < length v.literals → get_or v.reasons k None ≡ Some r
-    → IsReason t log (take k v.literals) (get_or v.literals k no_lit) (step_of r)
+abbrev pub AreTrailReasons : TableView → List Logged → TrailView → Type 0
+AreTrailReasons t log v = (k r : ℕ) → k < length v.literals → get_or v.reasons k None ≡ Some r
+    → IsTrailReason t log (take k v.literals) (get_or v.literals k no_lit) (step_of r)
 
 -- A literal is false since a level: its complement came to hold there.
 pub record IsFalseAt (v : TrailView) (m : Lit) (n : ℕ) : Type 0 where

@@ -13,7 +13,7 @@ use Rattle.proof_log.specs.Logs.{assumed, stepped}
 use Rattle.proof_log.specs.Clashes.{literals_in}
 use Rattle.conflict_learn.specs.Conflicts.{Conflict, step_of}
 use Rattle.conflict_learn.specs.Points.{held_at, level_at, Falsifies, IsMet, of_clash, of_reason, HasTwo, IsDropped, of_point, of_dropped, IsUsed, IsUip}
-use Rattle.conflict_learn.specs.Rows.{variable, id, plus, minus, two, number, same_number}
+use Rattle.conflict_learn.specs.Rows.{variable, id, plus, negative_lit, two, number, same_number}
 
 -- the conflict; g, e, a, b, c and d are the variables from 0 on
 abbrev fixed_row : Conflict
@@ -222,7 +222,7 @@ left_is p lt m up = elim (cases_lt p 2) [
 ]
 
 -- the clause of the point is -b
-b_is_learned : IsUip fixed_row 1 (minus 3 ∷ []) (step_of 5 ∷ step_of 4 ∷ step_of 3 ∷ step_of 1 ∷ step_of 0 ∷ [])
+b_is_learned : IsUip fixed_row 1 (negative_lit 3 ∷ []) (step_of 5 ∷ step_of 4 ∷ step_of 3 ∷ step_of 1 ∷ step_of 0 ∷ [])
 b_is_learned = record {
   from = 4;
   point = record { within = omega arith; above = goes_on; here = here };
@@ -240,6 +240,6 @@ b_is_learned = record {
         let second = left_is h.other h.before h.other_met (omega (arith, h.other_level)) in
         omega (arith, h.apart, first, second)
 
-    only : (m : Lit) → Contains (minus 3 ∷ []) m → (p : ℕ) × (p < 4) × IsMet fixed_row 4 p × (0 < level_at fixed_row p) × (held_at fixed_row p ≡ lit_complement m)
+    only : (m : Lit) → Contains (negative_lit 3 ∷ []) m → (p : ℕ) × (p < 4) × IsMet fixed_row 4 p × (0 < level_at fixed_row p) × (held_at fixed_row p ≡ lit_complement m)
     only m (zero, lt, e) = (3, omega arith, b_met 4 (omega arith), omega arith, ap lit_complement e)
     only m (suc i, lt, e) = absurd (omega (arith, lt))

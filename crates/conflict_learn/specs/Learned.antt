@@ -5,7 +5,7 @@ use Rattle.world_io.specs.declared.bytes.NoMemory.{NoMemory}
 use Rattle.term_core.specs.declared.ids.TermId.{TermId}
 use Rattle.term_core.specs.declared.ids.Lit.{Lit}
 use Rattle.term_core.specs.Tables.{TableView, clause_at}
-use Rattle.clause_literals.specs.Literals.{Means}
+use Rattle.clause_literals.specs.Literals.{LiteralsMean}
 use Rattle.proof_log.specs.declared.premises.StepId.{StepId}
 use Rattle.proof_log.specs.Logs.{Logged, stepped, IsLogOf}
 use Rattle.sat_trail.specs.Trails.{TrailView}
@@ -26,7 +26,7 @@ pub record IsLogged (c : Conflict) (t : TableView) (new : List Logged) (clause :
   -- with it, the log is right
   pub right : IsLogOf t new
   -- the terms state the clause
-  pub means : Means t clause (clause_at t terms)
+  pub means : LiteralsMean t clause (clause_at t terms)
   -- it has no other premises
   pub no_others : (s : StepId) → Contains premises s → IsPremise c s
 

@@ -3,7 +3,7 @@ use Rattle.std.specs.Prelude.{◌≡◌, ◌⊎◌, ◌↔◌, ◌<◌, ◌≤�
 use Rattle.term_core.specs.declared.ids.Lit.{Lit}
 use Rattle.clause_literals.specs.Literals.{lit_complement}
 use Rattle.proof_log.specs.declared.premises.StepId.{StepId}
-use Rattle.sat_trail.specs.Trails.{no_lit, AreApart}
+use Rattle.sat_trail.specs.Trails.{no_lit, VariablesAreApart}
 use Rattle.proof_log.specs.Clashes.{HasLit}
 use Rattle.conflict_learn.specs.Conflicts.{Conflict, step_of}
 
@@ -50,7 +50,7 @@ pub record IsPoint (c : Conflict) (n from : ℕ) : Type 0 where
 -- A clause has exactly the literals that are left at a place and are not of level 0, each once.
 pub record IsLeft (c : Conflict) (from : ℕ) (clause : List Lit) : Type 0 where
   -- no variable stands twice
-  pub once : AreApart clause
+  pub once : VariablesAreApart clause
   -- each that is left is there
   pub all : (p : ℕ) → p < from → IsMet c from p → 0 < level_at c p → Contains clause (lit_complement (held_at c p))
   -- and no other

@@ -27,8 +27,8 @@ abbrev pub plus : ℕ → Lit
 plus n = record { term = id n; positive = true }
 
 -- and their complements
-abbrev pub minus : ℕ → Lit
-minus n = record { term = id n; positive = false }
+abbrev pub negative_lit : ℕ → Lit
+negative_lit n = record { term = id n; positive = false }
 
 -- a step with a clause of two terms
 abbrev pub two : ℕ → ℕ → Logged
@@ -167,7 +167,7 @@ is_step s (inr (inl h)) = by h.place h.replaced (met_small 2 h.place h.met) h.re
 is_step s (inr (inr h)) = absurd (none_dropped h.place h.dropped)
 
 -- the clause of the point is -b
-b_is_learned : IsUip row 1 (minus 1 ∷ []) (step_of 3 ∷ step_of 2 ∷ step_of 1 ∷ [])
+b_is_learned : IsUip row 1 (negative_lit 1 ∷ []) (step_of 3 ∷ step_of 2 ∷ step_of 1 ∷ [])
 b_is_learned = record {
   from = 2;
   point = record {
@@ -183,6 +183,6 @@ b_is_learned = record {
   used = λ s. (is_used s, is_step s);
 }
   where
-    only : (m : Lit) → Contains (minus 1 ∷ []) m → (p : ℕ) × (p < 2) × IsMet row 2 p × (0 < level_at row p) × (held_at row p ≡ lit_complement m)
+    only : (m : Lit) → Contains (negative_lit 1 ∷ []) m → (p : ℕ) × (p < 2) × IsMet row 2 p × (0 < level_at row p) × (held_at row p ≡ lit_complement m)
     only m (zero, lt, e) = (1, omega arith, b_met 2 (omega arith), omega arith, ap lit_complement e)
     only m (suc i, lt, e) = absurd (omega (arith, lt))

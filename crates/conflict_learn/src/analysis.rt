@@ -4,7 +4,7 @@ ghost use Rattle.std.specs.Prelude.{◌≡◌, ◌<◌, ◌≤◌, ◌+◌, ℕ,
 ghost use Rattle.proof_log.specs.declared.premises.StepId.{StepId as Number};
 ghost use Rattle.proof_log.specs.Logs.{IsLogOf};
 ghost use Rattle.proof_log.specs.Clashes.{IsClash};
-ghost use Rattle.conflict_learn.specs.Conflicts.{AreReasons, IsConflictLevel};
+ghost use Rattle.conflict_learn.specs.Conflicts.{AreTrailReasons, IsConflictLevel};
 ghost use Rattle.conflict_learn.specs.Analyses.{IsMarkedAt, IsNewest, HasComeTo, HasPassed};
 
 use crate::meeting::{Seen, meet_all};
@@ -71,7 +71,7 @@ fn pass(
 ) -> Result<(), NoMemory>
     requires log { IsLogOf table.now log.now }
     requires at { at < length trail.now.literals }
-    requires reasons { AreReasons table.now log.now trail.now }
+    requires reasons { AreTrailReasons table.now log.now trail.now }
     requires size { length analysis.old.seen.marks.items ≡ trail.now.vars }
     requires some { 0 < analysis.old.seen.many }
     requires few { analysis.old.seen.many ≤ at + 1 }
@@ -112,7 +112,7 @@ pub(crate) fn analyze(
     requires clash { IsClash table.now log.now trail.now.literals clash }
     requires level { IsConflictLevel
         (record { table = table.now; log = log.now; trail = trail.now; clash = clash }) level }
-    requires reasons { AreReasons table.now log.now trail.now }
+    requires reasons { AreTrailReasons table.now log.now trail.now }
     ensures size { IfOk result (λ a. length a.seen.marks.items ≡ trail.now.vars) }
     ensures passed { IfOk result (HasPassed
         (record { table = table.now; log = log.now; trail = trail.now; clash = clash }) level) }

@@ -4,7 +4,7 @@ ghost use Rattle.std.specs.Prelude.{◌≡◌, ◌<◌, ◌≤◌, ◌+◌, ℕ,
 ghost use Rattle.proof_log.specs.declared.premises.StepId.{StepId as Number};
 ghost use Rattle.proof_log.specs.Logs.{IsLogOf};
 ghost use Rattle.proof_log.specs.Clashes.{IsClash};
-ghost use Rattle.conflict_learn.specs.Conflicts.{AreReasons, IsConflictLevel};
+ghost use Rattle.conflict_learn.specs.Conflicts.{AreTrailReasons, IsConflictLevel};
 ghost use Rattle.conflict_learn.specs.Analyses.{HasPassed, AreDropped, HasFound};
 
 use crate::analysis::{Analysis, analyze, newest_before};
@@ -59,7 +59,7 @@ fn drop_at(
     requires log { IsLogOf table.now log.now }
     requires at { at < length trail.now.literals }
     requires fixed { get_or trail.now.levels at 0 ≡ 0 }
-    requires reasons { AreReasons table.now log.now trail.now }
+    requires reasons { AreTrailReasons table.now log.now trail.now }
     requires size { length marks.old.items ≡ trail.now.vars }
     ensures size { length marks.new.items ≡ trail.now.vars }
     ensures dropped { OnOk result ((clash : Number) (from : ℕ) → IsClash table.now log.now trail.now.literals clash
@@ -92,7 +92,7 @@ pub(crate) fn drop_fixed(
     premises: &mut Vec<StepId>,
 ) -> Result<(), NoMemory>
     requires log { IsLogOf table.now log.now }
-    requires reasons { AreReasons table.now log.now trail.now }
+    requires reasons { AreTrailReasons table.now log.now trail.now }
     requires size { length marks.old.items ≡ trail.now.vars }
     ensures dropped { OnOk result ((clash : Number) (from : ℕ) → IsClash table.now log.now trail.now.literals clash
         → AreDropped (record { table = table.now; log = log.now; trail = trail.now; clash = clash })
@@ -114,7 +114,7 @@ fn drop_seen(
     analysis: &mut Analysis,
 ) -> Result<(), NoMemory>
     requires log { IsLogOf table.now log.now }
-    requires reasons { AreReasons table.now log.now trail.now }
+    requires reasons { AreTrailReasons table.now log.now trail.now }
     requires size { length analysis.old.seen.marks.items ≡ trail.now.vars }
     ensures lower { analysis.new.seen.lower ≡ analysis.old.seen.lower }
     ensures back { analysis.new.seen.back ≡ analysis.old.seen.back }
@@ -153,7 +153,7 @@ pub(crate) fn find(
     requires level { IsConflictLevel
         (record { table = table.now; log = log.now; trail = trail.now; clash = clash }) level }
     requires above { 0 < level }
-    requires reasons { AreReasons table.now log.now trail.now }
+    requires reasons { AreTrailReasons table.now log.now trail.now }
     ensures { IfOk result (HasFound
         (record { table = table.now; log = log.now; trail = trail.now; clash = clash }) level) }
 {

@@ -4,7 +4,7 @@ ghost use Rattle.std.specs.Prelude.{◌≡◌, IfOk, OnErr};
 ghost use Rattle.term_core.specs.Tables.{declared_in, Extends};
 ghost use Rattle.proof_log.specs.Logs.{IsLogOf};
 ghost use Rattle.proof_log.specs.Clashes.{IsClash};
-ghost use Rattle.conflict_learn.specs.Conflicts.{AreReasons, IsAboveZero, IsOfZero};
+ghost use Rattle.conflict_learn.specs.Conflicts.{AreTrailReasons, IsAboveZero, IsOfZero};
 ghost use Rattle.conflict_learn.specs.Learned.{IsLearned, Refutes};
 
 use crate::dropping::{drop_fixed, find};
@@ -46,7 +46,7 @@ pub fn learn(
     requires log { IsLogOf table.old log.old }
     requires clash { IsClash table.old log.old trail.now.literals clash }
     requires above { IsAboveZero (record { table = table.old; log = log.old; trail = trail.now; clash = clash }) }
-    requires reasons { AreReasons table.old log.old trail.now }
+    requires reasons { AreTrailReasons table.old log.old trail.now }
     ensures grown { Extends table.old table.new }
     ensures declared { declared_in table.new ≡ declared_in table.old }
     ensures learned { IfOk result (IsLearned
@@ -75,7 +75,7 @@ fn learned(
     requires log { IsLogOf table.old log.old }
     requires clash { IsClash table.old log.old trail.now.literals clash }
     requires above { IsAboveZero (record { table = table.old; log = log.old; trail = trail.now; clash = clash }) }
-    requires reasons { AreReasons table.old log.old trail.now }
+    requires reasons { AreTrailReasons table.old log.old trail.now }
     ensures grown { Extends table.old table.new }
     ensures declared { declared_in table.new ≡ declared_in table.old }
     ensures learned { IfOk result (IsLearned
@@ -115,7 +115,7 @@ pub fn refute(
     requires log { IsLogOf table.now log.old }
     requires clash { IsClash table.now log.old trail.now.literals clash }
     requires of_zero { IsOfZero (record { table = table.now; log = log.old; trail = trail.now; clash = clash }) }
-    requires reasons { AreReasons table.now log.old trail.now }
+    requires reasons { AreTrailReasons table.now log.old trail.now }
     ensures { Refutes (record { table = table.now; log = log.old; trail = trail.now; clash = clash }) result log.new }
 {
     trail.is_sound();

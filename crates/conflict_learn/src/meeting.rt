@@ -4,7 +4,7 @@ ghost use Rattle.std.specs.Prelude.{◌≡◌, ◌<◌, ◌≤◌, ◌+◌, ◌^
 ghost use Rattle.spec_sorts.specs.Literals.{Literal, literals_of};
 ghost use Rattle.term_core.specs.declared.ids.Lit.{Lit};
 ghost use Rattle.term_core.specs.Tables.{TableView, IsIn, AreIn, clause_at, literal_at};
-ghost use Rattle.conflict_learn.specs.Analyses.{Marks, AreSorted, IsBefore};
+ghost use Rattle.conflict_learn.specs.Analyses.{MarksVariables, AreSorted, IsBefore};
 
 use sat_trail::SatTrail;
 use term_core::{Lit, TermId, TermTable};
@@ -33,7 +33,7 @@ fn meet(trail: &SatTrail, level: u64, m: Lit, seen: &mut Seen) -> Result<(), NoM
     ensures size { length seen.new.marks.items ≡ trail.now.vars }
     ensures bound { seen.new.many ≤ seen.old.many + 1 }
     ensures marks { OnOk result ((t : TableView) (ls : List Literal) (first : List Bool) → IsIn t m.term
-        → Marks t ls first seen.old.marks.items → Marks t (ls ++ literal_at t m ∷ []) first seen.new.marks.items) }
+        → MarksVariables t ls first seen.old.marks.items → MarksVariables t (ls ++ literal_at t m ∷ []) first seen.new.marks.items) }
     ensures sorts { OnOk result ((k : ℕ) → IsBefore trail.now k seen.old.marks.items m
         → AreSorted trail.now level k seen.old → AreSorted trail.now level k seen.new) }
 {
@@ -75,7 +75,7 @@ pub(crate) fn meet_all(
     requires fits { seen.old.many + length clause.now < 2 ^ 64 }
     ensures size { length seen.new.marks.items ≡ trail.now.vars }
     ensures marks { OnOk result
-        (Marks table.now (literals_of (clause_at table.now clause.now)) seen.old.marks.items seen.new.marks.items) }
+        (MarksVariables table.now (literals_of (clause_at table.now clause.now)) seen.old.marks.items seen.new.marks.items) }
     ensures sorts { OnOk result ((k : ℕ) → ((m : Lit) → IsIn table.now m.term
         → Contains (literals_of (clause_at table.now clause.now)) (literal_at table.now m)
         → IsBefore trail.now k seen.old.marks.items m)

@@ -7,7 +7,7 @@ ghost use Rattle.spec_derivations.specs.Derivations.{FollowsFrom};
 ghost use Rattle.term_core.specs.Tables.{IsIn, declared_in, term_at, literal_at, Extends};
 ghost use Rattle.proof_log.specs.Logs.{IsFormulaIn, AreFormulasIn, stepped, inference_of, derivation_in, IsLogOf};
 ghost use Rattle.proof_log.specs.Adding.{IsAdded};
-ghost use Rattle.conflict_learn.specs.Analyses.{IsBare, States, StateAll};
+ghost use Rattle.conflict_learn.specs.Analyses.{IsBare, StatesLiteral, StateAll};
 
 use proof_log::{Clause, Numbers, ProofLog, Rule, Step, StepId, StepIds};
 use std::alloc::Global;
@@ -31,7 +31,7 @@ fn term_of(alloc: Global, table: &mut TermTable, l: Lit) -> Result<TermId, NoMem
     requires { IsBare table.old l }
     ensures grown { Extends table.old table.new }
     ensures declared { declared_in table.new ≡ declared_in table.old }
-    ensures states { IfOk result (States table.new (literal_at table.old l)) }
+    ensures states { IfOk result (StatesLiteral table.new (literal_at table.old l)) }
 {
     if l.positive {
         return Ok(l.term);

@@ -7,9 +7,9 @@ use Rattle.std.proofs.lemmas.List.Elements.{All-append, All-cons, All-nil, All-t
 use Rattle.spec_sorts.specs.Terms.{True, False, of}
 use Rattle.term_core.specs.declared.ids.TermId.{TermId}
 use Rattle.term_core.specs.declared.ids.Lit.{Lit}
-use Rattle.term_core.specs.Tables.{TableView, shape_term, term_at, IsIn, Fits}
-use Rattle.proof_log.specs.Theories.{terms_watched, IsTermIn, IsOver}
-use Rattle.congruence_relation.specs.Relation.{Application, Facts, AreOf, terms_listed}
+use Rattle.term_core.specs.Tables.{TableView, shape_term, term_at, IsIn, ShapeFits}
+use Rattle.proof_log.specs.Theories.{terms_watched, IsTermIn, IsTheoryOver}
+use Rattle.congruence_relation.specs.Relation.{Application, Facts, AreFactsOf, terms_listed}
 use Rattle.congruence_closure.specs.State.{with_listed, with_held}
 use Rattle.congruence_relation.specs.declared.Truths.{Truths}
 use Rattle.congruence_closure.specs.Closure.{ClosureView, ArePrefix, AreInOrder}
@@ -22,14 +22,14 @@ pub watched_are_listed : (t : TableView) (v : ClosureView) → terms_watched t (
 watched_are_listed t v = map-map (term_at t) (λ (x : Application). x.term) v.now.facts.listed
 
 -- each listed term is one over the symbols
-pub terms_over : (t : TableView) (v : ClosureView) → IsOver t (theory_of v) → All (λ (x : Application). IsTermIn t x.term) v.now.facts.listed
+pub terms_over : (t : TableView) (v : ClosureView) → IsTheoryOver t (theory_of v) → All (λ (x : Application). IsTermIn t x.term) v.now.facts.listed
 terms_over t v over k d low =
     subst (IsTermIn t) (get_or-map (λ (x : Application). x.term) v.now.facts.listed k d d.term low) (over.terms k d.term (rw (length-map v.now.facts.listed (λ (x : Application). x.term)) low))
 
 -- what is listed of a table, is one with a term of it more
-pub more_listed : (t : TableView) (f : Facts) (x : Application) → AreOf t f → IsIn t x.term → Fits t x.shape → shape_term t x.shape ≡ term_at t x.term → AreOf t (with_listed f x)
+pub more_listed : (t : TableView) (f : Facts) (x : Application) → AreFactsOf t f → IsIn t x.term → ShapeFits t x.shape → shape_term t x.shape ≡ term_at t x.term → AreFactsOf t (with_listed f x)
 more_listed t f x h there fits is = record {
-  terms = All-append (λ y. IsIn t y.term × Fits t y.shape × (shape_term t y.shape ≡ term_at t y.term)) f.listed (x ∷ []) h.terms (All-cons (λ y. IsIn t y.term × Fits t y.shape × (shape_term t y.shape ≡ term_at t y.term)) x [] (there, fits, is) (All-nil (λ y. IsIn t y.term × Fits t y.shape × (shape_term t y.shape ≡ term_at t y.term))));
+  terms = All-append (λ y. IsIn t y.term × ShapeFits t y.shape × (shape_term t y.shape ≡ term_at t y.term)) f.listed (x ∷ []) h.terms (All-cons (λ y. IsIn t y.term × ShapeFits t y.shape × (shape_term t y.shape ≡ term_at t y.term)) x [] (there, fits, is) (All-nil (λ y. IsIn t y.term × ShapeFits t y.shape × (shape_term t y.shape ≡ term_at t y.term))));
   true_there = h.true_there;
   true_is = h.true_is;
   false_there = h.false_there;
@@ -38,7 +38,7 @@ more_listed t f x h there fits is = record {
 }
 
 -- and with a literal more of a listed term
-pub more_held : (t : TableView) (f : Facts) (l : Lit) (x : Application) → AreOf t f → Contains f.listed x → x.term ≡ l.term → AreOf t (with_held f l)
+pub more_held : (t : TableView) (f : Facts) (l : Lit) (x : Application) → AreFactsOf t f → Contains f.listed x → x.term ≡ l.term → AreFactsOf t (with_held f l)
 more_held t f l x h there is = record {
   terms = h.terms;
   true_there = h.true_there;
@@ -55,9 +55,9 @@ listed_of f t (k, there, is) =
     (get_or f.listed k no_application, Contains-get_or f.listed k no_application low, sym (get_or-map (λ (x : Application). x.term) f.listed k no_application t low) ∙ is)
 
 -- what is listed of a table, is one in a prefix of it
-pub front_of : (t : TableView) (f g : Facts) → AreOf t f → ArePrefix g f → AreInOrder g → AreOf t g
+pub front_of : (t : TableView) (f g : Facts) → AreFactsOf t f → ArePrefix g f → AreInOrder g → AreFactsOf t g
 front_of t f g h front order = record {
-  terms = subst (All (λ x. IsIn t x.term × Fits t x.shape × (shape_term t x.shape ≡ term_at t x.term))) (sym front.listed) (All-take (λ x. IsIn t x.term × Fits t x.shape × (shape_term t x.shape ≡ term_at t x.term)) (length g.listed) f.listed h.terms);
+  terms = subst (All (λ x. IsIn t x.term × ShapeFits t x.shape × (shape_term t x.shape ≡ term_at t x.term))) (sym front.listed) (All-take (λ x. IsIn t x.term × ShapeFits t x.shape × (shape_term t x.shape ≡ term_at t x.term)) (length g.listed) f.listed h.terms);
   true_there = subst (λ (ts : Truths). IsIn t ts.true_term) (sym front.truths) h.true_there;
   true_is = subst (λ (ts : Truths). term_at t ts.true_term ≡ of True []) (sym front.truths) h.true_is;
   false_there = subst (λ (ts : Truths). IsIn t ts.false_term) (sym front.truths) h.false_there;

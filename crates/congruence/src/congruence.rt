@@ -4,7 +4,7 @@ ghost use Rattle.std.specs.Prelude.{◌≡◌, ◌↔◌, [], true, length, IfOk
 ghost use Rattle.spec_sorts.specs.Terms.{True, False, of};
 ghost use Rattle.term_core.specs.Symbols.{AreDeclared};
 ghost use Rattle.term_core.specs.Tables.{TableView, IsIn, AreIn, AreDifferent, term_at};
-ghost use Rattle.congruence_relation.specs.Relation.{AreOf};
+ghost use Rattle.congruence_relation.specs.Relation.{AreFactsOf};
 ghost use Rattle.congruence_closure.specs.Closure.{TellClasses};
 ghost use Rattle.congruence.specs.Views.{theory_of, AreEqualBy};
 
@@ -44,7 +44,7 @@ impl Congruence {
         requires false_there { IsIn table.now truths.false_term }
         requires false_is { term_at table.now truths.false_term ≡ of False [] }
         ensures empty { IfOk result (λ c. theory_of c ≡ record { held = []; watched = []; marks = [] }) }
-        ensures with { IfOk result (λ c. AreOf table.now c.now.facts) }
+        ensures with { IfOk result (λ c. AreFactsOf table.now c.now.facts) }
     {
         let _ = table;
         let closure = Closure::new(alloc, truths)?;
@@ -57,10 +57,10 @@ impl Congruence {
     /// mark that was set there; `is_settled` tells so. Else terms that it calls equal are equal, and others may be. It takes no memory.
     pub fn same(&self, a: TermId, b: TermId) -> bool
         ensures sound { (t : TableView) → AreDifferent t.terms → AreDeclared t.sorts t.symbols
-            → AreOf t self.now.now.facts
+            → AreFactsOf t self.now.now.facts
             → IsIn t a → IsIn t b → result ≡ true → AreEqualBy t (theory_of self.now) a b }
         ensures exact { (t : TableView) → AreDifferent t.terms → AreDeclared t.sorts t.symbols
-            → AreOf t self.now.now.facts
+            → AreFactsOf t self.now.now.facts
             → IsIn t a → IsIn t b → self.now.now.settled ≡ true
             → (result ≡ true) ↔ AreEqualBy t (theory_of self.now) a b }
     {
@@ -76,7 +76,7 @@ impl Congruence {
     pub fn classes(&self, alloc: Global, terms: &[TermId]) -> Result<Vec<u64>, NoMemory>
         ensures count { IfOk result (λ v. length v.items ≡ length terms.now) }
         ensures exact { (t : TableView) → AreDifferent t.terms → AreDeclared t.sorts t.symbols
-            → AreOf t self.now.now.facts
+            → AreFactsOf t self.now.now.facts
             → AreIn t terms.now → self.now.now.settled ≡ true
             → IfOk result (λ v. TellClasses (AreEqualBy t (theory_of self.now)) terms.now v.items) }
     {

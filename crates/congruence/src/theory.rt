@@ -8,8 +8,8 @@ ghost use Rattle.sat_budget.specs.Budgets.{Spends, StopsBy, AreSpent};
 ghost use Rattle.proof_log.specs.declared.theory.Verdict.TheVariants.{Fine};
 ghost use Rattle.proof_log.specs.Logs.{IsLogOf};
 ghost use Rattle.proof_log.specs.Clashes.{IsClash};
-ghost use Rattle.proof_log.specs.Theories.{with_watched, with_mark, gone_back, IsTermIn, IsOver, terms_watched, literals_held, Derives, Checks, CameTo};
-ghost use Rattle.congruence_relation.specs.Relation.{Facts, AreOf, terms_listed};
+ghost use Rattle.proof_log.specs.Theories.{with_watched, with_mark, gone_back, IsTermIn, IsTheoryOver, terms_watched, literals_held, DerivesLemmas, Checks, CameTo};
+ghost use Rattle.congruence_relation.specs.Relation.{Facts, AreFactsOf, terms_listed};
 ghost use Rattle.congruence_relation.specs.Edges.{IsConflict};
 ghost use Rattle.congruence.specs.Views.{theory_of};
 
@@ -33,11 +33,11 @@ fn explain_conflict(
 ) -> Result<StepId, NoMemory>
     ghost facts: { Facts }
     requires facts { facts ≡ closure.now.now.facts }
-    requires over { IsOver table.old (theory_of closure.now) }
-    requires with { AreOf table.old facts }
+    requires over { IsTheoryOver table.old (theory_of closure.now) }
+    requires with { AreFactsOf table.old facts }
     requires log { IsLogOf table.old log.old }
     requires conflict { IsConflict facts closure.now.edges conflict }
-    ensures derives { OnOk result (Derives (terms_listed table.old facts)
+    ensures derives { OnOk result (DerivesLemmas (terms_listed table.old facts)
         (record { table = table.old; log = log.old }) (record { table = table.new; log = log.new })) }
     ensures clash { IfOk result (IsClash table.new log.new facts.held) }
     ensures same { OnErr result ((table.new ≡ table.old) × (log.new ≡ log.old)) }
@@ -56,13 +56,13 @@ fn explain_conflict(
 impl Theory for Congruence {
     ghost use Rattle.std.specs.Prelude.{◌≡◌, true};
     ghost use Rattle.spec_congruence.specs.Congruence.{IsFine, IsRefuted};
-    ghost use Rattle.congruence_relation.specs.Relation.{AreOf};
+    ghost use Rattle.congruence_relation.specs.Relation.{AreFactsOf};
     ghost use Rattle.congruence.specs.Views.{theory_of};
     ghost use Rattle.congruence_relation.proofs.Kept.{of_more};
 
     ghost view = { theory_of };
 
-    ghost goes_with = { λ c t. AreOf t c.now.facts };
+    ghost goes_with = { λ c t. AreFactsOf t c.now.facts };
 
     ghost agrees = { λ c ts ls. IsFine ts ls × (c.now.settled ≡ true) };
 
@@ -81,8 +81,8 @@ impl Theory for Congruence {
     fn watch_term(&mut self, table: &TermTable, id: TermId) -> Result<(), Stop>
         requires term { IsTermIn table.now id }
         requires new { Contains (theory_of self.old).watched id → ⊥ }
-        requires with { AreOf table.now self.old.now.facts }
-        ensures with { AreOf table.now self.new.now.facts }
+        requires with { AreFactsOf table.now self.old.now.facts }
+        ensures with { AreFactsOf table.now self.new.now.facts }
         ensures watches { MatchResult result (λ _. theory_of self.new ≡ with_watched (theory_of self.old) id)
             (λ _. theory_of self.new ≡ theory_of self.old) }
         ensures came { CameTo result (λ _. Unit {0}) (Unit {0}) (Unit {0}) }
@@ -107,10 +107,10 @@ impl Theory for Congruence {
         log: &mut ProofLog,
         budget: &mut Budget,
     ) -> Result<Verdict, Stop>
-        requires over { IsOver table.old (theory_of self.old) }
-        requires with { AreOf table.old self.old.now.facts }
+        requires over { IsTheoryOver table.old (theory_of self.old) }
+        requires with { AreFactsOf table.old self.old.now.facts }
         requires log { IsLogOf table.old log.old }
-        ensures with { AreOf table.new self.new.now.facts }
+        ensures with { AreFactsOf table.new self.new.now.facts }
         ensures same { theory_of self.new ≡ theory_of self.old }
         ensures budget { Spends budget.old budget.new }
         ensures kept { budget.new ≡ budget.old }
@@ -142,7 +142,7 @@ impl Theory for Congruence {
 
     /// Marks what it holds and watches, and whether it is settled. `NoMemory` comes where the mark finds no memory; then all is as it was.
     fn mark(&mut self) -> Result<(), NoMemory>
-        ensures with { (t : TableView) → AreOf t self.old.now.facts → AreOf t self.new.now.facts }
+        ensures with { (t : TableView) → AreFactsOf t self.old.now.facts → AreFactsOf t self.new.now.facts }
         ensures marks { MatchResult result (λ _. theory_of self.new ≡ with_mark (theory_of self.old))
             (λ _. theory_of self.new ≡ theory_of self.old) }
         ensures now { self.new.now ≡ self.old.now }
@@ -154,7 +154,7 @@ impl Theory for Congruence {
     /// Goes back so many marks: it holds and watches what it did there, and is settled if it was. It takes no memory.
     fn back(&mut self, marks: u32)
         requires there { marks ≤ length (theory_of self.old).marks }
-        ensures with { (t : TableView) → AreOf t self.old.now.facts → AreOf t self.new.now.facts }
+        ensures with { (t : TableView) → AreFactsOf t self.old.now.facts → AreFactsOf t self.new.now.facts }
         ensures back { theory_of self.new ≡ gone_back marks (theory_of self.old) }
         ensures now { self.new.now ≡ get_or self.old.marks (length self.old.marks - marks) self.old.now }
         ensures marks { self.new.marks ≡ take (length self.old.marks - marks) self.old.marks }

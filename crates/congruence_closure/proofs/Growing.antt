@@ -11,21 +11,21 @@ use Rattle.class_table.proofs.Joined.{length-with_terms, others_kept, added_alon
 use Rattle.explain_forest.specs.declared.types.Edge.{Edge}
 use Rattle.explain_forest.specs.Forest.{root, Linked}
 use Rattle.congruence_relation.specs.declared.Truths.{Truths}
-use Rattle.congruence_relation.specs.Relation.{Application, Facts, IsEquality, States, decides, equates}
+use Rattle.congruence_relation.specs.Relation.{Application, Facts, IsEquality, StatesEqual, decides, equates}
 use Rattle.congruence_relation.proofs.More.{reasons_more}
 use Rattle.congruence_closure.specs.Closure.{denial}
 use Rattle.congruence_closure.specs.Listed.{nth, no_application, held_at, IsListed}
 use Rattle.congruence_closure.specs.Keys.{key_of, key_at, holder_at}
-use Rattle.congruence_closure.specs.State.{State, IsLive, AreJoint, IsPending, HasKey, IsApart, IsKept, no_facts, with_listed, with_held}
+use Rattle.congruence_closure.specs.State.{PartsState, IsLive, AreJoint, IsPending, HasKey, IsApart, PartsFit, no_facts, with_listed, with_held}
 use Rattle.congruence_closure.proofs.Denials.{places, held_before, held_there, once_push}
 use Rattle.congruence_closure.proofs.Terms.{key_same, term_low, arguments_low, sides_low, held_listed, states_low, root_past, root_below}
 
 -- the parts with other class numbers
-abbrev pub with_numbers : State → List ℕ → State
+abbrev pub with_numbers : PartsState → List ℕ → PartsState
 with_numbers s numbers = record { facts = s.facts; numbers = numbers; edges = s.edges; keys = s.keys; left = s.left }
 
 -- the parts about other facts
-abbrev pub with_facts : State → Facts → State
+abbrev pub with_facts : PartsState → Facts → PartsState
 with_facts s f = record { facts = f; numbers = s.numbers; edges = s.edges; keys = s.keys; left = s.left }
 
 -- ---- terms come, each alone
@@ -69,7 +69,7 @@ module _ (numbers : List ℕ) (es : List Edge) (count : ℕ) (joint : AreJoint n
         λ e. ap (root es) (sym (grown_alone t past lt) ∙ e ∙ grown_alone u also lu),
       )
 
-module _ (s : State) (count : ℕ) (h : IsKept s) where
+module _ (s : PartsState) (count : ℕ) (h : PartsFit s) where
   same_at : (t : TermId) → t.0 < length s.numbers → class_at (with_terms count s.numbers) t ≡ class_at s.numbers t
   same_at t lt = others_kept s.numbers count t lt
 
@@ -77,7 +77,7 @@ module _ (s : State) (count : ℕ) (h : IsKept s) where
   same_key i lt = key_same s.numbers (with_terms count s.numbers) (nth s.facts.listed i).shape
       (λ a c. same_at a (subst (λ (t : TermId). t.0 < length s.numbers) c.2 (arguments_low s h i lt c.0 a c.1)))
 
-  pub kept_grown : IsKept (with_numbers s (with_terms count s.numbers))
+  pub kept_grown : PartsFit (with_numbers s (with_terms count s.numbers))
   kept_grown = record {
     order = h.order;
     there = record { true_in = more h.there.true_in; false_in = more h.there.false_in; terms = λ k d lt. more (h.there.terms k d lt) };
@@ -121,7 +121,7 @@ module _ (s : State) (count : ℕ) (h : IsKept s) where
 
 -- nothing is listed and held
 pub kept_start : (truths : Truths) (numbers : List ℕ) → AreJoint numbers [] → truths.true_term.0 < length numbers → truths.false_term.0 < length numbers
-    → IsKept (record { facts = no_facts truths; numbers = numbers; edges = []; keys = record { shapes = []; holders = [] }; left = record { looked = 0; given = 0; pending = [] } })
+    → PartsFit (record { facts = no_facts truths; numbers = numbers; edges = []; keys = record { shapes = []; holders = [] }; left = record { looked = 0; given = 0; pending = [] } })
 kept_start truths numbers joint true_in false_in = record {
   order = record { once = λ i j a b e. none a; below = λ k d lt. none lt; held = λ k d lt. none lt; held_once = λ i j low lt e. none lt };
   there = record { true_in = true_in; false_in = false_in; terms = λ k d lt. none lt };
@@ -152,7 +152,7 @@ joint_none = record {
 
 -- ---- a term is listed
 
-module _ (s : State) (x : Application) (h : IsKept s) (absent : IsListed s.facts.listed x.term → ⊥) (low : x.term.0 < length s.numbers) (below : All (λ (a : TermId). a.0 < x.term.0) x.shape.arguments) where
+module _ (s : PartsState) (x : Application) (h : PartsFit s) (absent : IsListed s.facts.listed x.term → ⊥) (low : x.term.0 < length s.numbers) (below : All (λ (a : TermId). a.0 < x.term.0) x.shape.arguments) where
   old_at : (i : ℕ) → i < length s.facts.listed → nth (s.facts.listed ++ x ∷ []) i ≡ nth s.facts.listed i
   old_at i lt = get_or_append_left s.facts.listed (x ∷ []) no_application i lt
 
@@ -170,7 +170,7 @@ module _ (s : State) (x : Application) (h : IsKept s) (absent : IsListed s.facts
       go (inl there) = record { at = q.at; there = there; term = q.term; shape = q.shape }
       go (inr is) = absurd (absent (p.0, (p.1.0, p.1.1 ∙ sym q.term ∙ ap (λ (y : Application). y.term) (sym is))))
 
-  old_states : (l : Lit) (a b : TermId) → IsListed s.facts.listed l.term → States (with_listed s.facts x) l a b → States s.facts l a b
+  old_states : (l : Lit) (a b : TermId) → IsListed s.facts.listed l.term → StatesEqual (with_listed s.facts x) l a b → StatesEqual s.facts l a b
   old_states l _ _ p decides = decides
   old_states l a b p (equates _ _ positive q) = equates a b positive (old_equality l.term a b p q)
 
@@ -186,7 +186,7 @@ module _ (s : State) (x : Application) (h : IsKept s) (absent : IsListed s.facts
       go (inr p) (inl q) = absurd (absent (j, (q, sym (term_of (old_at j q)) ∙ sym e ∙ term_of (new_at i p))))
       go (inr p) (inr q) = p ∙ sym q
 
-  pub kept_listed : IsKept (with_facts s (with_listed s.facts x))
+  pub kept_listed : PartsFit (with_facts s (with_listed s.facts x))
   kept_listed = record {
     order = record {
       once = listed_once;
@@ -229,12 +229,12 @@ module _ (s : State) (x : Application) (h : IsKept s) (absent : IsListed s.facts
 
 -- ---- a literal is held
 
-module _ (s : State) (l : Lit) (h : IsKept s) (listed : IsListed s.facts.listed l.term) (absent : Contains s.facts.held l → ⊥) where
-  same_states : (m : Lit) (a b : TermId) → States (with_held s.facts l) m a b → States s.facts m a b
+module _ (s : PartsState) (l : Lit) (h : PartsFit s) (listed : IsListed s.facts.listed l.term) (absent : Contains s.facts.held l → ⊥) where
+  same_states : (m : Lit) (a b : TermId) → StatesEqual (with_held s.facts l) m a b → StatesEqual s.facts m a b
   same_states m _ _ decides = decides
   same_states m a b (equates _ _ positive q) = equates a b positive q
 
-  pub kept_held : IsKept (with_facts s (with_held s.facts l))
+  pub kept_held : PartsFit (with_facts s (with_held s.facts l))
   kept_held = record {
     order = record {
       once = h.order.once;
@@ -250,7 +250,7 @@ module _ (s : State) (l : Lit) (h : IsKept s) (listed : IsListed s.facts.listed 
     given = omega (arith, h.given, length_push s.facts.held l);
     ready = λ i lt. go i (h.ready i lt);
     stated = λ j a b lt states.
-        h.stated j a b lt (subst (λ (m : Lit). States s.facts m a b) (held_before s.facts.held l j (omega (arith, lt, h.given))) (same_states (held_at (s.facts.held ++ l ∷ []) j) a b states));
+        h.stated j a b lt (subst (λ (m : Lit). StatesEqual s.facts m a b) (held_before s.facts.held l j (omega (arith, lt, h.given))) (same_states (held_at (s.facts.held ++ l ∷ []) j) a b states));
   }
     where
       go : (i : ℕ) → IsPending s.left i ⊎ (HasKey s i × IsApart s i) → IsPending s.left i ⊎ (HasKey (with_facts s (with_held s.facts l)) i × IsApart (with_facts s (with_held s.facts l)) i)

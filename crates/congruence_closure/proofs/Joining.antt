@@ -15,16 +15,16 @@ use Rattle.explain_forest.specs.declared.types.Label.{Label}
 use Rattle.explain_forest.specs.Forest.{Linked, IsBetween}
 use Rattle.explain_forest.proofs.Linking.{linked-after}
 use Rattle.congruence_relation.specs.Relation.{Facts}
-use Rattle.congruence_relation.specs.Edges.{IsReason}
+use Rattle.congruence_relation.specs.Edges.{IsEdgeReason}
 use Rattle.congruence_closure.specs.Listed.{nth, held_at}
 use Rattle.congruence_closure.specs.Keys.{key_of, key_at, holder_at}
-use Rattle.congruence_closure.specs.State.{State, IsLive, AreJoint, IsPending, HasKey, IsApart, IsKept}
+use Rattle.congruence_closure.specs.State.{PartsState, IsLive, AreJoint, IsPending, HasKey, IsApart, PartsFit}
 use Rattle.congruence_closure.specs.Changes.{ClassAtMost, AreClassUsers, IsWhy, label}
 use Rattle.congruence_closure.proofs.Denials.{held_there}
 use Rattle.congruence_closure.proofs.Terms.{classes_of, key_same, class_each, term_low, arguments_low, sides_low, states_low}
 
 -- the parts with the classes of two terms joined by an edge, and more to look at
-abbrev pub with_edge : State → TermId → TermId → Label → List ℕ → State
+abbrev pub with_edge : PartsState → TermId → TermId → Label → List ℕ → PartsState
 with_edge s a b label pending = record {
   facts = s.facts;
   numbers = joined a b s.numbers;
@@ -55,7 +55,7 @@ find_class numbers from (x ∷ xs) = go (cases_eq (class_at numbers x) from) (fi
         at a zero low is = subst (λ (t : TermId). class_at numbers t ≢ from) is n
         at a (suc k) low is = none a (k, omega (arith, low), is)
 
-module _ (s : State) (a b : TermId) (h : IsKept s) (a_low : a.0 < length s.numbers) (b_low : b.0 < length s.numbers) (apart : AreSame s.numbers a b → ⊥) (smaller : ClassAtMost s.numbers a b) where
+module _ (s : PartsState) (a b : TermId) (h : PartsFit s) (a_low : a.0 < length s.numbers) (b_low : b.0 < length s.numbers) (apart : AreSame s.numbers a b → ⊥) (smaller : ClassAtMost s.numbers a b) where
   size : length (joined a b s.numbers) ≡ length s.numbers
   size = length-joined s.numbers a b
 
@@ -149,8 +149,8 @@ module _ (s : State) (a b : TermId) (h : IsKept s) (a_low : a.0 < length s.numbe
       (λ t c. class_each (λ (u : TermId). u.0 ≢ class_at s.numbers a) s.numbers (nth s.facts.listed (holder_at s.keys k)).shape.arguments others t c))
 
   module _ (label : Label) (pending more : List ℕ) (is : pending ≡ s.left.pending ++ more) (users : AreClassUsers s.facts.listed s.numbers a more)
-      (reason : IsReason s.facts s.edges (record { a = a; b = b; label = label }) label) where
-    abbrev next : State
+      (reason : IsEdgeReason s.facts s.edges (record { a = a; b = b; label = label }) label) where
+    abbrev next : PartsState
     next = with_edge s a b label pending
 
     still : (i : ℕ) → IsPending s.left i → IsPending (record { looked = s.left.looked; given = s.left.given; pending = pending }) i
@@ -182,7 +182,7 @@ module _ (s : State) (a b : TermId) (h : IsKept s) (a_low : a.0 < length s.numbe
               sides j c d low is_denied shape (sym (at_other c in_range.0 (none c first)) ∙ same ∙ at_other d in_range.1 (none d second)),
         )
 
-    pub kept_joined : IsKept (with_edge s a b label pending)
+    pub kept_joined : PartsFit (with_edge s a b label pending)
     kept_joined = record {
       order = h.order;
       there = record { true_in = omega (arith, h.there.true_in, size); false_in = omega (arith, h.there.false_in, size); terms = λ k d lt. omega (arith, h.there.terms k d lt, size) };
@@ -203,6 +203,6 @@ module _ (s : State) (a b : TermId) (h : IsKept s) (a_low : a.0 < length s.numbe
     }
 
 -- why two terms are equal is a reason for an edge with that label
-pub why_reason : (f : Facts) (es : List Edge) (why : Option Lit) (a b : TermId) → IsWhy f es why a b → IsReason f es (record { a = a; b = b; label = label why a b }) (label why a b)
+pub why_reason : (f : Facts) (es : List Edge) (why : Option Lit) (a b : TermId) → IsWhy f es why a b → IsEdgeReason f es (record { a = a; b = b; label = label why a b }) (label why a b)
 why_reason f es (Some l) a b w = w
 why_reason f es None a b w = (refl, refl, w)

@@ -10,9 +10,9 @@ use Rattle.congruence_closure.specs.declared.parts.Extent.{Extent}
 use Rattle.congruence_closure.specs.declared.closure.Mark.{Mark}
 use Rattle.congruence_closure.specs.Closure.{ClosureState}
 use Rattle.congruence_closure.specs.Keys.{Keys, oldest, AreKeys}
-use Rattle.congruence_closure.specs.State.{State, Left, PartsView, IsKept, IsSettled, with_listed, with_held, extent_of, facts_at, state_at}
-use Rattle.congruence_closure.specs.Changes.{Changes, Goes, Marks, no_forest, numbers_back, forest_back, parts_back, TermsFit}
-use Rattle.congruence_closure.specs.Whole.{marked, IsUpTo, IsMark, no_extent, extent_at, IsWhole}
+use Rattle.congruence_closure.specs.State.{PartsState, Left, PartsView, PartsFit, IsSaturated, with_listed, with_held, extent_of, facts_at, state_at}
+use Rattle.congruence_closure.specs.Changes.{Changes, KeepsFacts, MarksState, no_forest, numbers_back, forest_back, parts_back, TermsFit}
+use Rattle.congruence_closure.specs.Whole.{marked, IsUpTo, IsMark, no_extent, extent_at, ClosureFits}
 use Rattle.congruence_closure.proofs.Denials.{places}
 
 -- Parts come after others: what there was is there still.
@@ -24,7 +24,7 @@ pub record Follows (p q : PartsView) : Type 0 where
   pub numbers_marks : q.numbers_marks ≡ p.numbers_marks
   pub edges_marks : q.edges_marks ≡ p.edges_marks
 
-pub follows_goes : (p q : PartsView) → Goes p q → Follows p q
+pub follows_goes : (p q : PartsView) → KeepsFacts p q → Follows p q
 follows_goes p q g = record {
   facts = λ e le. ap (λ (f : Facts). facts_at f e) g.facts;
   keys = λ e le i. record { shapes = g.shapes e.keys le.keys i; holders = g.holders e.keys le.keys i };
@@ -82,14 +82,14 @@ module _ (p q : PartsView) (f : Follows p q) where
         left = record { looked = m.extent.looked; given = m.extent.given; pending = m.pending.items };
       } in
       record {
-        kept = subst IsKept (sym same) h.kept;
-        settled = λ e. subst IsSettled (sym same) (h.settled e);
+        kept = subst PartsFit (sym same) h.kept;
+        settled = λ e. subst IsSaturated (sym same) (h.settled e);
         terms = h.terms;
         fits = omega (arith, h.fits, f.numbers);
         upto = upto_trans m.extent (extent_of p.now) (extent_of q.now) h.upto f.upto;
       }
 
-  pub whole_follows : (settled now : Bool) (marks : List Mark) → IsWhole p settled marks → (now ≡ true → IsSettled q.now) → IsWhole q now marks
+  pub whole_follows : (settled now : Bool) (marks : List Mark) → ClosureFits p settled marks → (now ≡ true → IsSaturated q.now) → ClosureFits q now marks
   whole_follows settled now marks w done = record {
     done = done;
     numbers_count = ap length f.numbers_marks ∙ w.numbers_count;
@@ -101,7 +101,7 @@ module _ (p q : PartsView) (f : Follows p q) where
     grown = λ i j le lt. subst (λ ns. length (get_or ns i []) ≤ length (get_or ns j [])) (sym f.numbers_marks) (w.grown i j le lt);
   }
 
-  pub marks_follow : (settled : Bool) (marks : List Mark) → IsWhole p settled marks → map (marked q.now.facts) marks ≡ map (marked p.now.facts) marks
+  pub marks_follow : (settled : Bool) (marks : List Mark) → ClosureFits p settled marks → map (marked q.now.facts) marks ≡ map (marked p.now.facts) marks
   marks_follow settled marks w = same marks (λ k m lt is. (w.kept k m lt is).upto)
     where
       same : (ms : List Mark) → ((k : ℕ) (m : Mark) → k < length ms → get_or ms k m ≡ m → IsUpTo m.extent (extent_of p.now)) → map (marked q.now.facts) ms ≡ map (marked p.now.facts) ms
@@ -112,7 +112,7 @@ module _ (p q : PartsView) (f : Follows p q) where
           λ i. record { facts = first i; settled = m.settled } ∷ rest i
 
 -- what is settled is so with more terms
-pub settled_still : (p q : PartsView) → Changes p p.now.facts q → IsSettled p.now → IsSettled q.now
+pub settled_still : (p q : PartsView) → Changes p p.now.facts q → IsSaturated p.now → IsSaturated q.now
 settled_still p q c s = record {
   looked = ap (λ (l : Left). l.looked) c.left ∙ s.looked ∙ ap (λ (f : Facts). length f.listed) (sym c.facts);
   given = ap (λ (l : Left). l.given) c.left ∙ s.given ∙ ap (λ (f : Facts). length f.held) (sym c.facts);
@@ -124,7 +124,7 @@ settled_still p q c s = record {
 -- ---- a mark is set
 
 -- all that there is
-pub at_extent : (s : State) → AreKeys s.keys → state_at s (extent_of s) s.left.pending s.numbers s.edges ≡ s
+pub at_extent : (s : PartsState) → AreKeys s.keys → state_at s (extent_of s) s.left.pending s.numbers s.edges ≡ s
 at_extent s keys = λ i. record {
   facts = record { listed = take_all (length s.facts.listed) s.facts.listed (omega arith) i; truths = s.facts.truths; held = take_all (length s.facts.held) s.facts.held (omega arith) i };
   numbers = s.numbers;
@@ -133,7 +133,7 @@ at_extent s keys = λ i. record {
   left = s.left;
 }
 
-module _ (p q : PartsView) (settled : Bool) (marks : List Mark) (m : Mark) (w : IsWhole p settled marks) (h : IsKept p.now) (terms : length p.now.numbers ≤ p.terms) (set : Marks p q)
+module _ (p q : PartsView) (settled : Bool) (marks : List Mark) (m : Mark) (w : ClosureFits p settled marks) (h : PartsFit p.now) (terms : length p.now.numbers ≤ p.terms) (set : MarksState p q)
     (extent : m.extent ≡ extent_of p.now) (pending : m.pending.items ≡ p.now.left.pending) (told : m.settled ≡ settled) where
   -- the state at the mark is that of now
   state_is : state_at q.now m.extent m.pending.items p.now.numbers p.now.edges ≡ p.now
@@ -141,14 +141,14 @@ module _ (p q : PartsView) (settled : Bool) (marks : List Mark) (m : Mark) (w : 
 
   new_mark : IsMark q m p.now.numbers (record { terms = p.terms; edges = p.now.edges })
   new_mark = record {
-    kept = subst IsKept (sym state_is) h;
-    settled = λ e. subst IsSettled (sym state_is) (w.done (sym told ∙ e));
+    kept = subst PartsFit (sym state_is) h;
+    settled = λ e. subst IsSaturated (sym state_is) (w.done (sym told ∙ e));
     terms = terms;
-    fits = omega (arith, ap (λ (s : State). length s.numbers) set.now);
+    fits = omega (arith, ap (λ (s : PartsState). length s.numbers) set.now);
     upto = record {
-      listed = omega (arith, ap (λ (e : Extent). e.listed) extent, ap (λ (s : State). length s.facts.listed) set.now);
-      held = omega (arith, ap (λ (e : Extent). e.held) extent, ap (λ (s : State). length s.facts.held) set.now);
-      keys = omega (arith, ap (λ (e : Extent). e.keys) extent, ap (λ (s : State). length s.keys.shapes) set.now);
+      listed = omega (arith, ap (λ (e : Extent). e.listed) extent, ap (λ (s : PartsState). length s.facts.listed) set.now);
+      held = omega (arith, ap (λ (e : Extent). e.held) extent, ap (λ (s : PartsState). length s.facts.held) set.now);
+      keys = omega (arith, ap (λ (e : Extent). e.keys) extent, ap (λ (s : PartsState). length s.keys.shapes) set.now);
     };
   }
 
@@ -166,13 +166,13 @@ module _ (p q : PartsView) (settled : Bool) (marks : List Mark) (m : Mark) (w : 
 
   mark_again : (n : Mark) (numbers : List ℕ) (forest : ForestState) → IsMark p n numbers forest → IsMark q n numbers forest
   mark_again n numbers forest k =
-      let same = ap (λ (s : State). state_at s n.extent n.pending.items numbers forest.edges) set.now in
+      let same = ap (λ (s : PartsState). state_at s n.extent n.pending.items numbers forest.edges) set.now in
       record {
-        kept = subst IsKept (sym same) k.kept;
-        settled = λ e. subst IsSettled (sym same) (k.settled e);
+        kept = subst PartsFit (sym same) k.kept;
+        settled = λ e. subst IsSaturated (sym same) (k.settled e);
         terms = k.terms;
-        fits = omega (arith, k.fits, ap (λ (s : State). length s.numbers) set.now);
-        upto = subst (λ (s : State). IsUpTo n.extent (extent_of s)) (sym set.now) k.upto;
+        fits = omega (arith, k.fits, ap (λ (s : PartsState). length s.numbers) set.now);
+        upto = subst (λ (s : PartsState). IsUpTo n.extent (extent_of s)) (sym set.now) k.upto;
       }
 
   extent_before : (j : ℕ) → j < length marks → extent_at (marks ++ m ∷ []) j ≡ extent_at marks j
@@ -192,9 +192,9 @@ module _ (p q : PartsView) (settled : Bool) (marks : List Mark) (m : Mark) (w : 
   old_fits : (i : ℕ) → i < length marks → length (get_or p.numbers_marks i []) ≤ length p.now.numbers
   old_fits i lt = (w.kept i (get_or marks i m) lt (get_or_default marks i (get_or marks i m) m lt)).fits
 
-  pub whole_marked : IsWhole q settled (marks ++ m ∷ [])
+  pub whole_marked : ClosureFits q settled (marks ++ m ∷ [])
   whole_marked = record {
-    done = λ e. subst IsSettled (sym set.now) (w.done e);
+    done = λ e. subst IsSaturated (sym set.now) (w.done e);
     numbers_count = ap length set.numbers_marks ∙ length_push p.numbers_marks p.now.numbers ∙ ap (λ n. n + 1) w.numbers_count ∙ sym (length_push marks m);
     edges_count = ap length set.edges_marks ∙ length_push p.edges_marks (record { terms = p.terms; edges = p.now.edges }) ∙ ap (λ n. n + 1) w.edges_count ∙ sym (length_push marks m);
     kept = λ j n lt is. kept j n (places marks m j lt) is;
@@ -235,7 +235,7 @@ found_mark marks cut left n m some few is popped =
     let both = same_from_push (take (length marks - n) marks) left (get_or marks (length marks - n) m) m (sym (take_more marks (length marks - n) m (omega (arith, some, few))) ∙ sym is ∙ popped) in
     (both.1, sym both.0)
 
-module _ (p : PartsView) (settled : Bool) (marks : List Mark) (n : ℕ) (m : Mark) (w : IsWhole p settled marks) (some : 0 < n) (few : n ≤ length marks) (is : get_or marks (length marks - n) m ≡ m) where
+module _ (p : PartsView) (settled : Bool) (marks : List Mark) (n : ℕ) (m : Mark) (w : ClosureFits p settled marks) (some : 0 < n) (few : n ≤ length marks) (is : get_or marks (length marks - n) m ≡ m) where
   low : length marks - n < length marks
   low = omega (arith, some, few)
 
@@ -248,8 +248,8 @@ module _ (p : PartsView) (settled : Bool) (marks : List Mark) (n : ℕ) (m : Mar
   edges_is : forest_back p n ≡ get_or p.edges_marks (length marks - n) no_forest
   edges_is = ap (λ k. get_or p.edges_marks (k - n) no_forest) w.edges_count
 
-  pub back_kept : IsKept (state_at p.now m.extent m.pending.items (numbers_back p n) (forest_back p n).edges)
-  back_kept = subst IsKept (λ i. state_at p.now m.extent m.pending.items (sym numbers_is i) (sym edges_is i).edges) mark_there.kept
+  pub back_kept : PartsFit (state_at p.now m.extent m.pending.items (numbers_back p n) (forest_back p n).edges)
+  back_kept = subst PartsFit (λ i. state_at p.now m.extent m.pending.items (sym numbers_is i) (sym edges_is i).edges) mark_there.kept
 
   pub back_fits : TermsFit p n
   back_fits = (
@@ -302,8 +302,8 @@ module _ (p : PartsView) (settled : Bool) (marks : List Mark) (n : ℕ) (m : Mar
         left = record { looked = x.extent.looked; given = x.extent.given; pending = x.pending.items };
       } in
       record {
-        kept = subst IsKept (sym same) k.kept;
-        settled = λ d. subst IsSettled (sym same) (k.settled d);
+        kept = subst PartsFit (sym same) k.kept;
+        settled = λ d. subst IsSaturated (sym same) (k.settled d);
         terms = k.terms;
         fits = subst (λ (ns : List ℕ). length (get_or p.numbers_marks j []) ≤ length ns) (sym numbers_is) (w.grown j (length marks - n) (omega (arith, lt)) low);
         upto = record {
@@ -316,9 +316,9 @@ module _ (p : PartsView) (settled : Bool) (marks : List Mark) (n : ℕ) (m : Mar
   extent_kept : (j : ℕ) → j < length marks - n → extent_at (take (length marks - n) marks) j ≡ extent_at marks j
   extent_kept j lt = ap (λ xs. get_or xs j no_extent) (sym (take-map (λ (x : Mark). x.extent) (length marks - n) marks)) ∙ get_or-take (length marks - n) (map (λ (x : Mark). x.extent) marks) j no_extent lt
 
-  pub whole_back : IsWhole (parts_back p n m.extent m.pending.items) m.settled (take (length marks - n) marks)
+  pub whole_back : ClosureFits (parts_back p n m.extent m.pending.items) m.settled (take (length marks - n) marks)
   whole_back = record {
-    done = λ d. subst IsSettled (λ i. state_at p.now m.extent m.pending.items (sym numbers_is i) (sym edges_is i).edges) (mark_there.settled d);
+    done = λ d. subst IsSaturated (λ i. state_at p.now m.extent m.pending.items (sym numbers_is i) (sym edges_is i).edges) (mark_there.settled d);
     numbers_count = length-take-le (length p.numbers_marks - n) p.numbers_marks (omega arith) ∙ ap (λ k. k - n) w.numbers_count ∙ sym (length-take-le (length marks - n) marks (omega arith));
     edges_count = length-take-le (length p.edges_marks - n) p.edges_marks (omega arith) ∙ ap (λ k. k - n) w.edges_count ∙ sym (length-take-le (length marks - n) marks (omega arith));
     kept = λ j x lt e.

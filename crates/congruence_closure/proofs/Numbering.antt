@@ -6,8 +6,8 @@ use Rattle.term_core.specs.declared.ids.TermId.{TermId}
 use Rattle.class_table.specs.Classes.{class_at}
 use Rattle.explain_forest.specs.declared.types.Edge.{Edge}
 use Rattle.explain_forest.specs.Forest.{root, Linked}
-use Rattle.congruence_relation.specs.Relation.{Facts, IsCongruent}
-use Rattle.congruence_relation.specs.Edges.{AreReasons, IsClosed}
+use Rattle.congruence_relation.specs.Relation.{Facts, IsCongruentIn}
+use Rattle.congruence_relation.specs.Edges.{EdgesHaveReasons, IsClosed}
 use Rattle.congruence_relation.proofs.Exact.{linked_congruent, congruent_linked}
 use Rattle.congruence_closure.specs.Closure.{TellClasses}
 use Rattle.congruence_closure.specs.Listed.{no_term_id}
@@ -58,14 +58,14 @@ numbers_tell numbers es joint terms i j i_low j_low =
     (λ e. link.0 (sym one ∙ e ∙ other), λ linked. one ∙ link.1 linked ∙ sym other)
 
 -- such numbers, where edges have reasons
-module _ (f : Facts) (numbers : List ℕ) (es : List Edge) (joint : AreJoint numbers es) (reasons : AreReasons f es) (terms : List TermId) (ns : List ℕ) (are : ns ≡ map (class_number numbers) terms) where
+module _ (f : Facts) (numbers : List ℕ) (es : List Edge) (joint : AreJoint numbers es) (reasons : EdgesHaveReasons f es) (terms : List TermId) (ns : List ℕ) (are : ns ≡ map (class_number numbers) terms) where
   tell : TellClasses (λ t u. Linked es t.0 u.0) terms ns
   tell = subst (TellClasses (λ t u. Linked es t.0 u.0) terms) (sym are) (numbers_tell numbers es joint terms)
 
   -- are one of congruent terms alone
-  pub numbers_sound : (i j : ℕ) → i < length terms → j < length terms → get_or ns i 0 ≡ get_or ns j 0 → IsCongruent f (get_or terms i no_term_id) (get_or terms j no_term_id)
+  pub numbers_sound : (i j : ℕ) → i < length terms → j < length terms → get_or ns i 0 ≡ get_or ns j 0 → IsCongruentIn f (get_or terms i no_term_id) (get_or terms j no_term_id)
   numbers_sound i j i_low j_low e = linked_congruent f es reasons (get_or terms i no_term_id) (get_or terms j no_term_id) ((tell i j i_low j_low).0 e)
 
   -- and of all of them, where edges are closed
-  pub numbers_exact : IsClosed f es → TellClasses (IsCongruent f) terms ns
+  pub numbers_exact : IsClosed f es → TellClasses (IsCongruentIn f) terms ns
   numbers_exact closed i j i_low j_low = (numbers_sound i j i_low j_low, λ h. (tell i j i_low j_low).1 (congruent_linked f es closed (get_or terms i no_term_id) (get_or terms j no_term_id) h))

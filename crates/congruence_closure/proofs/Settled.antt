@@ -3,17 +3,17 @@ use Rattle.std.proofs.Common.{◌≡◌, ℕ, ◌<◌, length, slice_index, inl,
 use Rattle.term_core.specs.declared.ids.Lit.{Lit}
 use Rattle.class_table.specs.Classes.{AreSame}
 use Rattle.explain_forest.specs.Forest.{Linked}
-use Rattle.congruence_relation.specs.Relation.{Application, States}
+use Rattle.congruence_relation.specs.Relation.{Application, StatesEqual}
 use Rattle.congruence_relation.specs.Edges.{roots, IsClosed}
 use Rattle.congruence_relation.specs.declared.Conflict.TheVariants.{Truths, Sides}
 use Rattle.congruence_closure.specs.Closure.{denial, HasNoConflict}
 use Rattle.congruence_closure.specs.Listed.{nth}
 use Rattle.congruence_closure.specs.Keys.{key_of, holder_at}
-use Rattle.congruence_closure.specs.State.{State, IsPending, HasKey, IsApart, IsKept, IsSettled}
+use Rattle.congruence_closure.specs.State.{PartsState, IsPending, HasKey, IsApart, PartsFit, IsSaturated}
 use Rattle.congruence_closure.proofs.Denials.{place_there}
 use Rattle.congruence_closure.proofs.Terms.{place_of, term_low, arguments_low, sides_low, states_low, same_classes}
 
-module _ (s : State) (h : IsKept s) (done : IsSettled s) where
+module _ (s : PartsState) (h : PartsFit s) (done : IsSaturated s) where
   -- no listed term is to be looked at
   all_ready : (i : ℕ) → i < length s.facts.listed → HasKey s i × IsApart s i
   all_ready i lt = go (h.ready i lt)
@@ -37,7 +37,7 @@ module _ (s : State) (h : IsKept s) (done : IsSettled s) where
     stated = λ l a b there states.
         let at = place_there s.facts.held l there in
         let low = states_low s h l a b there states in
-        (h.joint.agree a b low.0 low.1).1 (h.stated at.0 a b (omega (arith, at.1, done.given)) (subst (λ (m : Lit). States s.facts m a b) (sym at.2) states));
+        (h.joint.agree a b low.0 low.1).1 (h.stated at.0 a b (omega (arith, at.1, done.given)) (subst (λ (m : Lit). StatesEqual s.facts m a b) (sym at.2) states));
     arguments = λ x y x_there y_there heads same.
         let p = place_of s.facts.listed x x_there in
         let q = place_of s.facts.listed y y_there in

@@ -7,31 +7,31 @@ use Rattle.std.proofs.lemmas.List.Elements.{Contains-append_left}
 use Rattle.term_core.specs.declared.ids.TermId.{TermId}
 use Rattle.term_core.specs.Tables.{Shape}
 use Rattle.class_table.specs.Classes.{class_at, AreSame}
-use Rattle.congruence_relation.specs.Relation.{States}
+use Rattle.congruence_relation.specs.Relation.{StatesEqual}
 use Rattle.congruence_closure.specs.Listed.{nth, held_at}
 use Rattle.congruence_closure.specs.Keys.{Keys, key_of, key_at, holder_at, with_key, IsAbsent, IsHeld}
-use Rattle.congruence_closure.specs.State.{State, Left, IsLive, IsPending, HasKey, IsApart, IsKept}
+use Rattle.congruence_closure.specs.State.{PartsState, Left, IsLive, IsPending, HasKey, IsApart, PartsFit}
 use Rattle.congruence_closure.specs.Changes.{IsGiven}
 use Rattle.congruence_closure.proofs.Denials.{places}
 use Rattle.congruence_closure.proofs.Keys.{keys_more, key_before, key_last, holder_before, holder_last}
 use Rattle.congruence_closure.proofs.Terms.{each_class, arguments_low}
 
 -- the parts with other keys
-abbrev pub with_keys : State → Keys → State
+abbrev pub with_keys : PartsState → Keys → PartsState
 with_keys s keys = record { facts = s.facts; numbers = s.numbers; edges = s.edges; keys = keys; left = s.left }
 
 -- the parts with something else left to do
-abbrev pub with_left : State → Left → State
+abbrev pub with_left : PartsState → Left → PartsState
 with_left s left = record { facts = s.facts; numbers = s.numbers; edges = s.edges; keys = s.keys; left = left }
 
 -- the arguments of a key are numbers of classes
-pub key_low : (s : State) → IsKept s → (i : ℕ) → i < length s.facts.listed → All (IsLive s.numbers) (key_of s.numbers (nth s.facts.listed i).shape).arguments
+pub key_low : (s : PartsState) → PartsFit s → (i : ℕ) → i < length s.facts.listed → All (IsLive s.numbers) (key_of s.numbers (nth s.facts.listed i).shape).arguments
 key_low s h i lt = each_class (IsLive s.numbers) s.numbers (nth s.facts.listed i).shape.arguments
     (λ a c. h.joint.live a (subst (λ (t : TermId). t.0 < length s.numbers) c.2 (arguments_low s h i lt c.0 a c.1)))
 
 -- a key that was absent is put, with its term
-module _ (s : State) (i : ℕ) (h : IsKept s) (there : i < length s.facts.listed) (absent : IsAbsent s.keys (key_of s.numbers (nth s.facts.listed i).shape)) where
-  pub kept_key : IsKept (with_keys s (with_key s.keys (key_of s.numbers (nth s.facts.listed i).shape) i))
+module _ (s : PartsState) (i : ℕ) (h : PartsFit s) (there : i < length s.facts.listed) (absent : IsAbsent s.keys (key_of s.numbers (nth s.facts.listed i).shape)) where
+  pub kept_key : PartsFit (with_keys s (with_key s.keys (key_of s.numbers (nth s.facts.listed i).shape) i))
   kept_key = record {
     order = h.order;
     there = h.there;
@@ -92,22 +92,22 @@ module _ (s : State) (i : ℕ) (h : IsKept s) (there : i < length s.facts.listed
   }
 
 -- a holder of the same key is listed, and has this key
-pub holder_listed : (s : State) → IsKept s → (i holder : ℕ) → IsHeld s.keys (key_of s.numbers (nth s.facts.listed i).shape) holder → holder < length s.facts.listed
+pub holder_listed : (s : PartsState) → PartsFit s → (i holder : ℕ) → IsHeld s.keys (key_of s.numbers (nth s.facts.listed i).shape) holder → holder < length s.facts.listed
 holder_listed s h i holder (k, lt, key, is) = subst (λ n. n < length s.facts.listed) is (h.keys.holders k lt)
 
-pub holder_key : (s : State) → IsKept s → (i holder : ℕ) → i < length s.facts.listed → IsHeld s.keys (key_of s.numbers (nth s.facts.listed i).shape) holder
+pub holder_key : (s : PartsState) → PartsFit s → (i holder : ℕ) → i < length s.facts.listed → IsHeld s.keys (key_of s.numbers (nth s.facts.listed i).shape) holder
     → key_of s.numbers (nth s.facts.listed i).shape ≡ key_of s.numbers (nth s.facts.listed holder).shape
 holder_key s h i holder there (k, lt, key, is) =
     sym key ∙ h.keys.present k lt (subst (λ (x : Shape). All (IsLive s.numbers) x.arguments) (sym key) (key_low s h i there)) ∙ ap (λ n. key_of s.numbers (nth s.facts.listed n).shape) is
 
 -- one that is in the same class has the key for both
-pub has_held_key : (s : State) (i holder : ℕ) → IsHeld s.keys (key_of s.numbers (nth s.facts.listed i).shape) holder → AreSame s.numbers (nth s.facts.listed i).term (nth s.facts.listed holder).term → HasKey s i
+pub has_held_key : (s : PartsState) (i holder : ℕ) → IsHeld s.keys (key_of s.numbers (nth s.facts.listed i).shape) holder → AreSame s.numbers (nth s.facts.listed i).term (nth s.facts.listed holder).term → HasKey s i
 has_held_key s i holder (k, lt, key, is) same = record { at = k; there = lt; is = key; same = ap (λ n. class_at s.numbers (nth s.facts.listed n).term) is ∙ sym same }
 
 -- ---- something is done
 
 -- more is to be looked at
-pub kept_more : (s : State) (pending more : List ℕ) → IsKept s → pending ≡ s.left.pending ++ more → IsKept (with_left s (record { looked = s.left.looked; given = s.left.given; pending = pending }))
+pub kept_more : (s : PartsState) (pending more : List ℕ) → PartsFit s → pending ≡ s.left.pending ++ more → PartsFit (with_left s (record { looked = s.left.looked; given = s.left.given; pending = pending }))
 kept_more s pending more h is = record {
   order = h.order;
   there = h.there;
@@ -127,9 +127,9 @@ kept_more s pending more h is = record {
     go i (inr (k, apart)) = inr (record { at = k.at; there = k.there; is = k.is; same = k.same }, apart)
 
 -- what is no more to be looked at is ready
-pub kept_done : (s : State) (looked : ℕ) (pending : List ℕ) → IsKept s → looked ≤ length s.facts.listed
+pub kept_done : (s : PartsState) (looked : ℕ) (pending : List ℕ) → PartsFit s → looked ≤ length s.facts.listed
     → ((i : ℕ) → i < length s.facts.listed → IsPending s.left i → IsPending (record { looked = looked; given = s.left.given; pending = pending }) i ⊎ (HasKey s i × IsApart s i))
-    → IsKept (with_left s (record { looked = looked; given = s.left.given; pending = pending }))
+    → PartsFit (with_left s (record { looked = looked; given = s.left.given; pending = pending }))
 kept_done s looked pending h low next = record {
   order = h.order;
   there = h.there;
@@ -156,8 +156,8 @@ kept_done s looked pending h low next = record {
         after (inr r) = inr (over i r)
 
 -- the next listed term was looked at
-pub kept_looked : (s : State) → IsKept s → s.left.looked < length s.facts.listed → HasKey s s.left.looked → IsApart s s.left.looked
-    → IsKept (with_left s (record { looked = s.left.looked + 1; given = s.left.given; pending = s.left.pending }))
+pub kept_looked : (s : PartsState) → PartsFit s → s.left.looked < length s.facts.listed → HasKey s s.left.looked → IsApart s s.left.looked
+    → PartsFit (with_left s (record { looked = s.left.looked + 1; given = s.left.given; pending = s.left.pending }))
 kept_looked s h lt key apart = kept_done s (s.left.looked + 1) s.left.pending h (omega (arith, lt)) next
   where
     next : (i : ℕ) → i < length s.facts.listed → IsPending s.left i → IsPending (record { looked = s.left.looked + 1; given = s.left.given; pending = s.left.pending }) i ⊎ (HasKey s i × IsApart s i)
@@ -168,8 +168,8 @@ kept_looked s h lt key apart = kept_done s (s.left.looked + 1) s.left.pending h 
     ]
 
 -- the first of those to look at again was looked at, or is no more listed
-pub kept_next : (s : State) (first : ℕ) (pending : List ℕ) → IsKept s → s.left.pending ≡ first ∷ pending → (first < length s.facts.listed → HasKey s first × IsApart s first)
-    → IsKept (with_left s (record { looked = s.left.looked; given = s.left.given; pending = pending }))
+pub kept_next : (s : PartsState) (first : ℕ) (pending : List ℕ) → PartsFit s → s.left.pending ≡ first ∷ pending → (first < length s.facts.listed → HasKey s first × IsApart s first)
+    → PartsFit (with_left s (record { looked = s.left.looked; given = s.left.given; pending = pending }))
 kept_next s first pending h is ready = kept_done s s.left.looked pending h h.looked next
   where
     next : (i : ℕ) → i < length s.facts.listed → IsPending s.left i → IsPending (record { looked = s.left.looked; given = s.left.given; pending = pending }) i ⊎ (HasKey s i × IsApart s i)
@@ -184,8 +184,8 @@ kept_next s first pending h is ready = kept_done s s.left.looked pending h h.loo
         go (k, lt, e) = at k lt e
 
 -- the next literal was given
-pub kept_given : (s : State) → IsKept s → s.left.given < length s.facts.held → IsGiven s (held_at s.facts.held s.left.given)
-    → IsKept (with_left s (record { looked = s.left.looked; given = s.left.given + 1; pending = s.left.pending }))
+pub kept_given : (s : PartsState) → PartsFit s → s.left.given < length s.facts.held → IsGiven s (held_at s.facts.held s.left.given)
+    → PartsFit (with_left s (record { looked = s.left.looked; given = s.left.given + 1; pending = s.left.pending }))
 kept_given s h lt g = record {
   order = h.order;
   there = h.there;
@@ -196,7 +196,7 @@ kept_given s h lt g = record {
   given = omega (arith, lt);
   ready = λ i low. go i low (h.ready i low);
   stated = λ j a b below states. elim (cases_eq j s.left.given) [
-    | inl same ↦ g.stated a b (subst (λ k. States s.facts (held_at s.facts.held k) a b) same states)
+    | inl same ↦ g.stated a b (subst (λ k. StatesEqual s.facts (held_at s.facts.held k) a b) same states)
     | inr other ↦ h.stated j a b (omega (arith, below, other)) states
   ];
 }

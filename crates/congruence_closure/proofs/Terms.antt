@@ -11,11 +11,11 @@ use Rattle.class_table.specs.Classes.{class_at}
 use Rattle.explain_forest.specs.declared.types.Edge.{Edge}
 use Rattle.explain_forest.specs.Forest.{root, Linked}
 use Rattle.explain_forest.proofs.Roots.{root-under, root-beside}
-use Rattle.congruence_relation.specs.Relation.{Application, truth_of, States, decides, equates}
+use Rattle.congruence_relation.specs.Relation.{Application, truth_of, StatesEqual, decides, equates}
 use Rattle.congruence_relation.specs.Edges.{roots}
 use Rattle.congruence_closure.specs.Listed.{nth, no_application, IsListed, equality_of}
 use Rattle.congruence_closure.specs.Keys.{key_of}
-use Rattle.congruence_closure.specs.State.{State, AreJoint, IsKept}
+use Rattle.congruence_closure.specs.State.{PartsState, AreJoint, PartsFit}
 
 -- lists that are one have one first element and one rest
 pub cons_same : {X : Type 0} {x y : X} {xs ys : List X} → x ∷ xs ≡ y ∷ ys → (x ≡ y) × (xs ≡ ys)
@@ -34,28 +34,28 @@ pub at_place : (listed : List Application) (i : ℕ) → i < length listed → C
 at_place listed i lt = Contains-get_or listed i no_application lt
 
 -- listed terms are there, and so are their arguments
-pub term_low : (s : State) → IsKept s → (i : ℕ) → i < length s.facts.listed → (nth s.facts.listed i).term.0 < length s.numbers
+pub term_low : (s : PartsState) → PartsFit s → (i : ℕ) → i < length s.facts.listed → (nth s.facts.listed i).term.0 < length s.numbers
 term_low s h i lt = h.there.terms i no_application lt
 
-pub arguments_low : (s : State) → IsKept s → (i : ℕ) → i < length s.facts.listed → All (λ (a : TermId). a.0 < length s.numbers) (nth s.facts.listed i).shape.arguments
+pub arguments_low : (s : PartsState) → PartsFit s → (i : ℕ) → i < length s.facts.listed → All (λ (a : TermId). a.0 < length s.numbers) (nth s.facts.listed i).shape.arguments
 arguments_low s h i lt k d low = omega (arith, h.order.below i no_application lt k d low, term_low s h i lt)
 
-pub sides_low : (s : State) → IsKept s → (i : ℕ) (a b : TermId) → i < length s.facts.listed → (nth s.facts.listed i).shape ≡ equality_of a b → (a.0 < length s.numbers) × (b.0 < length s.numbers)
+pub sides_low : (s : PartsState) → PartsFit s → (i : ℕ) (a b : TermId) → i < length s.facts.listed → (nth s.facts.listed i).shape ≡ equality_of a b → (a.0 < length s.numbers) × (b.0 < length s.numbers)
 sides_low s h i a b lt e =
     let low : All (λ (t : TermId). t.0 < length s.numbers) (a ∷ b ∷ []) = subst (λ (x : Shape). All (λ (t : TermId). t.0 < length s.numbers) x.arguments) e (arguments_low s h i lt) in
     (low 0 a (omega arith), low 1 a (omega arith))
 
-pub listed_low : (s : State) → IsKept s → (t : TermId) → IsListed s.facts.listed t → t.0 < length s.numbers
+pub listed_low : (s : PartsState) → PartsFit s → (t : TermId) → IsListed s.facts.listed t → t.0 < length s.numbers
 listed_low s h t (i, (lt, is)) = subst (λ (u : TermId). u.0 < length s.numbers) is (term_low s h i lt)
 
-pub truth_low : (s : State) → IsKept s → (b : Bool) → (truth_of s.facts.truths b).0 < length s.numbers
+pub truth_low : (s : PartsState) → PartsFit s → (b : Bool) → (truth_of s.facts.truths b).0 < length s.numbers
 truth_low s h true = h.there.true_in
 truth_low s h false = h.there.false_in
 
-pub held_listed : (s : State) → IsKept s → (l : Lit) → Contains s.facts.held l → IsListed s.facts.listed l.term
+pub held_listed : (s : PartsState) → PartsFit s → (l : Lit) → Contains s.facts.held l → IsListed s.facts.listed l.term
 held_listed s h l there = All-contains (λ (m : Lit). IsListed s.facts.listed m.term) s.facts.held l h.order.held there
 
-pub states_low : (s : State) → IsKept s → (l : Lit) (a b : TermId) → Contains s.facts.held l → States s.facts l a b → (a.0 < length s.numbers) × (b.0 < length s.numbers)
+pub states_low : (s : PartsState) → PartsFit s → (l : Lit) (a b : TermId) → Contains s.facts.held l → StatesEqual s.facts l a b → (a.0 < length s.numbers) × (b.0 < length s.numbers)
 states_low s h l _ _ there decides = (listed_low s h l.term (held_listed s h l there), truth_low s h l.positive)
 states_low s h l a b there (equates _ _ p q) =
     let at = place_of s.facts.listed q.at q.there in

@@ -8,12 +8,12 @@ use Rattle.term_core.specs.declared.ids.Lit.{Lit}
 use Rattle.term_core.specs.Tables.{Shape}
 use Rattle.class_table.specs.Classes.{AreSame}
 use Rattle.explain_forest.specs.Forest.{Linked}
-use Rattle.congruence_relation.specs.Relation.{Application, truth_of, IsEquality, States, decides, equates}
+use Rattle.congruence_relation.specs.Relation.{Application, truth_of, IsEquality, StatesEqual, decides, equates}
 use Rattle.congruence_relation.specs.Edges.{Meet}
 use Rattle.congruence_closure.specs.Closure.{denial}
 use Rattle.congruence_closure.specs.Listed.{nth, HasPlace, equality_of}
 use Rattle.congruence_closure.specs.Keys.{key_of, IsHeld}
-use Rattle.congruence_closure.specs.State.{State, IsApart, IsKept}
+use Rattle.congruence_closure.specs.State.{PartsState, IsApart, PartsFit}
 use Rattle.congruence_closure.specs.Changes.{IsAgainst, IsGiven}
 use Rattle.congruence_closure.proofs.Denials.{held_there}
 use Rattle.congruence_closure.proofs.Steps.{holder_key, holder_listed}
@@ -35,7 +35,7 @@ sides_same x a b c d e f =
     let lists : a ∷ b ∷ [] ≡ c ∷ d ∷ [] = ap (λ (s : Shape). s.arguments) (sym e ∙ f) in
     ((cons_same lists).0, (cons_same (cons_same lists).1).0)
 
-module _ (s : State) (h : IsKept s) (i : ℕ) (there : i < length s.facts.listed) where
+module _ (s : PartsState) (h : PartsFit s) (i : ℕ) (there : i < length s.facts.listed) where
   -- what is no equality has no sides in one class
   pub apart_free : ((a b : TermId) → (nth s.facts.listed i).shape ≡ equality_of a b → ⊥) → IsApart s i
   apart_free none j a b low is shape same = none a b shape
@@ -74,17 +74,17 @@ module _ (s : State) (h : IsKept s) (i : ℕ) (there : i < length s.facts.listed
       }
 
 -- the equality of a listed term has the shape of its place
-pub shape_at : (s : State) → IsKept s → (e a b : TermId) (i : ℕ) → HasPlace s.facts.listed e i → IsEquality s.facts.listed e a b → (nth s.facts.listed i).shape ≡ equality_of a b
+pub shape_at : (s : PartsState) → PartsFit s → (e a b : TermId) (i : ℕ) → HasPlace s.facts.listed e i → IsEquality s.facts.listed e a b → (nth s.facts.listed i).shape ≡ equality_of a b
 shape_at s h e a b i (lt, is) q =
     let p = place_of s.facts.listed q.at q.there in
     let same : i ≡ p.0 = h.order.once i p.0 lt p.1 (is ∙ sym q.term ∙ ap (λ (x : Application). x.term) (sym p.2)) in
     ap (λ k. (nth s.facts.listed k).shape) same ∙ ap (λ (x : Application). x.shape) p.2 ∙ q.shape
 
 -- a listed term of the shape of an equality is one
-pub equality_at : (s : State) (e a b : TermId) (i : ℕ) → HasPlace s.facts.listed e i → (nth s.facts.listed i).shape ≡ equality_of a b → IsEquality s.facts.listed e a b
+pub equality_at : (s : PartsState) (e a b : TermId) (i : ℕ) → HasPlace s.facts.listed e i → (nth s.facts.listed i).shape ≡ equality_of a b → IsEquality s.facts.listed e a b
 equality_at s e a b i (lt, is) shape = record { at = nth s.facts.listed i; there = at_place s.facts.listed i lt; term = is; shape = shape }
 
-module _ (s : State) (h : IsKept s) (l : Lit) (decided : AreSame s.numbers l.term (truth_of s.facts.truths l.positive)) where
+module _ (s : PartsState) (h : PartsFit s) (l : Lit) (decided : AreSame s.numbers l.term (truth_of s.facts.truths l.positive)) where
   -- a literal of no equality is given
   pub given_plain : (i : ℕ) → HasPlace s.facts.listed l.term i → ((a b : TermId) → (nth s.facts.listed i).shape ≡ equality_of a b → ⊥) → IsGiven s l
   given_plain i place none = record {
@@ -94,7 +94,7 @@ module _ (s : State) (h : IsKept s) (l : Lit) (decided : AreSame s.numbers l.ter
         none a b (ap (λ n. (nth s.facts.listed n).shape) e ∙ shape);
   }
     where
-      go : (a b : TermId) → States s.facts l a b → AreSame s.numbers a b
+      go : (a b : TermId) → StatesEqual s.facts l a b → AreSame s.numbers a b
       go _ _ decides = decided
       go a b (equates _ _ positive q) = absurd (none a b (shape_at s h l.term a b i place q))
 
@@ -120,7 +120,7 @@ module _ (s : State) (h : IsKept s) (l : Lit) (decided : AreSame s.numbers l.ter
       apart = λ k c d low is shape same. absurd (true≢false (sym positive ∙ ap (λ (m : Lit). m.positive) is));
     }
       where
-        go : (c d : TermId) → States s.facts l c d → AreSame s.numbers c d
+        go : (c d : TermId) → StatesEqual s.facts l c d → AreSame s.numbers c d
         go _ _ decides = decided
         go c d (equates _ _ p q) =
             let e = sides_same (nth s.facts.listed where_at.0).shape a b c d own_shape (shape_at s h l.term c d where_at.0 own_place q) in
@@ -136,7 +136,7 @@ module _ (s : State) (h : IsKept s) (l : Lit) (decided : AreSame s.numbers l.ter
           apart ((h.joint.agree a b ends_low.0 ends_low.1).1 (ap (λ (t : TermId). slice_index s.numbers t.0) e.0 ∙ same ∙ ap (λ (t : TermId). slice_index s.numbers t.0) (sym e.1)));
     }
       where
-        go : (c d : TermId) → States s.facts l c d → AreSame s.numbers c d
+        go : (c d : TermId) → StatesEqual s.facts l c d → AreSame s.numbers c d
         go _ _ decides = decided
         go c d (equates _ _ p q) = absurd (true≢false (sym p ∙ negative))
 

@@ -8,7 +8,7 @@ use Rattle.explain_forest.specs.declared.types.Label.{Label}
 use Rattle.explain_forest.specs.declared.types.Label.TheVariants.{Held, Arguments}
 use Rattle.explain_forest.specs.Forest.{ForestState, ForestView}
 use Rattle.congruence_relation.specs.declared.Truths.{Truths}
-use Rattle.congruence_relation.specs.Relation.{Application, Facts, States}
+use Rattle.congruence_relation.specs.Relation.{Application, Facts, StatesEqual}
 use Rattle.congruence_relation.specs.Edges.{Meet}
 use Rattle.congruence_closure.specs.declared.parts.Extent.{Extent}
 use Rattle.congruence_closure.specs.declared.settling.Turn.{Turn}
@@ -18,7 +18,7 @@ use Rattle.congruence_relation.specs.Edges.{IsConflict}
 use Rattle.congruence_closure.specs.Closure.{denial}
 use Rattle.congruence_closure.specs.Listed.{nth, equality_of}
 use Rattle.congruence_closure.specs.Tables.{HoldingView}
-use Rattle.congruence_closure.specs.State.{State, PartsView, HasKey, IsApart, IsSettled, no_facts, state_at}
+use Rattle.congruence_closure.specs.State.{PartsState, PartsView, HasKey, IsApart, IsSaturated, no_facts, state_at}
 
 -- Nothing is listed and held.
 pub record AreNew (truths : Truths) (new : PartsView) : Type 0 where
@@ -38,7 +38,7 @@ pub record Changes (old : PartsView) (after : Facts) (new : PartsView) : Type 0 
   pub edges_marks : new.edges_marks ≡ old.edges_marks
 
 -- Classes and edges are marked.
-pub record Marks (old new : PartsView) : Type 0 where
+pub record MarksState (old new : PartsView) : Type 0 where
   pub now : new.now ≡ old.now
   pub terms : new.terms ≡ old.terms
   pub numbers_marks : new.numbers_marks ≡ old.numbers_marks ++ old.now.numbers ∷ []
@@ -70,7 +70,7 @@ abbrev pub TermsFit : PartsView → ℕ → Type 0
 TermsFit p n = (length (numbers_back p n) ≤ (forest_back p n).terms) × (length (numbers_back p n) ≤ length p.now.numbers)
 
 -- What a call does that settles: facts and marks stay, and older keys do.
-pub record Goes (old new : PartsView) : Type 0 where
+pub record KeepsFacts (old new : PartsView) : Type 0 where
   pub facts : new.now.facts ≡ old.now.facts
   pub terms : new.terms ≡ old.terms
   pub numbers : length new.now.numbers ≡ length old.now.numbers
@@ -87,7 +87,7 @@ label None a b = Arguments a b
 
 -- why two terms are equal: a held literal states it, in either direction, or they have one head and linked arguments
 abbrev pub IsWhy : Facts → List Edge → Option Lit → TermId → TermId → Type 0
-IsWhy f es (Some l) a b = Contains f.held l × (States f l a b ⊎ States f l b a)
+IsWhy f es (Some l) a b = Contains f.held l × (StatesEqual f l a b ⊎ StatesEqual f l b a)
 IsWhy f es None a b = Meet f es a b
 
 -- the places have all terms with an argument in a term's class
@@ -108,7 +108,7 @@ abbrev pub IsLonger : PartsView → PartsView → Type 0
 IsLonger old new = length old.now.edges < length new.now.edges
 
 -- the listed term of a place is an equality that is denied, with linked sides
-abbrev pub IsAgainst : State → ℕ → Type 0
+abbrev pub IsAgainst : PartsState → ℕ → Type 0
 IsAgainst s i = IsConflict s.facts s.edges (Sides (nth s.facts.listed i).term)
 
 -- what came of looking at a listed term
@@ -119,8 +119,8 @@ HasLooked old i new (turns.Against c) = IsConflict new.now.facts new.now.edges c
 HasLooked old i new turns.Done = ⊥
 
 -- What a literal states is in one class, and what it denies in two.
-pub record IsGiven (s : State) (l : Lit) : Type 0 where
-  pub stated : (a b : TermId) → States s.facts l a b → AreSame s.numbers a b
+pub record IsGiven (s : PartsState) (l : Lit) : Type 0 where
+  pub stated : (a b : TermId) → StatesEqual s.facts l a b → AreSame s.numbers a b
   pub apart : (i : ℕ) (a b : TermId) → i < length s.facts.listed → l ≡ denial (nth s.facts.listed i).term
       → (nth s.facts.listed i).shape ≡ equality_of a b → AreSame s.numbers a b → ⊥
 
@@ -132,7 +132,7 @@ HasGiven old l new (turns.Against c) = IsConflict new.now.facts new.now.edges c
 HasGiven old l new turns.Done = ⊥
 
 -- how much is left to do
-abbrev pub remaining : State → ℕ
+abbrev pub remaining : PartsState → ℕ
 remaining s = length s.left.pending + ((length s.facts.listed - s.left.looked) + (length s.facts.held - s.left.given))
 
 -- what came of a turn
@@ -140,7 +140,7 @@ abbrev pub HasTurned : PartsView → PartsView → Turn → Type 0
 HasTurned old new turns.Quiet = (new.now.edges ≡ old.now.edges) × (remaining new.now < remaining old.now)
 HasTurned old new turns.Joined = IsLonger old new
 HasTurned old new (turns.Against c) = IsConflict new.now.facts new.now.edges c
-HasTurned old new turns.Done = IsSettled new.now
+HasTurned old new turns.Done = IsSaturated new.now
 
 -- the same, but where something was done and no classes were joined
 abbrev pub HasGone : PartsView → PartsView → Turn → Type 0

@@ -4,9 +4,9 @@ use Rattle.term_core.specs.declared.ids.TermId.{TermId}
 use Rattle.term_core.specs.declared.ids.Lit.{Lit}
 use Rattle.explain_forest.specs.declared.types.Edge.{Edge}
 use Rattle.congruence_relation.specs.Relation.{Facts}
-use Rattle.congruence_relation.specs.Edges.{AreReasons, IsClosed, IsConflict}
+use Rattle.congruence_relation.specs.Edges.{EdgesHaveReasons, IsClosed, IsConflict}
 use Rattle.congruence_relation.specs.declared.Conflict.{Conflict}
-use Rattle.congruence_closure.specs.Listed.{no_term_id, AreOnce, IsListed, held_at}
+use Rattle.congruence_closure.specs.Listed.{no_term_id, AreListedOnce, IsListed, held_at}
 
 -- What a closure is about, and whether its edges link all that is congruent.
 pub record ClosureState : Type 0 where
@@ -35,7 +35,7 @@ HasNoConflict f es = (c : Conflict) → IsConflict f es c → ⊥
 -- Arguments come before their term, and literals are held of listed terms.
 pub record AreInOrder (f : Facts) : Type 0 where
   -- no term is listed twice
-  pub once : AreOnce f.listed
+  pub once : AreListedOnce f.listed
   -- arguments have smaller numbers than their term
   pub below : All (λ x. All (λ (a : TermId). a.0 < x.term.0) x.shape.arguments) f.listed
   -- the terms of held literals are listed
@@ -71,7 +71,7 @@ TellClasses related terms numbers = (i j : ℕ) → i < length terms → j < len
 -- What is so of each closure.
 pub record IsRight (v : ClosureView) : Type 0 where
   -- each edge has a reason
-  pub reasons : AreReasons v.now.facts v.edges
+  pub reasons : EdgesHaveReasons v.now.facts v.edges
   -- where it is settled, the edges are closed
   pub closed : v.now.settled ≡ true → IsClosed v.now.facts v.edges
   -- and there is no conflict

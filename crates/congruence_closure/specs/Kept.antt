@@ -1,10 +1,10 @@
 -- What the fields of parts mean and keep.
 use Rattle.std.specs.Prelude.{◌≤◌, length, drop}
 use Rattle.congruence_closure.specs.declared.parts.Parts.TheInside.{Inside}
-use Rattle.congruence_closure.specs.State.{State, PartsView, IsKept}
+use Rattle.congruence_closure.specs.State.{PartsState, PartsView, PartsFit}
 
 -- what the fields are
-abbrev pub state_of : Inside → State
+abbrev pub state_of : Inside → PartsState
 state_of p = record {
   facts = record { listed = p.listing; truths = p.truths; held = p.holding.held };
   numbers = p.classes.numbers;
@@ -14,13 +14,13 @@ state_of p = record {
 }
 
 -- what contracts see of them
-abbrev pub view_of : Inside → PartsView
-view_of p = record { now = state_of p; terms = p.forest.now.terms; numbers_marks = p.classes.marks; edges_marks = p.forest.marks }
+abbrev pub closure_view : Inside → PartsView
+closure_view p = record { now = state_of p; terms = p.forest.now.terms; numbers_marks = p.classes.marks; edges_marks = p.forest.marks }
 
 -- What the fields keep.
 pub record AreParts (p : Inside) : Type 0 where
   -- what contracts see is kept
-  pub kept : IsKept (state_of p)
+  pub kept : PartsFit (state_of p)
   -- the forest has all terms
   pub terms : length p.classes.numbers ≤ p.forest.now.terms
   -- there is room for literals of listed terms

@@ -27,8 +27,8 @@ abbrev pub held_at : List Lit → ℕ → Lit
 held_at held j = get_or held j no_lit
 
 -- no term is listed twice
-abbrev pub AreOnce : List Application → Type 0
-AreOnce listed = (i j : ℕ) → i < length listed → j < length listed → (nth listed i).term ≡ (nth listed j).term → i ≡ j
+abbrev pub AreListedOnce : List Application → Type 0
+AreListedOnce listed = (i j : ℕ) → i < length listed → j < length listed → (nth listed i).term ≡ (nth listed j).term → i ≡ j
 
 -- a term has a place
 abbrev pub HasPlace : List Application → TermId → ℕ → Type 0

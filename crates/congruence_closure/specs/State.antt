@@ -5,8 +5,8 @@ use Rattle.term_core.specs.declared.ids.Lit.{Lit}
 use Rattle.class_table.specs.Classes.{class_at, AreSame}
 use Rattle.explain_forest.specs.declared.types.Edge.{Edge}
 use Rattle.explain_forest.specs.Forest.{ForestState, Linked}
-use Rattle.congruence_relation.specs.Relation.{Application, Facts, States}
-use Rattle.congruence_relation.specs.Edges.{AreReasons}
+use Rattle.congruence_relation.specs.Relation.{Application, Facts, StatesEqual}
+use Rattle.congruence_relation.specs.Edges.{EdgesHaveReasons}
 use Rattle.congruence_relation.specs.declared.Truths.{Truths}
 use Rattle.congruence_closure.specs.declared.parts.Extent.{Extent}
 use Rattle.congruence_closure.specs.Closure.{denial, AreInOrder}
@@ -23,7 +23,7 @@ pub record Left : Type 0 where
   pub pending : List ℕ
 
 -- What the parts of a closure are.
-pub record State : Type 0 where
+pub record PartsState : Type 0 where
   -- what it is about
   pub facts : Facts
   -- the class number of each term
@@ -38,7 +38,7 @@ pub record State : Type 0 where
 -- What contracts of parts see: what they are, and classes and edges at each mark.
 pub record PartsView : Type 0 where
   -- as they are
-  pub now : State
+  pub now : PartsState
   -- how many terms the forest has
   pub terms : ℕ
   -- the class numbers at each mark, oldest first
@@ -73,7 +73,7 @@ pub record AreThere (f : Facts) (n : ℕ) : Type 0 where
   pub terms : All (λ x. x.term.0 < n) f.listed
 
 -- Keys are of listed terms. One whose arguments are all numbers of classes is the present key of its holder.
-pub record ArePresent (s : State) : Type 0 where
+pub record ArePresent (s : PartsState) : Type 0 where
   -- each key has one holder
   pub keys : AreKeys s.keys
   -- holders are listed
@@ -89,7 +89,7 @@ abbrev pub IsPending : Left → ℕ → Type 0
 IsPending l i = (l.looked ≤ i) ⊎ Contains l.pending i
 
 -- Its key is there, with a holder in its class.
-pub record HasKey (s : State) (i : ℕ) : Type 0 where
+pub record HasKey (s : PartsState) (i : ℕ) : Type 0 where
   -- the key's place
   pub at : ℕ
   pub there : at < length s.keys.shapes
@@ -99,12 +99,12 @@ pub record HasKey (s : State) (i : ℕ) : Type 0 where
   pub same : AreSame s.numbers (nth s.facts.listed (holder_at s.keys at)).term (nth s.facts.listed i).term
 
 -- if it is an equality that a given literal denies, its sides are in different classes
-abbrev pub IsApart : State → ℕ → Type 0
+abbrev pub IsApart : PartsState → ℕ → Type 0
 IsApart s i = (j : ℕ) (a b : TermId) → j < s.left.given → held_at s.facts.held j ≡ denial (nth s.facts.listed i).term
     → (nth s.facts.listed i).shape ≡ equality_of a b → AreSame s.numbers a b → ⊥
 
 -- What the parts of a closure keep.
-pub record IsKept (s : State) : Type 0 where
+pub record PartsFit (s : PartsState) : Type 0 where
   -- terms and literals are in order
   pub order : AreInOrder s.facts
   -- what they name are terms
@@ -112,7 +112,7 @@ pub record IsKept (s : State) : Type 0 where
   -- classes and edges say the same
   pub joint : AreJoint s.numbers s.edges
   -- each edge has a reason
-  pub reasons : AreReasons s.facts s.edges
+  pub reasons : EdgesHaveReasons s.facts s.edges
   -- keys are of listed terms
   pub keys : ArePresent s
   -- what was done is there
@@ -121,10 +121,10 @@ pub record IsKept (s : State) : Type 0 where
   -- each listed term is to be looked at, or its key is there, and its sides are apart
   pub ready : (i : ℕ) → i < length s.facts.listed → IsPending s.left i ⊎ (HasKey s i × IsApart s i)
   -- what given literals state is in one class
-  pub stated : (j : ℕ) (a b : TermId) → j < s.left.given → States s.facts (held_at s.facts.held j) a b → AreSame s.numbers a b
+  pub stated : (j : ℕ) (a b : TermId) → j < s.left.given → StatesEqual s.facts (held_at s.facts.held j) a b → AreSame s.numbers a b
 
 -- Nothing is left to do, and the truth values are not linked.
-pub record IsSettled (s : State) : Type 0 where
+pub record IsSaturated (s : PartsState) : Type 0 where
   pub looked : s.left.looked ≡ length s.facts.listed
   pub given : s.left.given ≡ length s.facts.held
   pub pending : s.left.pending ≡ []
@@ -143,7 +143,7 @@ abbrev pub no_facts : Truths → Facts
 no_facts t = record { listed = []; truths = t; held = [] }
 
 -- how much there is
-abbrev pub extent_of : State → Extent
+abbrev pub extent_of : PartsState → Extent
 extent_of s = record {
   listed = length s.facts.listed;
   held = length s.facts.held;
@@ -157,7 +157,7 @@ abbrev pub facts_at : Facts → Extent → Facts
 facts_at f e = record { listed = take e.listed f.listed; truths = f.truths; held = take e.held f.held }
 
 -- what parts were when there was so much and this was left, with these classes and edges
-abbrev pub state_at : State → Extent → List ℕ → List ℕ → List Edge → State
+abbrev pub state_at : PartsState → Extent → List ℕ → List ℕ → List Edge → PartsState
 state_at s e pending numbers es = record {
   facts = facts_at s.facts e;
   numbers = numbers;

@@ -4,7 +4,7 @@ use Rattle.std.specs.declared.alloc.Global.{Global}
 use Rattle.term_core.specs.declared.ids.TermId.{TermId}
 use Rattle.term_core.specs.declared.ids.Lit.{Lit}
 use Rattle.congruence_relation.specs.Relation.{Application}
-use Rattle.congruence_closure.specs.Listed.{nth, held_at, AreOnce}
+use Rattle.congruence_closure.specs.Listed.{nth, held_at, AreListedOnce}
 
 -- what stands in lists
 abbrev pub lists : List (Vec ℕ Global) → List (List ℕ)
@@ -32,7 +32,7 @@ HaveNoted ts place all = All (λ (t : TermId). Contains (get_or all t.0 []) plac
 -- The places of listed terms are found by their numbers, and by their arguments.
 pub record IsIndexed (listed : List Application) (entries : List ℕ) (all : List (List ℕ)) : Type 0 where
   -- no term is listed twice
-  pub once : AreOnce listed
+  pub once : AreListedOnce listed
   -- each has an entry
   pub low : (i : ℕ) → i < length listed → (nth listed i).term.0 < length entries
   -- which is its place

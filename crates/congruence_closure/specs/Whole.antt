@@ -6,7 +6,7 @@ use Rattle.congruence_closure.specs.declared.parts.Extent.{Extent}
 use Rattle.congruence_closure.specs.declared.closure.Mark.{Mark}
 use Rattle.congruence_closure.specs.declared.closure.Closure.TheInside.{Inside}
 use Rattle.congruence_closure.specs.Closure.{ClosureState, ClosureView}
-use Rattle.congruence_closure.specs.State.{PartsView, IsKept, IsSettled, extent_of, facts_at, state_at}
+use Rattle.congruence_closure.specs.State.{PartsView, PartsFit, IsSaturated, extent_of, facts_at, state_at}
 use Rattle.congruence_closure.specs.Changes.{no_forest}
 
 -- what it was about at a mark
@@ -29,8 +29,8 @@ pub record IsUpTo (one other : Extent) : Type 0 where
 
 -- What parts were at a mark, with the classes and edges there, was kept then.
 pub record IsMark (p : PartsView) (m : Mark) (numbers : List ℕ) (forest : ForestState) : Type 0 where
-  pub kept : IsKept (state_at p.now m.extent m.pending.items numbers forest.edges)
-  pub settled : m.settled ≡ true → IsSettled (state_at p.now m.extent m.pending.items numbers forest.edges)
+  pub kept : PartsFit (state_at p.now m.extent m.pending.items numbers forest.edges)
+  pub settled : m.settled ≡ true → IsSaturated (state_at p.now m.extent m.pending.items numbers forest.edges)
   pub terms : length numbers ≤ forest.terms
   pub fits : length numbers ≤ length p.now.numbers
   pub upto : IsUpTo m.extent (extent_of p.now)
@@ -44,9 +44,9 @@ abbrev pub extent_at : List Mark → ℕ → Extent
 extent_at marks j = get_or (map (λ (m : Mark). m.extent) marks) j no_extent
 
 -- What the fields of a closure keep.
-pub record IsWhole (p : PartsView) (settled : Bool) (marks : List Mark) : Type 0 where
+pub record ClosureFits (p : PartsView) (settled : Bool) (marks : List Mark) : Type 0 where
   -- nothing is left to do where it is settled
-  pub done : settled ≡ true → IsSettled p.now
+  pub done : settled ≡ true → IsSaturated p.now
   -- classes and edges have as many marks
   pub numbers_count : length p.numbers_marks ≡ length marks
   pub edges_count : length p.edges_marks ≡ length marks

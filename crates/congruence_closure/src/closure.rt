@@ -2,7 +2,7 @@
 
 ghost use Rattle.std.specs.Prelude.{◌≡◌, ◌≢◌, ◌-◌, ◌<◌, ◌≤◌, ◌↔◌, ◌++◌, ◌∷◌, [], true, false, Some, None, length, take, get_or, IfOk, OnOk, OnErr, MatchOption, Contains, ℕ};
 ghost use Rattle.term_core.specs.Tables.{shape_of, NamesBelow};
-ghost use Rattle.congruence_relation.specs.Relation.{applications, IsCongruent};
+ghost use Rattle.congruence_relation.specs.Relation.{applications, IsCongruentIn};
 ghost use Rattle.congruence_relation.specs.Edges.{IsConflict};
 ghost use Rattle.congruence_relation.specs.declared.Conflict.{Conflict as Against};
 ghost use Rattle.congruence_closure.specs.Closure.{ArePrefix, AreTerms, TellClasses, IsRight};
@@ -44,13 +44,13 @@ pub struct Closure {
 
 impl Model for Closure {
     ghost use Rattle.congruence_closure.specs.Closure.{ClosureView};
-    ghost use Rattle.congruence_closure.specs.Whole.{closure_of, IsWhole};
+    ghost use Rattle.congruence_closure.specs.Whole.{closure_of, ClosureFits};
 
     ghost Value = { ClosureView };
 
     ghost view = { closure_of };
 
-    ghost invariant = { λ c. IsWhole c.parts c.settled c.marks.items };
+    ghost invariant = { λ c. ClosureFits c.parts c.settled c.marks.items };
 }
 
 impl Closure {
@@ -126,8 +126,8 @@ impl Closure {
     ///
     /// A term that is not there is congruent to itself alone.
     pub fn same(&self, a: TermId, b: TermId) -> bool
-        ensures sound { result ≡ true → IsCongruent self.now.now.facts a b }
-        ensures exact { self.now.now.settled ≡ true → (result ≡ true) ↔ IsCongruent self.now.now.facts a b }
+        ensures sound { result ≡ true → IsCongruentIn self.now.now.facts a b }
+        ensures exact { self.now.now.settled ≡ true → (result ≡ true) ↔ IsCongruentIn self.now.now.facts a b }
     {
         self.parts.are_kept();
         self.parts.same(a, b)
@@ -142,9 +142,9 @@ impl Closure {
         ensures count { IfOk result (λ v. length v.items ≡ length terms.now) }
         ensures sound { IfOk result (λ v. (i j : ℕ) → i < length terms.now → j < length terms.now
             → get_or v.items i 0 ≡ get_or v.items j 0
-            → IsCongruent self.now.now.facts (get_or terms.now i no_term_id) (get_or terms.now j no_term_id)) }
+            → IsCongruentIn self.now.now.facts (get_or terms.now i no_term_id) (get_or terms.now j no_term_id)) }
         ensures exact { self.now.now.settled ≡ true
-            → IfOk result (λ v. TellClasses (IsCongruent self.now.now.facts) terms.now v.items) }
+            → IfOk result (λ v. TellClasses (IsCongruentIn self.now.now.facts) terms.now v.items) }
     {
         self.parts.are_kept();
         self.parts.classes(alloc, terms)

@@ -7,7 +7,7 @@ ghost use Rattle.congruence_relation.specs.Relation.{IsEquality, truth_of};
 ghost use Rattle.congruence_closure.specs.Listed.{nth, equality_of};
 ghost use Rattle.congruence_closure.specs.Keys.{key_of, IsHeld};
 ghost use Rattle.congruence_closure.specs.State.{IsApart};
-ghost use Rattle.congruence_closure.specs.Changes.{Goes, IsAgainst, HasLooked, HasGiven};
+ghost use Rattle.congruence_closure.specs.Changes.{KeepsFacts, IsAgainst, HasLooked, HasGiven};
 
 use crate::Conflict;
 use crate::key_table::key_of;
@@ -57,7 +57,7 @@ impl Parts {
     /// `NoMemory` comes where the key, or what is to be looked at again, finds no memory.
     pub(crate) fn look(&mut self, place: u64) -> Result<Turn, NoMemory>
         requires { place < length self.old.now.facts.listed }
-        ensures goes { Goes self.old self.new }
+        ensures goes { KeepsFacts self.old self.new }
         ensures ok { IfOk result (HasLooked self.old place self.new) }
     {
         if self.is_against(place) {
@@ -78,7 +78,7 @@ impl Parts {
         requires held { IsHeld self.old.now.keys
             (key_of self.old.now.numbers (nth self.old.now.facts.listed place).shape) holder }
         requires apart { IsApart self.old.now place }
-        ensures goes { Goes self.old self.new }
+        ensures goes { KeepsFacts self.old self.new }
         ensures ok { IfOk result (HasLooked self.old place self.new) }
     {
         self.are_kept();
@@ -96,7 +96,7 @@ impl Parts {
     /// `NoMemory` comes where what is to be looked at again finds no memory.
     pub(crate) fn give(&mut self, lit: Lit) -> Result<Turn, NoMemory>
         requires { Contains self.old.now.facts.held lit }
-        ensures goes { Goes self.old self.new }
+        ensures goes { KeepsFacts self.old self.new }
         ensures ok { IfOk result (HasGiven self.old lit self.new) }
     {
         self.are_kept();
@@ -121,7 +121,7 @@ impl Parts {
         requires held { Contains self.old.now.facts.held lit }
         requires sides { IsEquality self.old.now.facts.listed lit.term a b }
         requires decided { AreSame self.old.now.numbers lit.term (truth_of self.old.now.facts.truths lit.positive) }
-        ensures goes { Goes self.old self.new }
+        ensures goes { KeepsFacts self.old self.new }
         ensures ok { IfOk result (HasGiven self.old lit self.new) }
     {
         self.are_kept();

@@ -3,8 +3,8 @@
 ghost use Rattle.std.specs.Prelude.{◌≡◌, ◌≢◌, ◌<◌, ◌≤◌, ◌↔◌, true, length, map, OnOk, OnErr, IfOk, Contains};
 ghost use Rattle.term_core.specs.Tables.{shape_of, NamesBelow};
 ghost use Rattle.congruence_closure.specs.Listed.{IsListed};
-ghost use Rattle.congruence_closure.specs.State.{IsKept, class_number, with_listed, with_held, extent_of};
-ghost use Rattle.congruence_closure.specs.Changes.{AddsRoom, AddsTerms, AreNew, Changes, HasTerms, Marks, TermsFit, parts_back};
+ghost use Rattle.congruence_closure.specs.State.{PartsFit, class_number, with_listed, with_held, extent_of};
+ghost use Rattle.congruence_closure.specs.Changes.{AddsRoom, AddsTerms, AreNew, Changes, HasTerms, MarksState, TermsFit, parts_back};
 ghost use Rattle.explain_forest.specs.Forest.{Linked};
 
 use crate::holding::Holding;
@@ -48,11 +48,11 @@ pub(crate) struct Parts {
 
 impl Model for Parts {
     ghost use Rattle.congruence_closure.specs.State.{PartsView};
-    ghost use Rattle.congruence_closure.specs.Kept.{view_of, AreParts};
+    ghost use Rattle.congruence_closure.specs.Kept.{closure_view, AreParts};
 
     ghost Value = { PartsView };
 
-    ghost view = { view_of };
+    ghost view = { closure_view };
 
     ghost invariant = { AreParts };
 }
@@ -162,7 +162,7 @@ impl Parts {
 
     /// States what the parts keep.
     pub fn are_kept(&self)
-        ensures kept { IsKept self.now.now }
+        ensures kept { PartsFit self.now.now }
         ensures terms { length self.now.now.numbers ≤ self.now.terms }
     {
         let _ = &self.alloc;
@@ -172,7 +172,7 @@ impl Parts {
     ///
     /// `NoMemory` comes where there is no memory for the mark; then nothing is changed.
     pub fn mark(&mut self) -> Result<(), NoMemory>
-        ensures ok { OnOk result (Marks self.old self.new) }
+        ensures ok { OnOk result (MarksState self.old self.new) }
         ensures err { OnErr result (self.new ≡ self.old) }
     {
         self.classes.mark()?;
@@ -215,7 +215,7 @@ impl Parts {
         requires numbers { marks ≤ length self.old.numbers_marks }
         requires edges { marks ≤ length self.old.edges_marks }
         requires terms { TermsFit self.old marks }
-        requires kept { IsKept (parts_back self.old marks extent pending.items).now }
+        requires kept { PartsFit (parts_back self.old marks extent pending.items).now }
         ensures { self.new ≡ parts_back self.old marks extent pending.items }
     {
         self.classes.back(marks);

@@ -3,8 +3,8 @@
 ghost use Rattle.std.specs.Prelude.{◌≡◌, ◌<◌, [], length, OnOk, IfOk, MatchOption};
 ghost use Rattle.class_table.specs.Classes.{AreSame};
 ghost use Rattle.congruence_relation.specs.Edges.{IsConflict};
-ghost use Rattle.congruence_closure.specs.State.{IsSettled};
-ghost use Rattle.congruence_closure.specs.Changes.{label, Goes, IsWhy, AreClassUsers, ArePut, ClassAtMost, IsLonger, HasTurned, HasGone};
+ghost use Rattle.congruence_closure.specs.State.{IsSaturated};
+ghost use Rattle.congruence_closure.specs.Changes.{label, KeepsFacts, IsWhy, AreClassUsers, ArePut, ClassAtMost, IsLonger, HasTurned, HasGone};
 
 use crate::Conflict;
 use crate::listing::Listing;
@@ -67,7 +67,7 @@ impl Parts {
         requires apart { AreSame self.old.now.numbers a b → ⊥ }
         requires smaller { ClassAtMost self.old.now.numbers a b }
         requires why { IsWhy self.old.now.facts self.old.now.edges why a b }
-        ensures goes { Goes self.old self.new }
+        ensures goes { KeepsFacts self.old self.new }
         ensures ok { OnOk result (IsLonger self.old self.new) }
     {
         queue_users(&self.listing, &self.classes, a, &mut self.pending)?;
@@ -84,7 +84,7 @@ impl Parts {
         requires b { b.0 < length self.old.now.numbers }
         requires apart { AreSame self.old.now.numbers a b → ⊥ }
         requires why { IsWhy self.old.now.facts self.old.now.edges why a b }
-        ensures goes { Goes self.old self.new }
+        ensures goes { KeepsFacts self.old self.new }
         ensures ok { OnOk result (IsLonger self.old self.new) }
     {
         if self.classes.size_of(a) <= self.classes.size_of(b) {
@@ -98,7 +98,7 @@ impl Parts {
     ///
     /// `NoMemory` comes where it finds no memory; then the same is next.
     fn turn(&mut self) -> Result<Turn, NoMemory>
-        ensures goes { Goes self.old self.new }
+        ensures goes { KeepsFacts self.old self.new }
         ensures ok { IfOk result (HasTurned self.old self.new) }
     {
         if self.same(self.truths.true_term, self.truths.false_term) {
@@ -129,7 +129,7 @@ impl Parts {
     /// Looks again at the next listed term that is to be looked at again.
     fn turn_pending(&mut self) -> Result<Turn, NoMemory>
         requires { 0 < length self.old.now.left.pending }
-        ensures goes { Goes self.old self.new }
+        ensures goes { KeepsFacts self.old self.new }
         ensures ok { IfOk result (HasTurned self.old self.new) }
     {
         let place = self.pending[self.next];
@@ -149,7 +149,7 @@ impl Parts {
     /// Looks at the next listed term.
     fn turn_looked(&mut self) -> Result<Turn, NoMemory>
         requires { self.old.now.left.looked < length self.old.now.facts.listed }
-        ensures goes { Goes self.old self.new }
+        ensures goes { KeepsFacts self.old self.new }
         ensures ok { IfOk result (HasTurned self.old self.new) }
     {
         let place = self.looked;
@@ -167,7 +167,7 @@ impl Parts {
     /// Gives the next literal.
     fn turn_given(&mut self) -> Result<Turn, NoMemory>
         requires { self.old.now.left.given < length self.old.now.facts.held }
-        ensures goes { Goes self.old self.new }
+        ensures goes { KeepsFacts self.old self.new }
         ensures ok { IfOk result (HasTurned self.old self.new) }
     {
         let held = self.holding.all();
@@ -183,7 +183,7 @@ impl Parts {
 
     /// Does what is left until classes are joined, or all is done.
     fn until_joined(&mut self) -> Result<Turn, NoMemory>
-        ensures goes { Goes self.old self.new }
+        ensures goes { KeepsFacts self.old self.new }
         ensures ok { IfOk result (HasGone self.old self.new) }
     {
         'quiet: loop {
@@ -198,8 +198,8 @@ impl Parts {
     ///
     /// `NoMemory` comes where it finds no memory; then what is left is still to be done.
     pub(crate) fn settle(&mut self) -> Result<Option<Conflict>, NoMemory>
-        ensures goes { Goes self.old self.new }
-        ensures ok { IfOk result (λ found. MatchOption found (IsSettled self.new.now)
+        ensures goes { KeepsFacts self.old self.new }
+        ensures ok { IfOk result (λ found. MatchOption found (IsSaturated self.new.now)
             (λ c. IsConflict self.new.now.facts self.new.now.edges c)) }
     {
         'joins: loop {

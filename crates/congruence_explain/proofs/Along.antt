@@ -21,7 +21,7 @@ use Rattle.term_core.proofs.Numbers.{same_id}
 use Rattle.term_clauses.specs.Stating.{Widens}
 use Rattle.explain_forest.specs.declared.types.Edge.{Edge}
 use Rattle.explain_forest.specs.declared.types.Step.{Step}
-use Rattle.explain_forest.specs.Forest.{ForestState, Linked, path, numbered, older, Leads, IsAlong}
+use Rattle.explain_forest.specs.Forest.{ForestState, Linked, path, numbered, older, PathLeads, IsAlong}
 use Rattle.explain_forest.proofs.Linking.{older-linked, length-older}
 use Rattle.explain_forest.proofs.Leading.{path-leads, path-along}
 use Rattle.explain_forest.proofs.Paths.{path-none}
@@ -31,9 +31,9 @@ use Rattle.congruence_explain.specs.declared.claims.Claim.{Claim}
 use Rattle.congruence_explain.specs.declared.claims.Claim.TheVariants.{Equality}
 use Rattle.congruence_explain.specs.declared.claims.Said.{Said}
 use Rattle.congruence_explain.specs.Rules.{path_rule}
-use Rattle.congruence_explain.specs.Claims.{term_claimed, term_said, literal_said, literal_claimed, IsClaimIn, IsClaimOf, equal, says, edge_says, IsOneEquality, denied_step}
+use Rattle.congruence_explain.specs.Claims.{term_claimed, term_said, literal_said, literal_claimed, IsClaimIn, IsClaimOf, equality_claim, says, edge_says, IsOneEquality, denied_step}
 use Rattle.congruence_explain.specs.Basis.{IsBasis, AreLinkedIn}
-use Rattle.congruence_explain.specs.Steps.{Setting, Notes, IsNeeded, Shows, Grows, marked, edges_on, TellsPair}
+use Rattle.congruence_explain.specs.Steps.{ExplanationSetting, Notes, IsNeeded, ShowsLiteral, NotesGrow, marked, edges_on, TellsPair}
 use Rattle.congruence_explain.proofs.Terms.{claim_same}
 use Rattle.congruence_explain.proofs.Marks.{marked-there}
 use Rattle.congruence_explain.proofs.Shown.{grows_marked, shows_last}
@@ -47,14 +47,14 @@ step_says ts es s (lt, inr e) =
 
 -- the clause of a path
 abbrev pub path_clause : Truths → List Step → TermId → TermId → List Said
-path_clause ts steps x y = map (denied_step ts) steps ++ equal x y ∷ []
+path_clause ts steps x y = map (denied_step ts) steps ++ equality_claim x y ∷ []
 
 -- a step joins its ends
 abbrev pub StepJoins : TableView → Truths → Step → Type 0
 StepJoins t ts s = Joins (Some (term_claimed t (says ts s.label s.from s.to))) (term_at t s.from) (term_at t s.to)
 
 -- what a path denies leads from its first term to its last
-path_lead : (t : TableView) (ts : Truths) (steps : List Step) (x y : ℕ) → Leads x steps y → All (StepJoins t ts) steps
+path_lead : (t : TableView) (ts : Truths) (steps : List Step) (x y : ℕ) → PathLeads x steps y → All (StepJoins t ts) steps
     → Lead (map term_denied (map (term_said t) (map (denied_step ts) steps))) (number_term t x) (number_term t y)
 path_lead t ts [] x y e h = ap (number_term t) e
 path_lead t ts (s ∷ steps) x y (e, rest) h = (
@@ -89,7 +89,7 @@ module _ (t : TableView) (ts : Truths) (v : ForestState) (f : Facts) (b : IsBasi
 
   -- and so can its clause
   pub path_in : (x y : TermId) → AreLinkedIn (terms_listed t f) t v x y → All (λ s. IsClaimOf (terms_listed t f) t s.claim) (path_clause ts (path v.edges x.0 y.0) x y)
-  path_in x y h = All-push (λ (s : Said). IsClaimOf (terms_listed t f) t s.claim) (map (denied_step ts) (path v.edges x.0 y.0)) (equal x y) (steps_in x y) (linked_in x y h)
+  path_in x y h = All-push (λ (s : Said). IsClaimOf (terms_listed t f) t s.claim) (map (denied_step ts) (path v.edges x.0 y.0)) (equality_claim x y) (steps_in x y) (linked_in x y h)
 
   -- which is right
   pub path_right : (x y : TermId) → AreLinkedIn (terms_listed t f) t v x y → IsRight (path_rule x y) [] none (map (term_said t) (path_clause ts (path v.edges x.0 y.0) x y))
@@ -99,12 +99,12 @@ module _ (t : TableView) (ts : Truths) (v : ForestState) (f : Facts) (b : IsBasi
       steps = path v.edges x.0 y.0
 
       split : map (term_said t) (path_clause ts steps x y) ≡ map (term_said t) (map (denied_step ts) steps) ++ equal_terms (term_at t x) (term_at t y) ∷ []
-      split = map-append (term_said t) (map (denied_step ts) steps) (equal x y ∷ [])
+      split = map-append (term_said t) (map (denied_step ts) steps) (equality_claim x y ∷ [])
 
-      leads : Leads x.0 steps y.0
+      leads : PathLeads x.0 steps y.0
       leads = path-leads v.edges x.0 y.0 h.linked
 
-      nonempty : (ss : List Step) → Leads x.0 ss y.0 → x.0 ≢ y.0 → map (term_said t) (map (denied_step ts) ss) ≢ []
+      nonempty : (ss : List Step) → PathLeads x.0 ss y.0 → x.0 ≢ y.0 → map (term_said t) (map (denied_step ts) ss) ≢ []
       nonempty [] l d e = d l
       nonempty (s ∷ ss) l d e = cc
 
@@ -129,7 +129,7 @@ pub path_low : (es : List Edge) (x y : ℕ) → All (λ (s : Step). s.edge < len
 path_low es x y = λ k d lt. (path-along es x y k d lt).0
 
 -- what is shown by a path whose edges are needed
-module _ (s : Setting) (needed after : List Bool) (steps steps_after : List (List Literal)) (x y : TermId) (count : length needed ≡ length s.edges) (marks : after ≡ marked needed (edges_on (path s.edges x.0 y.0))) where
+module _ (s : ExplanationSetting) (needed after : List Bool) (steps steps_after : List (List Literal)) (x y : TermId) (count : length needed ≡ length s.edges) (marks : after ≡ marked needed (edges_on (path s.edges x.0 y.0))) where
   abbrev told_path : List Step
   told_path = path s.edges x.0 y.0
 
@@ -140,7 +140,7 @@ module _ (s : Setting) (needed after : List Bool) (steps steps_after : List (Lis
   low k le linked = subst (λ (ss : List Step). All (λ (z : Step). z.edge < k) ss) (sym (older-linked s.edges k x.0 y.0 linked).1)
       (subst (λ n. All (λ (z : Step). z.edge < n) (path (older s.edges k) x.0 y.0)) (length-older s.edges k le) (path_low (older s.edges k) x.0 y.0))
 
-  grows : (more : List (List Literal)) → steps_after ≡ steps ++ more → (k : ℕ) → k ≤ length s.edges → Linked (older s.edges k) x.0 y.0 → Grows k (record { needed = needed; steps = steps; stated = [] }) told_notes
+  grows : (more : List (List Literal)) → steps_after ≡ steps ++ more → (k : ℕ) → k ≤ length s.edges → Linked (older s.edges k) x.0 y.0 → NotesGrow k (record { needed = needed; steps = steps; stated = [] }) told_notes
   grows more is k le linked = grows_marked k needed after (edges_on told_path) steps steps_after more [] marks (All-map (λ i. i < k) (λ (z : Step). z.edge) told_path (low k le linked)) is
 
   is_needed : (z : Step) → Contains told_path z → IsNeeded after z.edge
@@ -149,7 +149,7 @@ module _ (s : Setting) (needed after : List Bool) (steps steps_after : List (Lis
       edge_low : All (λ i. i < length needed) (edges_on told_path)
       edge_low = All-map (λ i. i < length needed) (λ (w : Step). w.edge) told_path (subst (λ n. All (λ (w : Step). w.edge < n) told_path) (sym count) (path_low s.edges x.0 y.0))
 
-  step_shown : (k : ℕ) (z : Step) → z.edge < k → Contains told_path z → Shows s k told_notes (complement (literal_said s.table (denied_step s.truths z)))
+  step_shown : (k : ℕ) (z : Step) → z.edge < k → Contains told_path z → ShowsLiteral s k told_notes (complement (literal_said s.table (denied_step s.truths z)))
   step_shown k z lt z_in = λ more assumed sw aw ih.
       subst (λ c. Propagates complement more assumed (literal_claimed s.table c))
       (sym (step_says s.truths s.edges z (All-contains (IsAlong s.edges) told_path z (path-along s.edges x.0 y.0) z_in))) (ih z.edge lt (is_needed z z_in))
@@ -158,9 +158,9 @@ module _ (s : Setting) (needed after : List Bool) (steps steps_after : List (Lis
   pub tells_path : steps_after ≡ steps ++ map (literal_said s.table) (path_clause s.truths told_path x y) ∷ [] → TellsPair s (record { needed = needed; steps = steps; stated = [] }) told_notes x y
   tells_path is = λ k le linked. (
     grows (map (literal_said s.table) (path_clause s.truths told_path x y) ∷ []) is k le linked,
-    shows_last s k told_notes (map (denied_step s.truths) told_path) (equal x y)
+    shows_last s k told_notes (map (denied_step s.truths) told_path) (equality_claim x y)
         (subst (λ ds. Contains ds (map (literal_said s.table) (path_clause s.truths told_path x y))) (sym is) (Contains-push steps (map (literal_said s.table) (path_clause s.truths told_path x y))))
-        (All-map (λ m. Shows s k told_notes (complement (literal_said s.table m))) (denied_step s.truths) told_path
+        (All-map (λ m. ShowsLiteral s k told_notes (complement (literal_said s.table m))) (denied_step s.truths) told_path
         (λ j d lt. step_shown k (get_or told_path j d) (low k le linked j d lt) (Contains-get_or told_path j d lt))),
   )
 
@@ -172,14 +172,14 @@ module _ (s : Setting) (needed after : List Bool) (steps steps_after : List (Lis
     go k told_path (λ z i. i) (low k le linked) alone,
   )
     where
-      go : (k : ℕ) (ss : List Step) → ((z : Step) → Contains ss z → Contains told_path z) → All (λ (z : Step). z.edge < k) ss → map (denied_step s.truths) ss ≡ m ∷ [] → Shows s k told_notes (literal_claimed s.table (Equality x y))
+      go : (k : ℕ) (ss : List Step) → ((z : Step) → Contains ss z → Contains told_path z) → All (λ (z : Step). z.edge < k) ss → map (denied_step s.truths) ss ≡ m ∷ [] → ShowsLiteral s k told_notes (literal_claimed s.table (Equality x y))
       go k [] there lows e = absurd (cc)
       go k (z ∷ w ∷ ss) there lows e = absurd (cc)
       go k (z ∷ []) there lows e =
           let one : denied_step s.truths z ≡ m = cc in
           let same : complement (literal_said s.table (denied_step s.truths z)) ≡ literal_claimed s.table (Equality x y) =
           ap (λ (n : Said). complement (literal_said s.table (record { claim = n.claim; positive = false }))) one ∙ ap (λ (u : Term). let l : Literal = record { atom = u; positive = true } in l) says_so in
-          subst (Shows s k told_notes) same (step_shown k z (All-head (λ (w : Step). w.edge < k) z [] lows) (there z (first z [])))
+          subst (ShowsLiteral s k told_notes) same (step_shown k z (All-head (λ (w : Step). w.edge < k) z [] lows) (there z (first z [])))
 
 -- it says so over the table of the start too
 pub one_equality_back : (t u : TableView) → Widens t u → (clause : List Said) → All (λ s. IsClaimIn t s.claim) clause → (x y : TermId) → IsIn t x → IsIn t y → (q : IsOneEquality u clause x y)

@@ -27,31 +27,31 @@ use Rattle.clause_literals.proofs.TableLiterals.{literals_apart}
 use Rattle.explain_forest.specs.declared.types.Edge.{Edge}
 use Rattle.explain_forest.specs.declared.types.Step.{Step}
 use Rattle.explain_forest.specs.declared.types.Label.TheVariants.{Held}
-use Rattle.explain_forest.specs.Forest.{ForestState, Linked, path, numbered, older, Leads, IsAlong}
+use Rattle.explain_forest.specs.Forest.{ForestState, Linked, path, numbered, older, PathLeads, IsAlong}
 use Rattle.explain_forest.proofs.Levels.{numbered-top, numbered-older}
 use Rattle.explain_forest.proofs.Leading.{path-leads, path-along}
 use Rattle.congruence_relation.specs.declared.Truths.{Truths}
 use Rattle.congruence_relation.specs.declared.Conflict.{Conflict}
 use Rattle.congruence_relation.specs.declared.Conflict.TheVariants as conflicts
 use Rattle.congruence_relation.specs.Relation.{Application, Facts, terms_listed}
-use Rattle.congruence_relation.specs.Edges.{IsReason, IsConflict}
+use Rattle.congruence_relation.specs.Edges.{IsEdgeReason, IsConflict}
 use Rattle.congruence_relation.proofs.Agree.{equality_term}
 use Rattle.proof_log.specs.declared.premises.StepId.{StepId}
 use Rattle.proof_log.specs.Logs.{Logged, logged_at, no_logged, clauses_in, numbers_of, inference_of, derivation_in, IsLogOf}
 use Rattle.proof_log.specs.Clashes.{HasLit, IsClash}
-use Rattle.proof_log.specs.Theories.{Derived, Derives}
+use Rattle.proof_log.specs.Theories.{Derived, DerivesLemmas}
 use Rattle.proof_log.proofs.Logged.{numbers_there, premises_there}
 use Rattle.congruence_explain.specs.declared.claims.Claim.TheVariants.{Equality}
 use Rattle.congruence_explain.specs.declared.claims.Said.{Said}
 use Rattle.congruence_explain.specs.Claims.{no_term_id, term_said, literal_said, literal_claimed, IsClaimOf, unequal, said_value}
 use Rattle.congruence_explain.specs.Basis.{IsBasis, AreLinkedIn, IsEqualityIn, HasLinkedSides}
-use Rattle.congruence_explain.specs.Steps.{Start, derived, begun, spoken, Explains, literals_logged, steps_since, Setting, setting, HasPut, all_denied, apart, IsDenial, IsCollected, IsExplained, others_of, AreNumbersFrom}
+use Rattle.congruence_explain.specs.Steps.{Start, derived, begun, spoken, Explains, literals_logged, steps_since, ExplanationSetting, setting, HasPut, all_denied, apart, IsDenial, IsCollected, IsExplained, others_of, AreNumbersFrom}
 use Rattle.congruence_explain.proofs.Terms.{claims_in, literals_put}
 use Rattle.congruence_explain.proofs.Shown.{derives_more, by_clause, within_more, denied_more}
 use Rattle.congruence_explain.proofs.Facts.{reason_at, argument_term, argument_made, held_made, held_atom, truth_made, truths_in}
 
 -- a table with a log that is right, where nothing came
-pub derives_none : (terms : List Term) (t : TableView) (log : List Logged) → IsLogOf t log → Derives terms (derived t log) (derived t log)
+pub derives_none : (terms : List Term) (t : TableView) (log : List Logged) → IsLogOf t log → DerivesLemmas terms (derived t log) (derived t log)
 derives_none terms t log right = record {
   table = Extends-self t;
   declared = refl;
@@ -91,7 +91,7 @@ resolution_follows start t log from ids clause from_is numbers claims conflict =
     premises = premise_literals t log ids ∙ ap (map (literals_logged t)) (numbers.all ∙ ap (λ n. drop n log) from_is) ∙ sym (drop-map (literals_logged t) (length start.log) log)
 
 -- the two sides of an equality are equal and are not
-pub sides_conflict : (s : Setting) (steps : List (List Literal)) (e a c : TermId) (stated clause : List Said) → IsEqualityIn s.table e a c → IsCollected s steps a c stated → clause ≡ stated ++ said_value e true ∷ [] → Conflicts complement steps (all_denied s.table clause)
+pub sides_conflict : (s : ExplanationSetting) (steps : List (List Literal)) (e a c : TermId) (stated clause : List Said) → IsEqualityIn s.table e a c → IsCollected s steps a c stated → clause ≡ stated ++ said_value e true ∷ [] → Conflicts complement steps (all_denied s.table clause)
 sides_conflict s steps e a c stated clause q collected is = both_ways (literal_claimed s.table (Equality a c))
     (derives_more steps steps (all_denied s.table stated) (all_denied s.table clause) (λ x i. i) (denied_more s.table stated clause (within_more stated clause (said_value e true ∷ []) is)) (literal_claimed s.table (Equality a c)) collected.shown)
     (given (complement (literal_claimed s.table (Equality a c))) (subst (Contains (all_denied s.table clause)) same last))
@@ -103,7 +103,7 @@ sides_conflict s steps e a c stated clause q collected is = both_ways (literal_c
     same = ap (λ (x : Term). let l : Literal = record { atom = x; positive = false } in l) q.is
 
 -- `true` and `false` are equal and are not
-pub truths_conflict : (s : Setting) (steps after : List (List Literal)) (stated : List Said) → IsCollected s steps s.truths.true_term s.truths.false_term stated → after ≡ steps ++ apart s.table s.truths → Conflicts complement after (all_denied s.table stated)
+pub truths_conflict : (s : ExplanationSetting) (steps after : List (List Literal)) (stated : List Said) → IsCollected s steps s.truths.true_term s.truths.false_term stated → after ≡ steps ++ apart s.table s.truths → Conflicts complement after (all_denied s.table stated)
 truths_conflict s steps after stated collected is = both_ways off off_derived (by_clause after assumed (not_off ∷ []) not_off (step_in (not_off ∷ []) (later clause ((yes ∷ []) ∷ (not_off ∷ []) ∷ []) (not_off ∷ []) (later (yes ∷ []) ((not_off ∷ []) ∷ []) (not_off ∷ []) (first (not_off ∷ []) [])))) (first not_off []) (λ m i. inl (sym (only not_off m i))))
   where
     assumed : List Literal
@@ -186,18 +186,18 @@ ends_there n es ends x y linked apart_terms = go (path es x y) (path-leads es x 
     end s (lt, inl e) = let p = numbered_all (λ e. (e.a.0 < n) × (e.b.0 < n)) es ends s.edge lt in (subst (λ (z : Step). z.from.0 < n) (sym e) p.0, subst (λ (z : Step). z.to.0 < n) (sym e) p.1)
     end s (lt, inr e) = let p = numbered_all (λ e. (e.a.0 < n) × (e.b.0 < n)) es ends s.edge lt in (subst (λ (z : Step). z.from.0 < n) (sym e) p.1, subst (λ (z : Step). z.to.0 < n) (sym e) p.0)
 
-    last : (m : ℕ) → m < n → (ss : List Step) → Leads m ss y → All (IsAlong es) ss → y < n
+    last : (m : ℕ) → m < n → (ss : List Step) → PathLeads m ss y → All (IsAlong es) ss → y < n
     last m lt [] e h = subst (λ z. z < n) e lt
     last m lt (s ∷ ss) (e, rest) h = last s.to.0 (end s (All-head (IsAlong es) s ss h)).1 ss rest (All-tail (IsAlong es) s ss h)
 
-    go : (ss : List Step) → Leads x ss y → All (IsAlong es) ss → (x < n) × (y < n)
+    go : (ss : List Step) → PathLeads x ss y → All (IsAlong es) ss → (x < n) × (y < n)
     go [] e h = absurd (apart_terms e)
     go (s ∷ ss) (e, rest) h = let p = end s (All-head (IsAlong es) s ss h) in (subst (λ z. z < n) e p.0, last s.to.0 p.1 ss rest (All-tail (IsAlong es) s ss h))
 
 module _ (t : TableView) (ts : Truths) (v : ForestState) (f : Facts) (b : IsBasis t ts v f) where
   -- a literal that labels an edge is held
   label_held : (k : ℕ) (l : Lit) → k < length v.edges → (numbered v.edges k).label ≡ Held l → Contains f.held l
-  label_held k l lt label = (subst (IsReason f (older v.edges k) (numbered v.edges k)) label (reason_at f v.edges b.reasons k lt)).0
+  label_held k l lt label = (subst (IsEdgeReason f (older v.edges k) (numbered v.edges k)) label (reason_at f v.edges b.reasons k lt)).0
 
   -- so its denial can be put
   pub denials_in : (stated : List Said) → All (IsDenial (setting t ts v)) stated → All (λ s. IsClaimOf (terms_listed t f) t s.claim) stated
@@ -282,16 +282,16 @@ module _ (t : TableView) (ts : Truths) (v : ForestState) (f : Facts) (b : IsBasi
               subst (Contains f.held) (sym (negation_twice l) ∙ ap lit_complement same) l_in
 
 -- the last clause as it is put
-pub explained_put : (s : Setting) (start : Start) (old now : Derived) (clause others : List Said) → s.table ≡ start.table → All (λ m. IsDenial s m ⊎ Contains others m) clause
+pub explained_put : (s : ExplanationSetting) (start : Start) (old now : Derived) (clause others : List Said) → s.table ≡ start.table → All (λ m. IsDenial s m ⊎ Contains others m) clause
     → (r : Result StepId NoMemory) → IfOk r (HasPut start old now (map (literal_said start.table) clause)) → IfOk r (IsExplained s now others)
 explained_put s start old now clause others same each (Ok id) put = record { there = put.there; clause = clause; literals = put.clause_is ∙ ap (λ (t : TableView). map (literal_said t) clause) (sym same); each = each }
 explained_put s start old now clause others same each (Err e) put = tt
 
-pub each_denied : (s : Setting) (others stated : List Said) → All (IsDenial s) stated → All (λ m. IsDenial s m ⊎ Contains others m) stated
+pub each_denied : (s : ExplanationSetting) (others stated : List Said) → All (IsDenial s) stated → All (λ m. IsDenial s m ⊎ Contains others m) stated
 each_denied s others stated h = All-weaker (IsDenial s) (λ m. IsDenial s m ⊎ Contains others m) (λ m d. inl d) stated h
 
 -- with the one that is no denial
-pub each_other : (s : Setting) (stated clause : List Said) (m : Said) → clause ≡ stated ++ m ∷ [] → All (IsDenial s) stated → All (λ x. IsDenial s x ⊎ Contains (m ∷ []) x) clause
+pub each_other : (s : ExplanationSetting) (stated clause : List Said) (m : Said) → clause ≡ stated ++ m ∷ [] → All (IsDenial s) stated → All (λ x. IsDenial s x ⊎ Contains (m ∷ []) x) clause
 each_other s stated clause m is h = subst (All (λ x. IsDenial s x ⊎ Contains (m ∷ []) x)) (sym is) (All-push (λ x. IsDenial s x ⊎ Contains (m ∷ []) x) stated m (each_denied s (m ∷ []) stated h) (inr (first m [])))
 
 -- the premises of the last clause came since the start
@@ -301,7 +301,7 @@ premises_since start log from ids is numbers = subst (λ n. All (λ (p : StepId)
 module _ (start : Start) (t : TableView) (log : List Logged) (same : begun start ≡ derived t log) (right : IsLogOf t log) where
   -- the start is derived
   pub start_derives : Explains start (derived t log)
-  start_derives = subst (λ (d : Derived). Derives (spoken start) d (derived t log)) (sym same) (derives_none (spoken start) t log right)
+  start_derives = subst (λ (d : Derived). DerivesLemmas (spoken start) d (derived t log)) (sym same) (derives_none (spoken start) t log right)
 
   -- and its steps are those of the log
   pub start_length : (from : ℕ) → from ≡ length log → from ≡ length start.log

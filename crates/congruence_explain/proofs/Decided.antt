@@ -1,4 +1,4 @@
--- That a literal's term is equal to its truth value, and that `true` and `false` are not.
+-- That a literal's term is equality_claim to its truth value, and that `true` and `false` are not.
 use Rattle.std.proofs.Common.{◌≡◌, ℕ, ◌&&◌, ◌⊎◌, inl, inr, Bool, true, false, List, [], ◌∷◌, ◌++◌, map, if◌then◌else◌, refl, sym, ap, ◌∙◌, subst, append_assoc}
 use Rattle.std.specs.Prelude.{All, Contains, not}
 use Rattle.std.proofs.lemmas.List.Elements.{All-nil, All-cons, Contains-append_right, Contains-push}
@@ -11,7 +11,7 @@ use Rattle.spec_proofs.specs.declared.Rule.TheVariants as rules
 use Rattle.spec_proofs.specs.Resolution.{Derives as Propagates, given, IsWithin}
 use Rattle.spec_derivations.specs.Lemmas.{IsMadeOf, is_equality}
 use Rattle.spec_rules.specs.Rules.{IsRight}
-use Rattle.spec_rules.specs.Schemes.{Scheme, signed, rests_of, clauses_by, is_formula_of, equiv_pos2, equiv_neg1, equiv_neg2}
+use Rattle.spec_rules.specs.Schemes.{Scheme, signed_term, rests_of, clauses_by, is_formula_of, equiv_pos2, equiv_neg1, equiv_neg2}
 use Rattle.term_core.specs.declared.ids.TermId.{TermId}
 use Rattle.term_core.specs.declared.ids.Lit.{Lit}
 use Rattle.term_core.specs.Tables.{TableView, term_at, positive_literal}
@@ -21,9 +21,9 @@ use Rattle.proof_log.specs.Theories.{IsAtomIn}
 use Rattle.congruence_explain.specs.declared.claims.Claim.TheVariants.{Equality, Atom}
 use Rattle.congruence_explain.specs.declared.claims.Said.{Said}
 use Rattle.congruence_explain.specs.Rules.{value_rule, decided_rule}
-use Rattle.congruence_explain.specs.Claims.{term_said, literal_said, literal_claimed, IsClaimOf, equal, unequal, denied, said_value}
+use Rattle.congruence_explain.specs.Claims.{term_said, literal_said, literal_claimed, IsClaimOf, equality_claim, unequal, denied, said_value}
 use Rattle.congruence_explain.specs.Basis.{AreTruths}
-use Rattle.congruence_explain.specs.Steps.{Setting, Shows, all_denied, decision}
+use Rattle.congruence_explain.specs.Steps.{ExplanationSetting, ShowsLiteral, all_denied, decision}
 use Rattle.congruence_explain.proofs.Shown.{by_clause}
 use Rattle.congruence_explain.proofs.Facts.{truth_made, true_sort, false_sort}
 
@@ -53,33 +53,33 @@ module _ (t : TableView) (ts : Truths) (h : AreTruths t ts) where
   equal_formula : (x y : Term) → sort_of x ≡ Truth → sort_of y ≡ Truth → is_formula_of Equal (equal_terms x y) ≡ true
   equal_formula x y p q = λ i. same_head Equal Equal && head_takes [] Equal (p i ∷ q i ∷ []) && all_same Truth (p i ∷ q i ∷ [])
 
-  given_by : (s : Scheme) (x y : Term) (ls : List Term) → s.head ≡ Equal → sort_of x ≡ Truth → sort_of y ≡ Truth → rests_of s.rest (x ∷ y ∷ []) ≡ ls ∷ [] → Contains (clauses_by s (equal_terms x y)) (signed s.positive (equal_terms x y) ∷ ls)
+  given_by : (s : Scheme) (x y : Term) (ls : List Term) → s.head ≡ Equal → sort_of x ≡ Truth → sort_of y ≡ Truth → rests_of s.rest (x ∷ y ∷ []) ≡ ls ∷ [] → Contains (clauses_by s (equal_terms x y)) (signed_term s.positive (equal_terms x y) ∷ ls)
   given_by s x y ls head p q rests =
       let e = equal_terms x y in
       let test : is_formula_of s.head e ≡ true = ap (λ g. is_formula_of g e) head ∙ equal_formula x y p q in
-      let all : clauses_by s e ≡ (signed s.positive e ∷ ls) ∷ [] = (λ i. if test i then map (λ zs. signed s.positive e ∷ zs) (rests_of s.rest (x ∷ y ∷ [])) else []) ∙ ap (map (λ zs. signed s.positive e ∷ zs)) rests in
-      subst (λ cs. Contains cs (signed s.positive e ∷ ls)) (sym all) (first (signed s.positive e ∷ ls) [])
+      let all : clauses_by s e ≡ (signed_term s.positive e ∷ ls) ∷ [] = (λ i. if test i then map (λ zs. signed_term s.positive e ∷ zs) (rests_of s.rest (x ∷ y ∷ [])) else []) ∙ ap (map (λ zs. signed_term s.positive e ∷ zs)) rests in
+      subst (λ cs. Contains cs (signed_term s.positive e ∷ ls)) (sym all) (first (signed_term s.positive e ∷ ls) [])
 
   abbrev pub decided_clause : Lit → List Said
-  decided_clause l = equal l.term (truth_of ts l.positive) ∷ denied l ∷ said_value (truth_of ts l.positive) (not l.positive) ∷ []
+  decided_clause l = equality_claim l.term (truth_of ts l.positive) ∷ denied l ∷ said_value (truth_of ts l.positive) (not l.positive) ∷ []
 
   pub decided_in : (terms : List Term) (l : Lit) → IsAtomIn t l.term → IsMadeOf terms (term_at t l.term) → All (λ s. IsClaimOf terms t s.claim) (decided_clause l)
   decided_in terms l a made =
       let P : Said → Type 0 = λ s. IsClaimOf terms t s.claim in
       let value = value_atom l.positive in
       let value_made = truth_made terms t ts h l.positive in
-      All-cons P (equal l.term (truth_of ts l.positive)) (denied l ∷ said_value (truth_of ts l.positive) (not l.positive) ∷ [])
+      All-cons P (equality_claim l.term (truth_of ts l.positive)) (denied l ∷ said_value (truth_of ts l.positive) (not l.positive) ∷ [])
       (((a.0.0, a.0.1.term), (value.0.0, value.0.1.term), a.0.1.sort ∙ sym value.0.1.sort), is_equality (term_at t l.term) (term_at t (truth_of ts l.positive)) made value_made)
       (All-cons P (denied l) (said_value (truth_of ts l.positive) (not l.positive) ∷ []) (a, made) (All-cons P (said_value (truth_of ts l.positive) (not l.positive)) [] (value, value_made) (All-nil P)))
 
-  -- a formula is equal to its truth value
+  -- a formula is equality_claim to its truth value
   pub decided_right : (l : Lit) → IsAtomIn t l.term → IsRight (decided_rule l.positive) [] none (map (term_said t) (decided_clause l))
   decided_right l a = go l.positive
     where
       x : Term
       x = term_at t l.term
 
-      go : (p : Bool) → IsRight (decided_rule p) [] none (equal_terms x (term_at t (truth_of ts p)) ∷ signed (not p) x ∷ signed (not p) (term_at t (truth_of ts p)) ∷ [])
+      go : (p : Bool) → IsRight (decided_rule p) [] none (equal_terms x (term_at t (truth_of ts p)) ∷ signed_term (not p) x ∷ signed_term (not p) (term_at t (truth_of ts p)) ∷ [])
       go true = (equal_terms x (term_at t ts.true_term), given_by equiv_neg1 x (term_at t ts.true_term) (negated x ∷ negated (term_at t ts.true_term) ∷ []) refl a.0.1.sort (value_atom true).0.1.sort refl)
       go false = (equal_terms x (term_at t ts.false_term), given_by equiv_neg2 x (term_at t ts.false_term) (x ∷ term_at t ts.false_term ∷ []) refl a.0.1.sort (value_atom false).0.1.sort refl)
 
@@ -97,7 +97,7 @@ module _ (t : TableView) (ts : Truths) (h : AreTruths t ts) where
       ((h.true_term, h.false_term, yes.0.1.sort ∙ sym off.0.1.sort), is_equality (term_at t ts.true_term) (term_at t ts.false_term) yes_made off_made)
       (All-cons P (said_value ts.true_term false) (said_value ts.false_term true ∷ []) (yes, yes_made) (All-cons P (said_value ts.false_term true) [] (off, off_made) (All-nil P)))
 
-  -- where `true` is equal to `false`, this is true
+  -- where `true` is equality_claim to `false`, this is true
   pub apart_right : IsRight rules.EquivPos2 [] none (map (term_said t) apart_clause)
   apart_right = (
     equal_terms (term_at t ts.true_term) (term_at t ts.false_term),
@@ -108,20 +108,20 @@ not_twice : (p : Bool) → not (not p) ≡ p
 not_twice true = refl
 not_twice false = refl
 
-module _ (s : Setting) (k : ℕ) (needed : List Bool) (steps steps_after : List (List Literal)) (stated stated_after : List Said) (l : Lit) (later_stated : stated_after ≡ stated ++ denied l ∷ []) where
+module _ (s : ExplanationSetting) (k : ℕ) (needed : List Bool) (steps steps_after : List (List Literal)) (stated stated_after : List Said) (l : Lit) (later_stated : stated_after ≡ stated ++ denied l ∷ []) where
   -- the literal is assumed
   pub held_assumed : (assumed : List Literal) → IsWithin (all_denied s.table stated_after) assumed → Contains assumed (complement (literal_said s.table (denied l)))
   held_assumed assumed aw = aw (complement (literal_said s.table (denied l)))
       (to_image complement (map (literal_said s.table) stated_after) (literal_said s.table (denied l)) (to_image (literal_said s.table) stated_after (denied l) (subst (λ zs. Contains zs (denied l)) (sym later_stated) (Contains-push stated (denied l)))))
 
   -- so itself is shown
-  pub shows_itself : l.positive ≡ true → Shows s k (record { needed = needed; steps = steps_after; stated = stated_after }) (literal_claimed s.table (Atom l.term))
+  pub shows_itself : l.positive ≡ true → ShowsLiteral s k (record { needed = needed; steps = steps_after; stated = stated_after }) (literal_claimed s.table (Atom l.term))
   shows_itself positive = λ more assumed sw aw ih.
       let same : complement (literal_said s.table (denied l)) ≡ literal_claimed s.table (Atom l.term) = (λ i. record { atom = term_at s.table l.term; positive = (not_twice l.positive ∙ positive) i }) in
       subst (Propagates complement more assumed) same (given (complement (literal_said s.table (denied l))) (held_assumed assumed aw))
 
-  -- or that its term is equal to its truth value
-  pub shows_decided : steps_after ≡ steps ++ decision s.table s.truths l → Shows s k (record { needed = needed; steps = steps_after; stated = stated_after }) (literal_claimed s.table (Equality l.term (truth_of s.truths l.positive)))
+  -- or that its term is equality_claim to its truth value
+  pub shows_decided : steps_after ≡ steps ++ decision s.table s.truths l → ShowsLiteral s k (record { needed = needed; steps = steps_after; stated = stated_after }) (literal_claimed s.table (Equality l.term (truth_of s.truths l.positive)))
   shows_decided is = λ more assumed sw aw ih. by_clause more assumed clause goal (sw clause (step_in clause (later states (clause ∷ []) clause (first clause [])))) (first goal (one ∷ two ∷ []))
       (λ m i. go more assumed sw aw m (cases goal (one ∷ two ∷ []) m i))
     where
@@ -129,7 +129,7 @@ module _ (s : Setting) (k : ℕ) (needed : List Bool) (steps steps_after : List 
       value = truth_of s.truths l.positive
 
       goal : Literal
-      goal = literal_said s.table (equal l.term value)
+      goal = literal_said s.table (equality_claim l.term value)
 
       one : Literal
       one = literal_said s.table (denied l)

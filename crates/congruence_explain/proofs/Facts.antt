@@ -15,7 +15,7 @@ use Rattle.spec_derivations.specs.Lemmas.{IsMadeOf, «given», is_true, is_false
 use Rattle.spec_derivations.proofs.Below.{argument_sorted}
 use Rattle.term_core.specs.declared.ids.TermId.{TermId}
 use Rattle.term_core.specs.declared.ids.Lit.{Lit}
-use Rattle.term_core.specs.Tables.{TableView, term_at, IsIn, clause_at, head_meant, Shape, shape_term, Fits}
+use Rattle.term_core.specs.Tables.{TableView, term_at, IsIn, clause_at, head_meant, Shape, shape_term, ShapeFits}
 use Rattle.term_core.proofs.TermsClosed.{argument_in}
 use Rattle.term_core.proofs.Numbers.{same_id}
 use Rattle.explain_forest.specs.declared.types.Edge.{Edge}
@@ -26,8 +26,8 @@ use Rattle.explain_forest.proofs.Roots.{root-under, root-beside}
 use Rattle.explain_forest.proofs.Linking.{older-all, older-later}
 use Rattle.explain_forest.proofs.Levels.{numbered-top, numbered-older}
 use Rattle.congruence_relation.specs.declared.Truths.{Truths}
-use Rattle.congruence_relation.specs.Relation.{Application, Facts, truth_of, IsEquality, States, decides, equates, terms_listed}
-use Rattle.congruence_relation.specs.Edges.{roots, IsReason, AreReasons}
+use Rattle.congruence_relation.specs.Relation.{Application, Facts, truth_of, IsEquality, StatesEqual, decides, equates, terms_listed}
+use Rattle.congruence_relation.specs.Edges.{roots, IsEdgeReason, EdgesHaveReasons}
 use Rattle.congruence_relation.proofs.Agree.{equality_term}
 use Rattle.proof_log.specs.Theories.{IsTermIn, IsAtomIn}
 use Rattle.congruence_explain.specs.declared.claims.Claim.TheVariants.{Equality, Atom}
@@ -70,18 +70,18 @@ abbrev pub number_sort : TableView → ℕ → Sort
 number_sort t n = sort_of (number_term t n)
 
 -- the reason of the edge of a number rests on older edges
-pub reason_at : (f : Facts) (es : List Edge) → AreReasons f es → (k : ℕ) → k < length es → IsReason f (older es k) (numbered es k) (numbered es k).label
+pub reason_at : (f : Facts) (es : List Edge) → EdgesHaveReasons f es → (k : ℕ) → k < length es → IsEdgeReason f (older es k) (numbered es k) (numbered es k).label
 reason_at f [] ok k h = absurd (omega arith)
 reason_at f (e ∷ es) ok k h = go (cases_eq k (length es)) (reason_at f es ok.1 k)
   where
-    go : (k ≡ length es) ⊎ (k ≢ length es) → (k < length es → IsReason f (older es k) (numbered es k) (numbered es k).label) → IsReason f (older (e ∷ es) k) (numbered (e ∷ es) k) (numbered (e ∷ es) k).label
+    go : (k ≡ length es) ⊎ (k ≢ length es) → (k < length es → IsEdgeReason f (older es k) (numbered es k) (numbered es k).label) → IsEdgeReason f (older (e ∷ es) k) (numbered (e ∷ es) k) (numbered (e ∷ es) k).label
     go (inl p) ih =
         let edges : older (e ∷ es) k ≡ es = older-later e es k (omega arith) ∙ older-all es k (omega arith) in
-        subst (λ (ds : List Edge). IsReason f ds (numbered (e ∷ es) k) (numbered (e ∷ es) k).label) (sym edges) (subst (λ (d : Edge). IsReason f es d d.label) (sym (numbered-top e es k p)) ok.0)
+        subst (λ (ds : List Edge). IsEdgeReason f ds (numbered (e ∷ es) k) (numbered (e ∷ es) k).label) (sym edges) (subst (λ (d : Edge). IsEdgeReason f es d d.label) (sym (numbered-top e es k p)) ok.0)
     go (inr p) ih =
         let edges : older (e ∷ es) k ≡ older es k = older-later e es k (omega arith) in
-        subst (λ (ds : List Edge). IsReason f ds (numbered (e ∷ es) k) (numbered (e ∷ es) k).label) (sym edges)
-        (subst (λ (d : Edge). IsReason f (older es k) d d.label) (sym (numbered-older e es k p)) (ih (omega arith)))
+        subst (λ (ds : List Edge). IsEdgeReason f ds (numbered (e ∷ es) k) (numbered (e ∷ es) k).label) (sym edges)
+        (subst (λ (d : Edge). IsEdgeReason f (older es k) d d.label) (sym (numbered-older e es k p)) (ih (omega arith)))
 
 -- the second of linked terms have one sort
 second_same : (t : TableView) (es : List Edge) → ((n : ℕ) → number_sort t (root es n) ≡ number_sort t n) → (xs ys : List TermId) → roots es xs ≡ roots es ys
@@ -114,8 +114,8 @@ truth_made terms t ts h false = subst (IsMadeOf terms) (sym h.false_is) is_false
 
 module _ (t : TableView) (ts : Truths) (v : ForestState) (f : Facts) (b : IsBasis t ts v f) where
   -- what a table says of a listed term
-  listed : (x : Application) → Contains f.listed x → IsIn t x.term × Fits t x.shape × (shape_term t x.shape ≡ term_at t x.term)
-  listed x there = All-contains (λ x. IsIn t x.term × Fits t x.shape × (shape_term t x.shape ≡ term_at t x.term)) f.listed x b.facts.terms there
+  listed : (x : Application) → Contains f.listed x → IsIn t x.term × ShapeFits t x.shape × (shape_term t x.shape ≡ term_at t x.term)
+  listed x there = All-contains (λ x. IsIn t x.term × ShapeFits t x.shape × (shape_term t x.shape ≡ term_at t x.term)) f.listed x b.facts.terms there
 
   pub listed_term : (x : Application) → Contains f.listed x → IsTermIn t x.term
   listed_term x there = All-contains (λ x. IsTermIn t x.term) f.listed x b.terms there
@@ -123,7 +123,7 @@ module _ (t : TableView) (ts : Truths) (v : ForestState) (f : Facts) (b : IsBasi
   pub listed_is : (x : Application) → Contains f.listed x → shape_term t x.shape ≡ term_at t x.term
   listed_is x there = (listed x there).2
 
-  pub listed_fits : (x : Application) → Contains f.listed x → Fits t x.shape
+  pub listed_fits : (x : Application) → Contains f.listed x → ShapeFits t x.shape
   listed_fits x there = (listed x there).1
 
   -- an argument of one
@@ -177,11 +177,11 @@ module _ (t : TableView) (ts : Truths) (v : ForestState) (f : Facts) (b : IsBasi
       let takes : same_sort (sort_of (term_at t x)) (sort_of (term_at t y)) ≡ true = subst (λ (s : Shape). Rattle.term_core.specs.Tables.takes (head_meant t s.head) (map sort_of (clause_at t s.arguments)) ≡ true) q.shape (listed_fits q.at q.there).sorts in
       same_sort_is (sort_of (term_at t x)) (sort_of (term_at t y)) takes
 
-  states_sort : (l : Lit) (x y : TermId) → Contains f.held l → States f l x y → sort_of (term_at t x) ≡ sort_of (term_at t y)
+  states_sort : (l : Lit) (x y : TermId) → Contains f.held l → StatesEqual f l x y → sort_of (term_at t x) ≡ sort_of (term_at t y)
   states_sort l _ _ there decides = (held_atom l there).0.1.sort ∙ sym (truth_sort l.positive) ∙ ap (λ (us : Truths). sort_of (term_at t (truth_of us l.positive))) (sym b.truths)
   states_sort l x y there (equates _ _ positive q) = equality_sorts l.term x y q
 
-  reason_sorts : (es : List Edge) → ((n : ℕ) → number_sort t (root es n) ≡ number_sort t n) → (e : Edge) (l : Label) → IsReason f es e l → number_sort t e.a.0 ≡ number_sort t e.b.0
+  reason_sorts : (es : List Edge) → ((n : ℕ) → number_sort t (root es n) ≡ number_sort t n) → (e : Edge) (l : Label) → IsEdgeReason f es e l → number_sort t e.a.0 ≡ number_sort t e.b.0
   reason_sorts es ih e (Held l) (there, inl h) = states_sort l e.a e.b there h
   reason_sorts es ih e (Held l) (there, inr h) = sym (states_sort l e.b e.a there h)
   reason_sorts es ih e (Arguments x y) (x_is, y_is, m) =
@@ -189,7 +189,7 @@ module _ (t : TableView) (ts : Truths) (v : ForestState) (f : Facts) (b : IsBasi
       ∙ (λ i. sort_given (head_meant t (m.heads i)) (second_same t es ih m.one.shape.arguments m.other.shape.arguments m.arguments i))
       ∙ sym (sort_written t m.other.shape) ∙ ap sort_of (listed_is m.other m.other_there) ∙ ap (λ z. sort_of (term_at t z)) m.other_is
 
-  root_sorts : (es : List Edge) → AreReasons f es → (n : ℕ) → number_sort t (root es n) ≡ number_sort t n
+  root_sorts : (es : List Edge) → EdgesHaveReasons f es → (n : ℕ) → number_sort t (root es n) ≡ number_sort t n
   root_sorts [] ok n = refl
   root_sorts (e ∷ es) ok n = go (cases_eq (root es n) (root es e.a.0)) (root_sorts es ok.1)
     where
@@ -202,7 +202,7 @@ module _ (t : TableView) (ts : Truths) (v : ForestState) (f : Facts) (b : IsBasi
   linked_sorts x y h = sym (root_sorts v.edges b.reasons x) ∙ ap (number_sort t) h ∙ root_sorts v.edges b.reasons y
 
   -- what a reason says joins the ends
-  says_joins : (es : List Edge) (e : Edge) (l : Label) → IsReason f es e l → Joins (Some (term_claimed t (says ts l e.a e.b))) (term_at t e.a) (term_at t e.b)
+  says_joins : (es : List Edge) (e : Edge) (l : Label) → IsEdgeReason f es e l → Joins (Some (term_claimed t (says ts l e.a e.b))) (term_at t e.a) (term_at t e.b)
   says_joins es e (Arguments x y) (x_is, y_is, m) = inl (λ i. Some (equal_terms (term_at t (x_is i)) (term_at t (y_is i))))
   says_joins es e (Held l) (there, h) = go (joins_cases e.a e.b l.term value) h
     where
@@ -218,11 +218,11 @@ module _ (t : TableView) (ts : Truths) (v : ForestState) (f : Facts) (b : IsBasi
       joined : (x y : TermId) → x ≡ l.term → y ≡ value → joins x y l.term value ≡ true
       joined x y p q = (λ i. joins (p i) (q i) l.term value) ∙ same_joins l.term value
 
-      apart : (x y : TermId) → joins x y l.term value ≡ false → States f l x y → term_at t l.term ≡ equal_terms (term_at t x) (term_at t y)
+      apart : (x y : TermId) → joins x y l.term value ≡ false → StatesEqual f l x y → term_at t l.term ≡ equal_terms (term_at t x) (term_at t y)
       apart _ _ off decides = absurd (true≢false (sym (joined l.term (truth_of f.truths l.positive) refl truth_is) ∙ off))
       apart x y off (equates _ _ positive q) = equality_term t f b.facts l.term x y q
 
-      go : (((e.a ≡ l.term) × (e.b ≡ value)) ⊎ ((e.a ≡ value) × (e.b ≡ l.term))) ⊎ (joins e.a e.b l.term value ≡ false) → States f l e.a e.b ⊎ States f l e.b e.a
+      go : (((e.a ≡ l.term) × (e.b ≡ value)) ⊎ ((e.a ≡ value) × (e.b ≡ l.term))) ⊎ (joins e.a e.b l.term value ≡ false) → StatesEqual f l e.a e.b ⊎ StatesEqual f l e.b e.a
           → Joins (Some (term_claimed t (says ts (Held l) e.a e.b))) (term_at t e.a) (term_at t e.b)
       go (inl (inl p)) h = inl (ap (λ c. Some (term_claimed t c)) (said true (joined e.a e.b p.0 p.1)) ∙ (λ i. Some (equal_terms (term_at t (sym p.0 i)) (term_at t (sym p.1 i)))))
       go (inl (inr p)) h = inr (ap (λ c. Some (term_claimed t c)) (said true (joins_turned e.a e.b l.term value ∙ joined e.b e.a p.1 p.0)) ∙ (λ i. Some (equal_terms (term_at t (sym p.1 i)) (term_at t (sym p.0 i)))))
@@ -230,7 +230,7 @@ module _ (t : TableView) (ts : Truths) (v : ForestState) (f : Facts) (b : IsBasi
       go (inr off) (inr h) = inr (ap (λ c. Some (term_claimed t c)) (said false off) ∙ ap Some (apart e.b e.a (joins_turned e.b e.a l.term value ∙ off) h))
 
   -- and can be put
-  says_in : (es : List Edge) (e : Edge) (l : Label) → IsReason f es e l → number_sort t e.a.0 ≡ number_sort t e.b.0 → IsClaimOf (terms_listed t f) t (says ts l e.a e.b)
+  says_in : (es : List Edge) (e : Edge) (l : Label) → IsEdgeReason f es e l → number_sort t e.a.0 ≡ number_sort t e.b.0 → IsClaimOf (terms_listed t f) t (says ts l e.a e.b)
   says_in es e (Arguments x y) (x_is, y_is, m) sorts = (
     (
       subst (IsTermIn t) (m.one_is ∙ sym x_is) (listed_term m.one m.one_there),
@@ -255,11 +255,11 @@ module _ (t : TableView) (ts : Truths) (v : ForestState) (f : Facts) (b : IsBasi
   pub edge_joins : (k : ℕ) → k < length v.edges → Joins (Some (term_claimed t (edge_says ts (numbered v.edges k)))) (term_at t (numbered v.edges k).a) (term_at t (numbered v.edges k).b)
   edge_joins k h = says_joins (older v.edges k) (numbered v.edges k) (numbered v.edges k).label (reason_at f v.edges b.reasons k h)
 
-  older_reasons : (es : List Edge) (k : ℕ) → AreReasons f es → AreReasons f (older es k)
+  older_reasons : (es : List Edge) (k : ℕ) → EdgesHaveReasons f es → EdgesHaveReasons f (older es k)
   older_reasons [] k ok = tt
   older_reasons (e ∷ es) k ok = go (Rattle.std.proofs.Common.nat_lt (length es) k) (older_reasons es k ok.1)
     where
-      go : (c : Bool) → AreReasons f (older es k) → AreReasons f (if c then e ∷ es else older es k)
+      go : (c : Bool) → EdgesHaveReasons f (older es k) → EdgesHaveReasons f (if c then e ∷ es else older es k)
       go true h = ok
       go false h = h
 

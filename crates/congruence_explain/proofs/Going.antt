@@ -14,30 +14,30 @@ use Rattle.explain_forest.specs.declared.types.Label.TheVariants.{Held, Argument
 use Rattle.explain_forest.specs.Forest.{ForestState, Linked, numbered, older}
 use Rattle.explain_forest.proofs.Linking.{older-all}
 use Rattle.congruence_relation.specs.declared.Truths.{Truths}
-use Rattle.congruence_relation.specs.Relation.{Facts, truth_of, terms_listed, States, decides, equates}
-use Rattle.congruence_relation.specs.Edges.{IsReason}
+use Rattle.congruence_relation.specs.Relation.{Facts, truth_of, terms_listed, StatesEqual, decides, equates}
+use Rattle.congruence_relation.specs.Edges.{IsEdgeReason}
 use Rattle.congruence_explain.specs.declared.claims.Claim.TheVariants.{Equality, Atom}
 use Rattle.congruence_explain.specs.declared.claims.Said.{Said}
 use Rattle.congruence_explain.specs.Claims.{literal_claimed, denied, joins, says, edge_says}
-use Rattle.congruence_explain.specs.Basis.{IsBasis, IsDecided, IsByArguments}
-use Rattle.congruence_explain.specs.Steps.{Setting, Notes, all_denied, said_by, IsNeeded, Shows, decision, IsDenial, TellsPair, TellsEdge, Going, GoesOn, IsCollected}
+use Rattle.congruence_explain.specs.Basis.{IsBasis, IsAtomLiteral, IsByArguments}
+use Rattle.congruence_explain.specs.Steps.{ExplanationSetting, Notes, all_denied, said_by, IsNeeded, ShowsLiteral, decision, IsDenial, TellsPair, TellsEdge, Going, GoesOn, IsCollected}
 use Rattle.congruence_explain.proofs.Shown.{within_more, grows_stated, shows_more, shows_stated}
 use Rattle.congruence_explain.proofs.Facts.{reason_at, held_atom, held_made, truths_in, joins_turned, same_joins}
 use Rattle.congruence_explain.proofs.Decided.{shows_itself, shows_decided}
 
 -- what a held literal says of the edge that it labels
-pub held_shown : (s : Setting) (k : ℕ) (needed : List Bool) (steps : List (List Literal)) (stated stated_after : List Said) (e : Edge) (l : Lit) → numbered s.edges k ≡ e → e.label ≡ Held l → joins e.a e.b l.term (truth_of s.truths l.positive) ≡ false
+pub held_shown : (s : ExplanationSetting) (k : ℕ) (needed : List Bool) (steps : List (List Literal)) (stated stated_after : List Said) (e : Edge) (l : Lit) → numbered s.edges k ≡ e → e.label ≡ Held l → joins e.a e.b l.term (truth_of s.truths l.positive) ≡ false
     → l.positive ≡ true → stated_after ≡ stated ++ denied l ∷ []
     → TellsEdge s k (record { needed = needed; steps = steps; stated = stated }) (record { needed = needed; steps = steps; stated = stated_after })
 held_shown s k needed steps stated stated_after e l at label off positive is = (
   record { count = refl; kept = λ j h. h; same = λ j h. refl; steps = λ x i. i; stated = within_more stated stated_after (denied l ∷ []) is },
-  subst (λ c. Shows s k (record { needed = needed; steps = steps; stated = stated_after }) (literal_claimed s.table c)) (sym says_it) (shows_itself s k needed steps steps stated stated_after l is positive),
+  subst (λ c. ShowsLiteral s k (record { needed = needed; steps = steps; stated = stated_after }) (literal_claimed s.table c)) (sym says_it) (shows_itself s k needed steps steps stated stated_after l is positive),
 )
   where
     says_it : edge_says s.truths (numbered s.edges k) ≡ Atom l.term
     says_it = ap (edge_says s.truths) at ∙ ap (λ z. says s.truths z e.a e.b) label ∙ ap (λ c. if c then Equality l.term (truth_of s.truths l.positive) else Atom l.term) off
 
-pub decided_shown : (s : Setting) (k : ℕ) (needed : List Bool) (steps steps_after : List (List Literal)) (stated stated_after : List Said) (e : Edge) (l : Lit) → numbered s.edges k ≡ e → e.label ≡ Held l → joins e.a e.b l.term (truth_of s.truths l.positive) ≡ true
+pub decided_shown : (s : ExplanationSetting) (k : ℕ) (needed : List Bool) (steps steps_after : List (List Literal)) (stated stated_after : List Said) (e : Edge) (l : Lit) → numbered s.edges k ≡ e → e.label ≡ Held l → joins e.a e.b l.term (truth_of s.truths l.positive) ≡ true
     → stated_after ≡ stated ++ denied l ∷ [] → steps_after ≡ steps ++ decision s.table s.truths l
     → TellsEdge s k (record { needed = needed; steps = steps; stated = stated }) (record { needed = needed; steps = steps_after; stated = stated_after })
 decided_shown s k needed steps steps_after stated stated_after e l at label on is more = (
@@ -48,14 +48,14 @@ decided_shown s k needed steps steps_after stated stated_after e l at label on i
     steps = within_more steps steps_after (decision s.table s.truths l) more;
     stated = within_more stated stated_after (denied l ∷ []) is;
   },
-  subst (λ c. Shows s k (record { needed = needed; steps = steps_after; stated = stated_after }) (literal_claimed s.table c)) (sym says_it) (shows_decided s k needed steps steps_after stated stated_after l is more),
+  subst (λ c. ShowsLiteral s k (record { needed = needed; steps = steps_after; stated = stated_after }) (literal_claimed s.table c)) (sym says_it) (shows_decided s k needed steps steps_after stated stated_after l is more),
 )
   where
     says_it : edge_says s.truths (numbered s.edges k) ≡ Equality l.term (truth_of s.truths l.positive)
     says_it = ap (edge_says s.truths) at ∙ ap (λ z. says s.truths z e.a e.b) label ∙ ap (λ c. if c then Equality l.term (truth_of s.truths l.positive) else Atom l.term) on
 
 -- the same with other literals that the last clause has
-pub edge_with : (s : Setting) (k : ℕ) (needed after : List Bool) (steps steps_after : List (List Literal)) (stated : List Said)
+pub edge_with : (s : ExplanationSetting) (k : ℕ) (needed after : List Bool) (steps steps_after : List (List Literal)) (stated : List Said)
     → TellsEdge s k (record { needed = needed; steps = steps; stated = [] }) (record { needed = after; steps = steps_after; stated = [] })
     → TellsEdge s k (record { needed = needed; steps = steps; stated = stated }) (record { needed = after; steps = steps_after; stated = stated })
 edge_with s k needed after steps steps_after stated h = (
@@ -63,7 +63,7 @@ edge_with s k needed after steps steps_after stated h = (
   shows_stated s k after steps_after stated (said_by s k) h.1,
 )
 
-module _ (s : Setting) (k : ℕ) (lt : k < length s.edges) where
+module _ (s : ExplanationSetting) (k : ℕ) (lt : k < length s.edges) where
   -- an edge that is needed
   pub going_on : (old new : Notes) (more : List Said) → new.stated ≡ old.stated ++ more → All (IsDenial s) more → TellsEdge s k old new → GoesOn s k old new
   going_on old new more is denials told = λ goal g. record {
@@ -73,25 +73,25 @@ module _ (s : Setting) (k : ℕ) (lt : k < length s.edges) where
     held = subst (All (IsDenial s)) (sym is) (All-append (IsDenial s) old.stated more g.held denials);
   }
     where
-      go : ((j : ℕ) → k + 1 ≤ j → j < length s.edges → IsNeeded old.needed j → Shows s j old (said_by s j)) → (j : ℕ) → k ≤ j → j < length s.edges → IsNeeded new.needed j → (j ≡ k) ⊎ (j ≢ k) → Shows s j new (said_by s j)
-      go ih j low high n (inl e) = subst (λ i. Shows s i new (said_by s i)) (sym e) told.1
+      go : ((j : ℕ) → k + 1 ≤ j → j < length s.edges → IsNeeded old.needed j → ShowsLiteral s j old (said_by s j)) → (j : ℕ) → k ≤ j → j < length s.edges → IsNeeded new.needed j → (j ≡ k) ⊎ (j ≢ k) → ShowsLiteral s j new (said_by s j)
+      go ih j low high n (inl e) = subst (λ i. ShowsLiteral s i new (said_by s i)) (sym e) told.1
       go ih j low high n (inr d) = shows_more s j k old new told.0 (said_by s j) (ih j (omega arith) high (sym (told.0.same j low) ∙ n))
 
   -- and one that is not
   pub going_past : (n : Notes) → slice_index_or n.needed k false ≡ false → GoesOn s k n n
   going_past n off = λ goal g. record { count = g.count; explained = λ j low high need. go g.explained j low high need (cases_eq j k); shown = g.shown; held = g.held }
     where
-      go : ((j : ℕ) → k + 1 ≤ j → j < length s.edges → IsNeeded n.needed j → Shows s j n (said_by s j)) → (j : ℕ) → k ≤ j → j < length s.edges → IsNeeded n.needed j → (j ≡ k) ⊎ (j ≢ k) → Shows s j n (said_by s j)
+      go : ((j : ℕ) → k + 1 ≤ j → j < length s.edges → IsNeeded n.needed j → ShowsLiteral s j n (said_by s j)) → (j : ℕ) → k ≤ j → j < length s.edges → IsNeeded n.needed j → (j ≡ k) ⊎ (j ≢ k) → ShowsLiteral s j n (said_by s j)
       go ih j low high need (inl e) = absurd (true≢false (sym need ∙ ap (λ i. slice_index_or n.needed i false) e ∙ off))
       go ih j low high need (inr d) = ih j (omega arith) high need
 
 -- a held label is denied
-pub denial_of : (s : Setting) (k : ℕ) (e : Edge) (l : Lit) → k < length s.edges → e ≡ numbered s.edges k → e.label ≡ Held l → All (IsDenial s) (denied l ∷ [])
+pub denial_of : (s : ExplanationSetting) (k : ℕ) (e : Edge) (l : Lit) → k < length s.edges → e ≡ numbered s.edges k → e.label ≡ Held l → All (IsDenial s) (denied l ∷ [])
 denial_of s k e l lt at label = All-cons (IsDenial s) (denied l) [] (l, k, lt, ap (λ z. z.label) (sym at) ∙ label, refl) (All-nil (IsDenial s))
 
 module _ (t : TableView) (ts : Truths) (v : ForestState) (f : Facts) (b : IsBasis t ts v f) (k : ℕ) (lt : k < length v.edges) (e : Edge) (at : e ≡ numbered v.edges k) where
-  reason : (l : Label) → e.label ≡ l → IsReason f (older v.edges k) e l
-  reason l label = subst (IsReason f (older v.edges k) e) label (subst (λ (d : Edge). IsReason f (older v.edges k) d d.label) (sym at) (reason_at f v.edges b.reasons k lt))
+  reason : (l : Label) → e.label ≡ l → IsEdgeReason f (older v.edges k) e l
+  reason l label = subst (IsEdgeReason f (older v.edges k) e) label (subst (λ (d : Edge). IsEdgeReason f (older v.edges k) d d.label) (sym at) (reason_at f v.edges b.reasons k lt))
 
   -- a label by arguments names the ends
   pub by_arguments : (x y : TermId) → e.label ≡ Arguments x y → IsByArguments v.edges k
@@ -100,7 +100,7 @@ module _ (t : TableView) (ts : Truths) (v : ForestState) (f : Facts) (b : IsBasi
       ap (λ z. z.label) (sym at) ∙ label ∙ (λ i. Arguments (r.0 i) (r.1 i)) ∙ (λ i. Arguments (at i).a (at i).b)
 
   -- a held label is one of an atom
-  pub held_decided : (l : Lit) → e.label ≡ Held l → IsDecided (terms_listed t f) t ts l
+  pub held_decided : (l : Lit) → e.label ≡ Held l → IsAtomLiteral (terms_listed t f) t ts l
   held_decided l label = record { atom = held_atom t ts v f b l (reason (Held l) label).0; made = held_made t ts v f b l (reason (Held l) label).0; truths = truths_in t ts v f b }
 
   -- and says itself only as it stands
@@ -110,17 +110,17 @@ module _ (t : TableView) (ts : Truths) (v : ForestState) (f : Facts) (b : IsBasi
       same : truth_of f.truths l.positive ≡ truth_of ts l.positive
       same = ap (λ (us : Truths). truth_of us l.positive) b.truths
 
-      stated : (x y : TermId) → joins x y l.term (truth_of ts l.positive) ≡ false → States f l x y → l.positive ≡ true
+      stated : (x y : TermId) → joins x y l.term (truth_of ts l.positive) ≡ false → StatesEqual f l x y → l.positive ≡ true
       stated _ _ not_so decides = absurd (true≢false (sym (same_joins l.term (truth_of ts l.positive)) ∙ (λ i. joins l.term (sym same i) l.term (truth_of ts l.positive)) ∙ not_so))
       stated x y not_so (equates _ _ positive q) = positive
 
-      go : States f l e.a e.b ⊎ States f l e.b e.a → l.positive ≡ true
+      go : StatesEqual f l e.a e.b ⊎ StatesEqual f l e.b e.a → l.positive ≡ true
       go (inl h) = stated e.a e.b off h
       go (inr h) = stated e.b e.a (joins_turned e.b e.a l.term (truth_of ts l.positive) ∙ off) h
 
 -- what is needed is derived, from the oldest edge on
-pub all_derived : (s : Setting) (n : Notes) (steps : List (List Literal)) (assumed : List Literal) → IsWithin n.steps steps → IsWithin (all_denied s.table n.stated) assumed
-    → ((j : ℕ) → j < length s.edges → IsNeeded n.needed j → Shows s j n (said_by s j)) → (k : ℕ) → k ≤ length s.edges → (i : ℕ) → i < k → IsNeeded n.needed i → Propagates complement steps assumed (said_by s i)
+pub all_derived : (s : ExplanationSetting) (n : Notes) (steps : List (List Literal)) (assumed : List Literal) → IsWithin n.steps steps → IsWithin (all_denied s.table n.stated) assumed
+    → ((j : ℕ) → j < length s.edges → IsNeeded n.needed j → ShowsLiteral s j n (said_by s j)) → (k : ℕ) → k ≤ length s.edges → (i : ℕ) → i < k → IsNeeded n.needed i → Propagates complement steps assumed (said_by s i)
 all_derived s n steps assumed sw aw each zero le i h need = absurd (omega (arith, h))
 all_derived s n steps assumed sw aw each (suc k) le i h need = go (all_derived s n steps assumed sw aw each k (omega arith)) (cases_eq i k)
   where
@@ -129,12 +129,12 @@ all_derived s n steps assumed sw aw each (suc k) le i h need = go (all_derived s
     go ih (inr d) = ih i (omega arith) need
 
 -- the loop begins, and ends
-pub going_start : (s : Setting) (old new : Notes) (x y : TermId) → length old.needed ≡ length s.edges → new.stated ≡ [] → Linked s.edges x.0 y.0 → TellsPair s old new x y → Going s (length s.edges) (literal_claimed s.table (Equality x y)) new
+pub going_start : (s : ExplanationSetting) (old new : Notes) (x y : TermId) → length old.needed ≡ length s.edges → new.stated ≡ [] → Linked s.edges x.0 y.0 → TellsPair s old new x y → Going s (length s.edges) (literal_claimed s.table (Equality x y)) new
 going_start s old new x y count empty linked told =
     let h = told (length s.edges) (omega arith) (subst (λ (es : List Edge). Linked es x.0 y.0) (sym (older-all s.edges (length s.edges) (omega arith))) linked) in
     record { count = h.0.count ∙ count; explained = λ j low high n. absurd (omega arith); shown = h.1; held = subst (All (IsDenial s)) (sym empty) (All-nil (IsDenial s)) }
 
-pub going_ends : (s : Setting) (n : Notes) (x y : TermId) (stated : List Said) → n.stated ≡ stated → Going s 0 (literal_claimed s.table (Equality x y)) n → IsCollected s n.steps x y stated
+pub going_ends : (s : ExplanationSetting) (n : Notes) (x y : TermId) (stated : List Said) → n.stated ≡ stated → Going s 0 (literal_claimed s.table (Equality x y)) n → IsCollected s n.steps x y stated
 going_ends s n x y stated is g = record {
   shown = g.shown n.steps (all_denied s.table stated) (λ c i. i) (λ m i. subst (λ zs. Contains (all_denied s.table zs) m) is i)
       (all_derived s n n.steps (all_denied s.table stated) (λ c i. i) (λ m i. subst (λ zs. Contains (all_denied s.table zs) m) is i) (λ j lt need. g.explained j (omega arith) lt need) (length s.edges) (omega arith));

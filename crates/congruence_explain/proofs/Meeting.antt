@@ -11,7 +11,7 @@ use Rattle.spec_sorts.specs.Terms.{Head, Term, terms_of, list_of, of}
 use Rattle.spec_sorts.specs.Literals.{Literal}
 use Rattle.spec_sorts.specs.Subsets.{arguments_of}
 use Rattle.spec_sorts.proofs.General.{list_of-terms_of}
-use Rattle.spec_equality.specs.Reasons.{equal as equal_terms, denied as term_denied, AreJoined, AreCongruent}
+use Rattle.spec_equality.specs.Reasons.{equal as equal_terms, denied as term_denied, AreJoined, HaveJoinedArguments}
 use Rattle.spec_rules.specs.Rules.{IsRight}
 use Rattle.term_core.specs.declared.ids.TermId.{TermId}
 use Rattle.term_core.specs.Tables.{TableView, term_at, IsIn, AreIn, clause_at, head_meant, AreDifferent, Extends}
@@ -21,13 +21,13 @@ use Rattle.explain_forest.specs.Forest.{ForestState, root, numbered, older}
 use Rattle.explain_forest.proofs.Linking.{older-linked}
 use Rattle.congruence_relation.specs.declared.Truths.{Truths}
 use Rattle.congruence_relation.specs.Relation.{Application, Facts, terms_listed}
-use Rattle.congruence_relation.specs.Edges.{roots, Meet, IsReason}
+use Rattle.congruence_relation.specs.Edges.{roots, Meet, IsEdgeReason}
 use Rattle.congruence_explain.specs.declared.claims.Claim.TheVariants.{Equality}
 use Rattle.congruence_explain.specs.declared.claims.Said.{Said}
 use Rattle.congruence_explain.specs.Rules.{arguments_rule}
-use Rattle.congruence_explain.specs.Claims.{no_term_id, term_said, literal_said, literal_claimed, IsClaimOf, equal, unequal, says, edge_says, all_unequal}
+use Rattle.congruence_explain.specs.Claims.{no_term_id, term_said, literal_said, literal_claimed, IsClaimOf, equality_claim, unequal, says, edge_says, all_unequal}
 use Rattle.congruence_explain.specs.Basis.{IsBasis, AreLinkedOr, IsByArguments}
-use Rattle.congruence_explain.specs.Steps.{setting, Notes, Shows, TellsPairs, TellsEdge}
+use Rattle.congruence_explain.specs.Steps.{setting, Notes, ShowsLiteral, TellsPairs, TellsEdge}
 use Rattle.congruence_explain.proofs.Shown.{grows_both, grows_steps, shows_each, shows_last}
 use Rattle.congruence_explain.proofs.Facts.{reason_at, listed_term, listed_is, listed_fits, argument_term, argument_made, edge_in}
 use Rattle.congruence_explain.proofs.Along.{linked_in}
@@ -77,7 +77,7 @@ joined_all t rs (x ∷ xs) (y ∷ ys) e h = go (cases_eq x.0 y.0) (joined_all t 
         )
 
 -- one head before joined arguments
-congruent_of : (rs : List (Option Term)) (h g : Head) (ts us : List Term) → h ≡ g → ts ≢ [] → AreJoined rs ts us → AreCongruent rs (of h ts) (of g us)
+congruent_of : (rs : List (Option Term)) (h g : Head) (ts us : List Term) → h ≡ g → ts ≢ [] → AreJoined rs ts us → HaveJoinedArguments rs (of h ts) (of g us)
 congruent_of rs h g ts us same some joined = (
   same,
   λ e. some (sym (list_of-terms_of ts) ∙ e),
@@ -87,7 +87,7 @@ congruent_of rs h g ts us same some joined = (
 module _ (t : TableView) (ts : Truths) (v : ForestState) (f : Facts) (b : IsBasis t ts v f) (k : ℕ) (lt : k < length v.edges) (label : IsByArguments v.edges k) where
   -- the terms of the edge
   pub meet_at : Meet f (older v.edges k) (numbered v.edges k).a (numbered v.edges k).b
-  meet_at = (subst (IsReason f (older v.edges k) (numbered v.edges k)) label (reason_at f v.edges b.reasons k lt)).2
+  meet_at = (subst (IsEdgeReason f (older v.edges k) (numbered v.edges k)) label (reason_at f v.edges b.reasons k lt)).2
 
   pub ends_in : (a c : TermId) → a ≡ (numbered v.edges k).a → c ≡ (numbered v.edges k).b → (u : TableView) → Extends t u → IsIn u a × IsIn u c
   ends_in a c a_is c_is u more = (
@@ -136,11 +136,11 @@ module _ (t : TableView) (ts : Truths) (v : ForestState) (f : Facts) (b : IsBasi
       says_equal = ap (λ l. says ts l (numbered v.edges k).a (numbered v.edges k).b) label ∙ (λ i. Equality (sym a_is i) (sym c_is i))
 
       abbrev pub arguments_clause : List Said
-      arguments_clause = all_unequal xs ys ++ equal a c ∷ []
+      arguments_clause = all_unequal xs ys ++ equality_claim a c ∷ []
 
       -- the clause can be put
       pub arguments_in : All (λ s. IsClaimOf (terms_listed t f) t s.claim) arguments_clause
-      arguments_in = All-push (λ (s : Said). IsClaimOf (terms_listed t f) t s.claim) (all_unequal xs ys) (equal a c)
+      arguments_in = All-push (λ (s : Said). IsClaimOf (terms_listed t f) t s.claim) (all_unequal xs ys) (equality_claim a c)
           (unequal_all_in (terms_listed t f) t xs ys (λ i h d. apart i d (each_linked i h)))
           (subst (IsClaimOf (terms_listed t f) t) says_equal (edge_in t ts v f b k lt))
         where
@@ -162,7 +162,7 @@ module _ (t : TableView) (ts : Truths) (v : ForestState) (f : Facts) (b : IsBasi
       arguments_right = go xs ys as_many a_term c_term
         where
           go : (xs ys : List TermId) → length xs ≡ length ys → term_at t a ≡ of (head_meant t meet_at.one.shape.head) (clause_at t xs) → term_at t c ≡ of (head_meant t meet_at.other.shape.head) (clause_at t ys)
-              → IsRight (arguments_rule xs) [] none (map (term_said t) (all_unequal xs ys ++ equal a c ∷ []))
+              → IsRight (arguments_rule xs) [] none (map (term_said t) (all_unequal xs ys ++ equality_claim a c ∷ []))
           go [] ys many p q = (term_at t a, λ i. equal_terms (term_at t a) (same i))
             where
               same : term_at t c ≡ term_at t a
@@ -172,8 +172,8 @@ module _ (t : TableView) (ts : Truths) (v : ForestState) (f : Facts) (b : IsBasi
                   empty [] e = refl
                   empty (y ∷ ys) e = absurd (omega (arith, e))
           go (x ∷ xs) ys many p q = (
-            record { literals = map (term_said t) (all_unequal (x ∷ xs) ys); one = term_at t a; other = term_at t c; same = map-append (term_said t) (all_unequal (x ∷ xs) ys) (equal a c ∷ []) },
-            subst (λ z. AreCongruent reasons z (term_at t c)) (sym p) (subst (AreCongruent reasons (of (head_meant t meet_at.one.shape.head) (clause_at t (x ∷ xs)))) (sym q)
+            record { literals = map (term_said t) (all_unequal (x ∷ xs) ys); one = term_at t a; other = term_at t c; same = map-append (term_said t) (all_unequal (x ∷ xs) ys) (equality_claim a c ∷ []) },
+            subst (λ z. HaveJoinedArguments reasons z (term_at t c)) (sym p) (subst (HaveJoinedArguments reasons (of (head_meant t meet_at.one.shape.head) (clause_at t (x ∷ xs)))) (sym q)
                 (congruent_of reasons (head_meant t meet_at.one.shape.head) (head_meant t meet_at.other.shape.head) (clause_at t (x ∷ xs)) (clause_at t ys) heads_same (λ e. cc)
                 (joined_all t reasons (x ∷ xs) ys many (λ m i. to_image term_denied (map (term_said t) (all_unequal (x ∷ xs) ys)) (term_said t m) (to_image (term_said t) (all_unequal (x ∷ xs) ys) m i))))),
           )
@@ -194,7 +194,7 @@ module _ (t : TableView) (ts : Truths) (v : ForestState) (f : Facts) (b : IsBasi
           let pairs = told k (omega arith) roots_linked in
           let more = grows_steps k after mid steps_after (map (literal_said t) arguments_clause ∷ []) [] is in (
             grows_both k old one new pairs.0 more,
-            subst (λ z. Shows s k new (literal_claimed t z)) (sym says_equal)
-                (shows_last s k new (all_unequal xs ys) (equal a c) (subst (λ zs. Contains zs (map (literal_said t) arguments_clause)) (sym is) (Contains-push mid (map (literal_said t) arguments_clause)))
+            subst (λ z. ShowsLiteral s k new (literal_claimed t z)) (sym says_equal)
+                (shows_last s k new (all_unequal xs ys) (equality_claim a c) (subst (λ zs. Contains zs (map (literal_said t) arguments_clause)) (sym is) (Contains-push mid (map (literal_said t) arguments_clause)))
                 (shows_each s k k one new more (all_unequal xs ys) pairs.1)),
           )

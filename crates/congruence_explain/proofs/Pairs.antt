@@ -13,7 +13,7 @@ use Rattle.term_core.specs.Tables.{TableView}
 use Rattle.congruence_explain.specs.declared.claims.Said.{Said}
 use Rattle.congruence_explain.specs.Claims.{literal_said, unequal, all_unequal}
 use Rattle.congruence_explain.specs.Basis.{AreLinkedIn, AreLinkedOr}
-use Rattle.congruence_explain.specs.Steps.{Setting, Notes, Shows, ShowsDenied, TellsPair, TellsClause, TellsPairs}
+use Rattle.congruence_explain.specs.Steps.{ExplanationSetting, Notes, ShowsLiteral, ShowsDenied, TellsPair, TellsClause, TellsPairs}
 use Rattle.congruence_explain.proofs.Shown.{grows_none, grows_both, shows_each}
 
 -- of one term with itself nothing is denied, and of two terms that they are equal
@@ -27,14 +27,14 @@ pub linked_apart : (terms : List Term) (t : TableView) (v : ForestState) (x y : 
 linked_apart terms t v x y d (inl e) = absurd (d e)
 linked_apart terms t v x y d (inr h) = h
 
-pub same_pair : (s : Setting) (n : Notes) (x y : TermId) → x.0 ≡ y.0 → TellsPairs s n n (x ∷ []) (y ∷ [])
-same_pair s n x y e = λ k le linked. (grows_none k n, subst (ShowsDenied s k n) (sym (unequal_same x y e)) (All-nil (λ m. Shows s k n (complement (literal_said s.table m)))))
+pub same_pair : (s : ExplanationSetting) (n : Notes) (x y : TermId) → x.0 ≡ y.0 → TellsPairs s n n (x ∷ []) (y ∷ [])
+same_pair s n x y e = λ k le linked. (grows_none k n, subst (ShowsDenied s k n) (sym (unequal_same x y e)) (All-nil (λ m. ShowsLiteral s k n (complement (literal_said s.table m)))))
 
-pub one_pair : (s : Setting) (old new : Notes) (x y : TermId) → x.0 ≢ y.0 → TellsPair s old new x y → TellsPairs s old new (x ∷ []) (y ∷ [])
+pub one_pair : (s : ExplanationSetting) (old new : Notes) (x y : TermId) → x.0 ≢ y.0 → TellsPair s old new x y → TellsPairs s old new (x ∷ []) (y ∷ [])
 one_pair s old new x y d told = λ k le linked.
     let both : Linked (older s.edges k) x.0 y.0 = cc in
     let one = told k le both in
-    (one.0, subst (ShowsDenied s k new) (sym (unequal_other x y d)) (All-cons (λ m. Shows s k new (complement (literal_said s.table m))) (unequal x y) [] one.1 (All-nil (λ m. Shows s k new (complement (literal_said s.table m))))))
+    (one.0, subst (ShowsDenied s k new) (sym (unequal_other x y d)) (All-cons (λ m. ShowsLiteral s k new (complement (literal_said s.table m))) (unequal x y) [] one.1 (All-nil (λ m. ShowsLiteral s k new (complement (literal_said s.table m))))))
 
 -- linked in each place
 pub linked_at : (es : List Edge) (xs ys : List TermId) (d : TermId) → roots es xs ≡ roots es ys → (i : ℕ) → i < length xs → Linked es (get_or xs i d).0 (get_or ys i d).0
@@ -69,15 +69,15 @@ unequal_all xs ys i h clause so =
     sym (ap (λ z. clause ++ z) empty ∙ append-nil clause) ∙ so
 
 -- the first pairs, and one more
-pub pairs_none : (s : Setting) (n : Notes) (xs ys : List TermId) (clause : List Said) → clause ≡ [] → TellsClause s n n xs ys clause
-pairs_none s n xs ys clause e = λ k le linked. (grows_none k n, subst (ShowsDenied s k n) (sym e) (All-nil (λ m. Shows s k n (complement (literal_said s.table m)))))
+pub pairs_none : (s : ExplanationSetting) (n : Notes) (xs ys : List TermId) (clause : List Said) → clause ≡ [] → TellsClause s n n xs ys clause
+pairs_none s n xs ys clause e = λ k le linked. (grows_none k n, subst (ShowsDenied s k n) (sym e) (All-nil (λ m. ShowsLiteral s k n (complement (literal_said s.table m)))))
 
-pub pairs_more : (s : Setting) (a b c : Notes) (xs ys : List TermId) (i : ℕ) (d : TermId) → i < length xs → (clause after : List Said) → after ≡ clause ++ all_unequal (get_or xs i d ∷ []) (get_or ys i d ∷ [])
+pub pairs_more : (s : ExplanationSetting) (a b c : Notes) (xs ys : List TermId) (i : ℕ) (d : TermId) → i < length xs → (clause after : List Said) → after ≡ clause ++ all_unequal (get_or xs i d ∷ []) (get_or ys i d ∷ [])
     → TellsClause s a b xs ys clause → TellsPairs s b c (get_or xs i d ∷ []) (get_or ys i d ∷ []) → TellsClause s a c xs ys after
 pairs_more s a b c xs ys i d h clause after is first one = λ k le linked.
     let f = first k le linked in
     let both : roots (older s.edges k) (get_or xs i d ∷ []) ≡ roots (older s.edges k) (get_or ys i d ∷ []) = ap (λ n. n ∷ []) (linked_at (older s.edges k) xs ys d linked i h) in
     let o = one k le both in (
       grows_both k a b c f.0 o.0,
-      subst (ShowsDenied s k c) (sym is) (All-append (λ m. Shows s k c (complement (literal_said s.table m))) clause (all_unequal (get_or xs i d ∷ []) (get_or ys i d ∷ [])) (shows_each s k k b c o.0 clause f.1) o.1),
+      subst (ShowsDenied s k c) (sym is) (All-append (λ m. ShowsLiteral s k c (complement (literal_said s.table m))) clause (all_unequal (get_or xs i d ∷ []) (get_or ys i d ∷ [])) (shows_each s k k b c o.0 clause f.1) o.1),
     )

@@ -9,7 +9,7 @@ use Rattle.spec_proofs.specs.Resolution.{Derives as Propagates, given, unit, IsW
 use Rattle.term_core.specs.Tables.{TableView}
 use Rattle.congruence_explain.specs.declared.claims.Said.{Said}
 use Rattle.congruence_explain.specs.Claims.{literal_said}
-use Rattle.congruence_explain.specs.Steps.{all_denied, Setting, Notes, said_by, IsNeeded, Shows, ShowsDenied, Grows, marked}
+use Rattle.congruence_explain.specs.Steps.{all_denied, ExplanationSetting, Notes, said_by, IsNeeded, ShowsLiteral, ShowsDenied, NotesGrow, marked}
 use Rattle.congruence_explain.proofs.Marks.{length-marked, marked-kept, marked-other}
 
 -- unit propagation gives no less from more
@@ -38,10 +38,10 @@ denied_more t xs ys more l i =
     subst (Contains (all_denied t ys)) (ap complement x_is ∙ m_is) (to_image complement (map (literal_said t) ys) (literal_said t x) (to_image (literal_said t) ys x (more x x_in)))
 
 -- nothing more
-pub grows_none : (k : ℕ) (n : Notes) → Grows k n n
+pub grows_none : (k : ℕ) (n : Notes) → NotesGrow k n n
 grows_none k n = record { count = refl; kept = λ j h. h; same = λ j h. refl; steps = λ x i. i; stated = λ x i. i }
 
-pub grows_both : (k : ℕ) (a b c : Notes) → Grows k a b → Grows k b c → Grows k a c
+pub grows_both : (k : ℕ) (a b c : Notes) → NotesGrow k a b → NotesGrow k b c → NotesGrow k a c
 grows_both k a b c f g = record {
   count = g.count ∙ f.count;
   kept = λ j h. g.kept j (f.kept j h);
@@ -52,7 +52,7 @@ grows_both k a b c f g = record {
 
 -- more steps, and more that is needed
 pub grows_marked : (k : ℕ) (needed after : List Bool) (ks : List ℕ) (steps steps_after more : List (List Literal)) (stated : List Said) → after ≡ marked needed ks → All (λ i. i < k) ks → steps_after ≡ steps ++ more
-    → Grows k (record { needed = needed; steps = steps; stated = stated }) (record { needed = after; steps = steps_after; stated = stated })
+    → NotesGrow k (record { needed = needed; steps = steps; stated = stated }) (record { needed = after; steps = steps_after; stated = stated })
 grows_marked k needed after ks steps steps_after more stated marks low is = record {
   count = ap length marks ∙ length-marked needed ks;
   kept = λ j h. ap (λ l. slice_index_or l j false) marks ∙ marked-kept needed ks j h;
@@ -63,27 +63,27 @@ grows_marked k needed after ks steps steps_after more stated marks low is = reco
 
 -- more steps
 pub grows_steps : (k : ℕ) (needed : List Bool) (steps after more : List (List Literal)) (stated : List Said) → after ≡ steps ++ more
-    → Grows k (record { needed = needed; steps = steps; stated = stated }) (record { needed = needed; steps = after; stated = stated })
+    → NotesGrow k (record { needed = needed; steps = steps; stated = stated }) (record { needed = needed; steps = after; stated = stated })
 grows_steps k needed steps after more stated is = record { count = refl; kept = λ j h. h; same = λ j h. refl; steps = within_more steps after more is; stated = λ x i. i }
 
 -- with the same literals more
-pub grows_stated : (k : ℕ) (a b : Notes) (stated : List Said) → Grows k a b → Grows k (record { needed = a.needed; steps = a.steps; stated = stated }) (record { needed = b.needed; steps = b.steps; stated = stated })
+pub grows_stated : (k : ℕ) (a b : Notes) (stated : List Said) → NotesGrow k a b → NotesGrow k (record { needed = a.needed; steps = a.steps; stated = stated }) (record { needed = b.needed; steps = b.steps; stated = stated })
 grows_stated k a b stated g = record { count = g.count; kept = g.kept; same = g.same; steps = g.steps; stated = λ x i. i }
 
-module _ (s : Setting) where
+module _ (s : ExplanationSetting) where
   -- what is shown stays so
-  pub shows_more : (j k : ℕ) (old new : Notes) → Grows k old new → (g : Literal) → Shows s j old g → Shows s j new g
+  pub shows_more : (j k : ℕ) (old new : Notes) → NotesGrow k old new → (g : Literal) → ShowsLiteral s j old g → ShowsLiteral s j new g
   shows_more j k old new grows g h = λ steps assumed sw aw ih. h steps assumed (λ x i. sw x (grows.steps x i)) (λ x i. aw x (denied_more s.table old.stated new.stated grows.stated x i)) (λ i lt need. ih i lt (grows.kept i need))
 
-  pub shows_stated : (k : ℕ) (needed : List Bool) (steps : List (List Literal)) (stated : List Said) (g : Literal) → Shows s k (record { needed = needed; steps = steps; stated = [] }) g
-      → Shows s k (record { needed = needed; steps = steps; stated = stated }) g
+  pub shows_stated : (k : ℕ) (needed : List Bool) (steps : List (List Literal)) (stated : List Said) (g : Literal) → ShowsLiteral s k (record { needed = needed; steps = steps; stated = [] }) g
+      → ShowsLiteral s k (record { needed = needed; steps = steps; stated = stated }) g
   shows_stated k needed steps stated g h = λ more assumed sw aw ih. h more assumed sw (λ x i. absurd (none x i)) ih
 
-  pub shows_each : (j k : ℕ) (old new : Notes) → Grows k old new → (clause : List Said) → ShowsDenied s j old clause → ShowsDenied s j new clause
+  pub shows_each : (j k : ℕ) (old new : Notes) → NotesGrow k old new → (clause : List Said) → ShowsDenied s j old clause → ShowsDenied s j new clause
   shows_each j k old new grows clause h = λ i d lt. shows_more j k old new grows (complement (literal_said s.table (get_or clause i d))) (h i d lt)
 
   -- the last literal of a clause of which what the others deny is shown
-  pub shows_last : (k : ℕ) (n : Notes) (clause : List Said) (goal : Said) → Contains n.steps (map (literal_said s.table) (clause ++ goal ∷ [])) → ShowsDenied s k n clause → Shows s k n (literal_said s.table goal)
+  pub shows_last : (k : ℕ) (n : Notes) (clause : List Said) (goal : Said) → Contains n.steps (map (literal_said s.table) (clause ++ goal ∷ [])) → ShowsDenied s k n clause → ShowsLiteral s k n (literal_said s.table goal)
   shows_last k n clause goal there each = λ steps assumed sw aw ih.
       by_clause steps assumed (map (literal_said s.table) clause ++ literal_said s.table goal ∷ []) (literal_said s.table goal)
       (sw _ (subst (Contains n.steps) (map-append (literal_said s.table) clause (goal ∷ [])) there))
@@ -97,4 +97,4 @@ module _ (s : Setting) where
       go steps assumed sw aw ih m (inl i) =
           let (x, x_in, x_is) = from_image (literal_said s.table) clause m i in
           inr (subst (λ l. Propagates complement steps assumed (complement l)) x_is
-          (All-contains (λ y. Shows s k n (complement (literal_said s.table y))) clause x each x_in steps assumed sw aw ih))
+          (All-contains (λ y. ShowsLiteral s k n (complement (literal_said s.table y))) clause x each x_in steps assumed sw aw ih))

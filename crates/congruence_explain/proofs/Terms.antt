@@ -7,7 +7,7 @@ use Rattle.spec_sorts.specs.WellSorted.{IsWellSorted, IsFormulaOver}
 use Rattle.spec_sorts.proofs.WellSorted.{before, same_sort_itself}
 use Rattle.spec_sorts.specs.Literals.{literal_of, literals_of, complement}
 use Rattle.spec_equality.specs.Reasons.{equal}
-use Rattle.spec_rules.specs.Schemes.{signed}
+use Rattle.spec_rules.specs.Schemes.{signed_term}
 use Rattle.spec_derivations.specs.Lemmas.{IsMadeOf, is_negation}
 use Rattle.world_io.specs.declared.bytes.NoMemory.{NoMemory}
 use Rattle.term_core.specs.declared.ids.TermId.{TermId}
@@ -45,7 +45,7 @@ claims_in terms t clause h k d lt = (h k d lt).0
 pub said_made : (terms : List Term) (t : TableView) (s : Said) → IsClaimOf terms t s.claim → IsMadeOf terms (term_said t s)
 said_made terms t s h = go s.positive
   where
-    go : (p : Bool) → IsMadeOf terms (signed p (term_claimed t s.claim))
+    go : (p : Bool) → IsMadeOf terms (signed_term p (term_claimed t s.claim))
     go true = h.1
     go false = is_negation (term_claimed t s.claim) h.1
 
@@ -64,7 +64,7 @@ module _ (t u : TableView) (wider : Widens t u) where
   claim_kept (Atom a) h = (formula_kept t u wider a h.0, subst (λ (x : Term). literal_of x ≡ positive_literal x) (sym (term_at-kept t u wider.terms a h.0.0)) h.1)
 
   pub said_same : (s : Said) → IsClaimIn t s.claim → term_said u s ≡ term_said t s
-  said_same s h = ap (signed s.positive) (claim_same s.claim h)
+  said_same s h = ap (signed_term s.positive) (claim_same s.claim h)
 
   pub clause_same : (clause : List Said) → All (λ s. IsClaimIn t s.claim) clause → map (term_said u) clause ≡ map (term_said t) clause
   clause_same [] h = refl
@@ -88,7 +88,7 @@ module _ (t u : TableView) (wider : Widens t u) where
 
   -- a negation
   pub negation_put : (id : TermId) (node : Node) → node.head ≡ heads.Not → node.arguments.items ≡ id ∷ [] → IsFormulaIn t id
-      → (r : Result TermId NoMemory) → IfOk r (λ n. IsIn u n × (term_at u n ≡ node_term t node)) → IfOk r (λ n. IsFormulaIn u n × (term_at u n ≡ signed false (term_at t id)))
+      → (r : Result TermId NoMemory) → IfOk r (λ n. IsIn u n × (term_at u n ≡ node_term t node)) → IfOk r (λ n. IsFormulaIn u n × (term_at u n ≡ signed_term false (term_at t id)))
   negation_put id node head arguments h (Ok n) put =
       let shape : node_term t node ≡ negated (term_at t id) = λ i. shape_term t (record { head = head i; arguments = arguments i }) in
       let is = put.1 ∙ shape in
@@ -104,7 +104,7 @@ literal_put t s h = go s.claim s.positive h
     claim_literal (Equality a b) h = refl
     claim_literal (Atom a) h = h.1
 
-    go : (c : Claim) (p : Bool) → IsClaimIn t c → literal_of (signed p (term_claimed t c)) ≡ record { atom = term_claimed t c; positive = p }
+    go : (c : Claim) (p : Bool) → IsClaimIn t c → literal_of (signed_term p (term_claimed t c)) ≡ record { atom = term_claimed t c; positive = p }
     go c true h = claim_literal c h
     go c false h = literal_of-negated (term_claimed t c) ∙ ap complement (claim_literal c h)
 

@@ -11,8 +11,8 @@ use Rattle.explain_forest.specs.declared.types.Edge.{Edge}
 use Rattle.explain_forest.specs.declared.types.Label.TheVariants.{Arguments}
 use Rattle.explain_forest.specs.Forest.{ForestState, Linked, numbered}
 use Rattle.congruence_relation.specs.declared.Truths.{Truths}
-use Rattle.congruence_relation.specs.Relation.{Facts, AreOf, terms_listed}
-use Rattle.congruence_relation.specs.Edges.{AreReasons}
+use Rattle.congruence_relation.specs.Relation.{Facts, AreFactsOf, terms_listed}
+use Rattle.congruence_relation.specs.Edges.{EdgesHaveReasons}
 use Rattle.proof_log.specs.Theories.{IsTermIn, IsAtomIn}
 
 -- The edges of a forest stand for facts, over terms of a table.
@@ -20,7 +20,7 @@ pub record IsBasis (t : TableView) (ts : Truths) (v : ForestState) (f : Facts) :
   -- the terms of the truth values
   pub truths : f.truths ≡ ts
   -- what is listed are terms of the table
-  pub facts : AreOf t f
+  pub facts : AreFactsOf t f
   -- and over its symbols
   pub terms : All (λ x. IsTermIn t x.term) f.listed
   -- with each its arguments
@@ -28,7 +28,7 @@ pub record IsBasis (t : TableView) (ts : Truths) (v : ForestState) (f : Facts) :
   -- the terms of held literals are formulas that are no negations
   pub atoms : All (λ (l : Lit). IsAtomIn t l.term) f.held
   -- each edge has a reason
-  pub reasons : AreReasons f v.edges
+  pub reasons : EdgesHaveReasons f v.edges
   -- the arguments of what is listed are terms of the forest
   pub arguments : All (λ x. All (λ (a : TermId). a.0 < v.terms) x.shape.arguments) f.listed
   -- and so are the ends of edges
@@ -90,7 +90,7 @@ pub record AreTruths (t : TableView) (ts : Truths) : Type 0 where
   pub false_is : term_at t ts.false_term ≡ of False []
 
 -- A literal of an atom, made of some terms, where there are `true` and `false`.
-pub record IsDecided (terms : List Term) (t : TableView) (ts : Truths) (l : Lit) : Type 0 where
+pub record IsAtomLiteral (terms : List Term) (t : TableView) (ts : Truths) (l : Lit) : Type 0 where
   -- the atom
   pub atom : IsAtomIn t l.term
   -- it is made of these

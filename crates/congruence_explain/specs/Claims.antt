@@ -3,7 +3,7 @@ use Rattle.std.specs.Prelude.{◌≡◌, ◌==◌, ◌&&◌, ◌||◌, Bool, tru
 use Rattle.spec_sorts.specs.Terms.{Term, sort_of}
 use Rattle.spec_sorts.specs.Literals.{Literal}
 use Rattle.spec_equality.specs.Reasons.{equal as equal_terms}
-use Rattle.spec_rules.specs.Schemes.{signed}
+use Rattle.spec_rules.specs.Schemes.{signed_term}
 use Rattle.spec_derivations.specs.Lemmas.{IsMadeOf}
 use Rattle.term_core.specs.declared.ids.TermId.{TermId}
 use Rattle.term_core.specs.declared.ids.Lit.{Lit}
@@ -31,7 +31,7 @@ term_claimed t (Atom a) = term_at t a
 
 -- the term of a literal
 abbrev pub term_said : TableView → Said → Term
-term_said t s = signed s.positive (term_claimed t s.claim)
+term_said t s = signed_term s.positive (term_claimed t s.claim)
 
 -- the literal that it is
 abbrev pub literal_said : TableView → Said → Literal
@@ -51,12 +51,12 @@ abbrev pub IsClaimOf : List Term → TableView → Claim → Type 0
 IsClaimOf terms t c = IsClaimIn t c × IsMadeOf terms (term_claimed t c)
 
 -- a formula of the table is this term
-abbrev pub IsPut : TableView → Term → TermId → Type 0
-IsPut t u id = IsFormulaIn t id × (term_at t id ≡ u)
+abbrev pub IsClaimPut : TableView → Term → TermId → Type 0
+IsClaimPut t u id = IsFormulaIn t id × (term_at t id ≡ u)
 
--- that two terms are equal
-abbrev pub equal : TermId → TermId → Said
-equal a b = record { claim = Equality a b; positive = true }
+-- that two terms are equality_claim
+abbrev pub equality_claim : TermId → TermId → Said
+equality_claim a b = record { claim = Equality a b; positive = true }
 
 -- that two terms are not
 abbrev pub unequal : TermId → TermId → Said
@@ -83,7 +83,7 @@ pub record IsOneEquality (t : TableView) (clause : List Said) (x y : TermId) : T
   -- its formula
   pub formula : term_claimed t one.claim ≡ equal_terms (term_at t x) (term_at t y)
 
--- What an edge between two terms says by its label, in either direction. By arguments it says that its terms are equal. A held literal says
+-- What an edge between two terms says by its label, in either direction. By arguments it says that its terms are equality_claim. A held literal says
 -- so of its term and its truth value, where the edge is between these; else it says itself.
 abbrev pub says : Truths → Label → TermId → TermId → Claim
 says ts (Arguments x y) a b = Equality x y
@@ -97,7 +97,7 @@ edge_says ts e = says ts e.label e.a e.b
 abbrev pub denied_step : Truths → Step → Said
 denied_step ts s = record { claim = says ts s.label s.from s.to; positive = false }
 
--- each two terms in one place that differ are not equal
+-- each two terms in one place that differ are not equality_claim
 abbrev pub all_unequal : List TermId → List TermId → List Said
 all_unequal (x ∷ xs) (y ∷ ys) = if x.0 == y.0 then all_unequal xs ys else unequal x y ∷ all_unequal xs ys
 all_unequal _ _ = []

@@ -18,10 +18,10 @@ use Rattle.congruence_relation.specs.Edges.{roots}
 use Rattle.proof_log.specs.declared.premises.StepId.{StepId}
 use Rattle.proof_log.specs.Logs.{Logged, named, logged_at}
 use Rattle.proof_log.specs.Clashes.{literals_in}
-use Rattle.proof_log.specs.Theories.{Derived, Derives}
+use Rattle.proof_log.specs.Theories.{Derived, DerivesLemmas}
 use Rattle.congruence_explain.specs.declared.claims.Claim.TheVariants.{Equality}
 use Rattle.congruence_explain.specs.declared.claims.Said.{Said}
-use Rattle.congruence_explain.specs.Claims.{literal_said, literal_claimed, equal, unequal, denied, said_value, edge_says, all_unequal}
+use Rattle.congruence_explain.specs.Claims.{literal_said, literal_claimed, equality_claim, unequal, denied, said_value, edge_says, all_unequal}
 
 -- a table with a log
 abbrev pub derived : TableView → List Logged → Derived
@@ -46,7 +46,7 @@ spoken start = terms_listed start.table start.facts
 
 -- what came since the start are lemmas
 abbrev pub Explains : Start → Derived → Type 0
-Explains start now = Derives (spoken start) (begun start) now
+Explains start now = DerivesLemmas (spoken start) (begun start) now
 
 -- the literals of a logged clause
 abbrev pub literals_logged : TableView → Logged → List Literal
@@ -66,7 +66,7 @@ pub record HasPut (start : Start) (old new : Derived) (clause : List Literal) (i
   pub last : steps_since start new ≡ steps_since start old ++ clause ∷ []
 
 -- What does not change during an explanation: the terms as they were, the terms of the truth values, and the edges, newest first.
-pub record Setting : Type 0 where
+pub record ExplanationSetting : Type 0 where
   -- the table
   pub table : TableView
   -- `true` and `false`
@@ -75,7 +75,7 @@ pub record Setting : Type 0 where
   pub edges : List Edge
 
 -- the setting of a forest
-abbrev pub setting : TableView → Truths → ForestState → Setting
+abbrev pub setting : TableView → Truths → ForestState → ExplanationSetting
 setting t ts v = record { table = t; truths = ts; edges = v.edges }
 
 -- What is done of an explanation: which edges are needed, the clauses that were logged, and the literals of the last clause.
@@ -92,7 +92,7 @@ abbrev pub notes : Start → Derived → List Bool → List Said → Notes
 notes start now needed stated = record { needed = needed; steps = steps_since start now; stated = stated }
 
 -- what the edge of a number says
-abbrev pub said_by : Setting → ℕ → Literal
+abbrev pub said_by : ExplanationSetting → ℕ → Literal
 said_by s k = literal_claimed s.table (edge_says s.truths (numbered s.edges k))
 
 -- the edge of a number is needed
@@ -104,12 +104,12 @@ abbrev pub all_denied : TableView → List Said → List Literal
 all_denied t stated = map complement (map (literal_said t) stated)
 
 -- A literal is derived once what the needed ones of the k oldest edges say is, from all steps that are logged, where the last clause is denied.
-abbrev pub Shows : Setting → ℕ → Notes → Literal → Type 0
-Shows s k n goal = (steps : List (List Literal)) (assumed : List Literal) → IsWithin n.steps steps → IsWithin (all_denied s.table n.stated) assumed
+abbrev pub ShowsLiteral : ExplanationSetting → ℕ → Notes → Literal → Type 0
+ShowsLiteral s k n goal = (steps : List (List Literal)) (assumed : List Literal) → IsWithin n.steps steps → IsWithin (all_denied s.table n.stated) assumed
     → ((i : ℕ) → i < k → IsNeeded n.needed i → Propagates complement steps assumed (said_by s i)) → Propagates complement steps assumed goal
 
 -- More of the k oldest edges is needed, and more is logged and stated.
-pub record Grows (k : ℕ) (old new : Notes) : Type 0 where
+pub record NotesGrow (k : ℕ) (old new : Notes) : Type 0 where
   -- there are as many marks
   pub count : length new.needed ≡ length old.needed
   -- what was needed is
@@ -130,35 +130,35 @@ marked needed (k ∷ ks) = marked (slice_set needed k true) ks
 abbrev pub edges_on : List Step → List ℕ
 edges_on path = map (λ (s : Step). s.edge) path
 
--- that two terms are equal is shown, whichever of the oldest edges link them
-abbrev pub TellsPair : Setting → Notes → Notes → TermId → TermId → Type 0
+-- that two terms are equality_claim is shown, whichever of the oldest edges link them
+abbrev pub TellsPair : ExplanationSetting → Notes → Notes → TermId → TermId → Type 0
 TellsPair s old new x y = (k : ℕ) → k ≤ length s.edges → Linked (older s.edges k) x.0 y.0
-    → Grows k old new × Shows s k new (literal_claimed s.table (Equality x y))
+    → NotesGrow k old new × ShowsLiteral s k new (literal_claimed s.table (Equality x y))
 
 -- what a clause denies is shown
-abbrev pub ShowsDenied : Setting → ℕ → Notes → List Said → Type 0
-ShowsDenied s k n clause = All (λ m. Shows s k n (complement (literal_said s.table m))) clause
+abbrev pub ShowsDenied : ExplanationSetting → ℕ → Notes → List Said → Type 0
+ShowsDenied s k n clause = All (λ m. ShowsLiteral s k n (complement (literal_said s.table m))) clause
 
 -- what a clause denies of terms that are linked to others, one by one, is shown, whichever of the oldest edges link them
-abbrev pub TellsClause : Setting → Notes → Notes → List TermId → List TermId → List Said → Type 0
-TellsClause s old new xs ys clause = (k : ℕ) → k ≤ length s.edges → roots (older s.edges k) xs ≡ roots (older s.edges k) ys → Grows k old new × ShowsDenied s k new clause
+abbrev pub TellsClause : ExplanationSetting → Notes → Notes → List TermId → List TermId → List Said → Type 0
+TellsClause s old new xs ys clause = (k : ℕ) → k ≤ length s.edges → roots (older s.edges k) xs ≡ roots (older s.edges k) ys → NotesGrow k old new × ShowsDenied s k new clause
 
 -- so it is of all that differ
-abbrev pub TellsPairs : Setting → Notes → Notes → List TermId → List TermId → Type 0
+abbrev pub TellsPairs : ExplanationSetting → Notes → Notes → List TermId → List TermId → Type 0
 TellsPairs s old new xs ys = TellsClause s old new xs ys (all_unequal xs ys)
 
 -- what the edge of a number says is shown
-abbrev pub TellsEdge : Setting → ℕ → Notes → Notes → Type 0
-TellsEdge s k old new = Grows k old new × Shows s k new (said_by s k)
+abbrev pub TellsEdge : ExplanationSetting → ℕ → Notes → Notes → Type 0
+TellsEdge s k old new = NotesGrow k old new × ShowsLiteral s k new (said_by s k)
 
--- the clauses by which a literal's term is equal to its truth value: the truth value, and that the term has it
+-- the clauses by which a literal's term is equality_claim to its truth value: the truth value, and that the term has it
 abbrev pub decision : TableView → Truths → Lit → List (List Literal)
 decision t ts l =
     (literal_said t (said_value (truth_of ts l.positive) l.positive) ∷ [])
-    ∷ (literal_said t (equal l.term (truth_of ts l.positive)) ∷ literal_said t (denied l) ∷ literal_said t (said_value (truth_of ts l.positive) (not l.positive)) ∷ [])
+    ∷ (literal_said t (equality_claim l.term (truth_of ts l.positive)) ∷ literal_said t (denied l) ∷ literal_said t (said_value (truth_of ts l.positive) (not l.positive)) ∷ [])
     ∷ []
 
--- the clauses by which `true` and `false` are not equal
+-- the clauses by which `true` and `false` are not equality_claim
 abbrev pub apart : TableView → Truths → List (List Literal)
 apart t ts =
     (literal_said t (unequal ts.true_term ts.false_term) ∷ literal_said t (said_value ts.true_term false) ∷ literal_said t (said_value ts.false_term true) ∷ [])
@@ -167,33 +167,33 @@ apart t ts =
     ∷ []
 
 -- a literal of the last clause denies a literal that is the label of an edge
-abbrev pub IsDenial : Setting → Said → Type 0
+abbrev pub IsDenial : ExplanationSetting → Said → Type 0
 IsDenial s m = (l : Lit) × (k : ℕ) × (k < length s.edges) × ((numbered s.edges k).label ≡ Held l) × (m ≡ denied l)
 
 -- What is so once all edges but the k oldest are explained.
-pub record Going (s : Setting) (k : ℕ) (goal : Literal) (n : Notes) : Type 0 where
+pub record Going (s : ExplanationSetting) (k : ℕ) (goal : Literal) (n : Notes) : Type 0 where
   -- there is a mark for each edge
   pub count : length n.needed ≡ length s.edges
   -- what a needed newer edge says is shown by those before it
-  pub explained : (j : ℕ) → k ≤ j → j < length s.edges → IsNeeded n.needed j → Shows s j n (said_by s j)
+  pub explained : (j : ℕ) → k ≤ j → j < length s.edges → IsNeeded n.needed j → ShowsLiteral s j n (said_by s j)
   -- what is to be explained is shown by all
-  pub shown : Shows s (length s.edges) n goal
+  pub shown : ShowsLiteral s (length s.edges) n goal
   -- the last clause denies held literals alone
   pub held : All (IsDenial s) n.stated
 
 -- one edge more is explained
-abbrev pub GoesOn : Setting → ℕ → Notes → Notes → Type 0
+abbrev pub GoesOn : ExplanationSetting → ℕ → Notes → Notes → Type 0
 GoesOn s k old new = (goal : Literal) → Going s (k + 1) goal old → Going s k goal new
 
--- That two terms are equal is derived, where the last clause is denied, which denies held literals alone.
-pub record IsCollected (s : Setting) (steps : List (List Literal)) (x y : TermId) (stated : List Said) : Type 0 where
+-- That two terms are equality_claim is derived, where the last clause is denied, which denies held literals alone.
+pub record IsCollected (s : ExplanationSetting) (steps : List (List Literal)) (x y : TermId) (stated : List Said) : Type 0 where
   -- it is derived
   pub shown : Propagates complement steps (all_denied s.table stated) (literal_claimed s.table (Equality x y))
   -- from what is held
   pub held : All (IsDenial s) stated
 
 -- The clause of a step denies held literals, and has no others but these.
-pub record IsExplained (s : Setting) (now : Derived) (others : List Said) (id : StepId) : Type 0 where
+pub record IsExplained (s : ExplanationSetting) (now : Derived) (others : List Said) (id : StepId) : Type 0 where
   -- the step is one of the log's
   pub there : id.0 < length now.log
   -- its literals

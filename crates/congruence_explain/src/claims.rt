@@ -2,7 +2,7 @@
 
 ghost use Rattle.std.specs.Prelude.{◌≡◌};
 ghost use Rattle.congruence_relation.specs.Relation.{truth_of};
-ghost use Rattle.congruence_explain.specs.Claims.{says, equal, unequal, said_value, denied, joins};
+ghost use Rattle.congruence_explain.specs.Claims.{says, equality_claim, unequal, said_value, denied, joins};
 
 use congruence_relation::{Label, Truths};
 use term_core::{Lit, TermId};
@@ -27,7 +27,7 @@ pub(crate) struct Said {
 
 /// Says that two terms are equal.
 pub(crate) fn equality(a: TermId, b: TermId) -> Said
-    ensures { result ≡ equal a b }
+    ensures { result ≡ equality_claim a b }
 {
     Said {
         claim: Claim::Equality(a, b),

@@ -8,7 +8,7 @@ ghost use Rattle.explain_forest.specs.Forest.{numbered};
 ghost use Rattle.congruence_relation.specs.Relation.{truth_of};
 ghost use Rattle.explain_forest.specs.declared.types.Label.TheVariants.{Held};
 ghost use Rattle.congruence_explain.specs.Claims.{denied, joins};
-ghost use Rattle.congruence_explain.specs.Basis.{IsBasis, IsDecided, IsByArguments};
+ghost use Rattle.congruence_explain.specs.Basis.{IsBasis, IsAtomLiteral, IsByArguments};
 ghost use Rattle.congruence_explain.specs.Steps.{Start, derived, spoken, Explains, setting, notes, steps_since, decision, TellsEdge, GoesOn};
 
 use crate::claims::{Said, denial, equality, is_between, truth, value_said};
@@ -78,7 +78,7 @@ fn tell_decided(
 ) -> Result<(), NoMemory>
     ghost start: { Start }
     requires derives { Explains start (derived table.old log.old) }
-    requires decided { IsDecided (spoken start) start.table truths l }
+    requires decided { IsAtomLiteral (spoken start) start.table truths l }
     ensures derives { Explains start (derived table.new log.new) }
     ensures steps { OnOk result (steps_since start (derived table.new log.new)
         ≡ steps_since start (derived table.old log.old) ++ decision start.table truths l) }
@@ -109,7 +109,7 @@ fn tell_held(
 ) -> Result<(), NoMemory>
     ghost start: { Start }
     requires derives { Explains start (derived table.old log.old) }
-    requires decided { IsDecided (spoken start) start.table truths l }
+    requires decided { IsAtomLiteral (spoken start) start.table truths l }
     requires label { edge.label ≡ Held l }
     requires positive { joins edge.a edge.b l.term (truth_of truths l.positive) ≡ false → l.positive ≡ true }
     ensures derives { Explains start (derived table.new log.new) }

@@ -5,7 +5,7 @@ ghost use Rattle.congruence_relation.specs.Relation.{Facts, terms_listed};
 ghost use Rattle.congruence_relation.specs.Edges.{IsConflict};
 ghost use Rattle.proof_log.specs.Logs.{IsLogOf};
 ghost use Rattle.proof_log.specs.Clashes.{IsClash};
-ghost use Rattle.proof_log.specs.Theories.{Derives};
+ghost use Rattle.proof_log.specs.Theories.{DerivesLemmas};
 ghost use Rattle.congruence_explain.specs.Claims.{said_value};
 ghost use Rattle.congruence_explain.specs.Basis.{IsBasis, AreLinkedIn, IsEqualityIn, HasLinkedSides, AreTruths};
 ghost use Rattle.congruence_explain.specs.Steps.{Start, derived, begun, spoken, Explains, setting, steps_since, AreNumbersFrom, IsExplained, others_of, apart};
@@ -142,7 +142,7 @@ fn explained(
     requires log { IsLogOf table.old log.old }
     requires basis { IsBasis table.old truths forest.now.now facts }
     requires conflict { IsConflict facts forest.now.now.edges conflict }
-    ensures derives { Derives (terms_listed table.old facts) (derived table.old log.old) (derived table.new log.new) }
+    ensures derives { DerivesLemmas (terms_listed table.old facts) (derived table.old log.old) (derived table.new log.new) }
     ensures step { IfOk result (IsExplained (setting table.old truths forest.now.now) (derived table.new log.new)
         (others_of conflict)) }
 {
@@ -182,7 +182,7 @@ pub fn explain(
     requires basis { IsBasis table.old truths forest.now.now facts }
     requires conflict { IsConflict facts forest.now.now.edges conflict }
     ensures derives { OnOk result
-        (Derives (terms_listed table.old facts) (derived table.old log.old) (derived table.new log.new)) }
+        (DerivesLemmas (terms_listed table.old facts) (derived table.old log.old) (derived table.new log.new)) }
     ensures clash { IfOk result (IsClash table.new log.new facts.held) }
     ensures same { OnErr result ((table.new ≡ table.old) × (log.new ≡ log.old)) }
 {

@@ -3,12 +3,12 @@
 ghost use Rattle.std.specs.Prelude.{◌≡◌, ◌≤◌, [], length, map, All, IfOk};
 ghost use Rattle.spec_text.specs.Trees.{none};
 ghost use Rattle.spec_rules.specs.Rules.{IsRight};
-ghost use Rattle.spec_rules.specs.Schemes.{signed};
+ghost use Rattle.spec_rules.specs.Schemes.{signed_term};
 ghost use Rattle.spec_derivations.specs.Derivations.{by_rule, FollowsFrom};
 ghost use Rattle.term_core.specs.Tables.{term_at, clause_at};
 ghost use Rattle.proof_log.specs.Logs.{IsFormulaIn, AreFormulasIn, numbers_of, derivation_in};
 ghost use Rattle.term_clauses.specs.Stating.{Widens};
-ghost use Rattle.congruence_explain.specs.Claims.{IsClaimIn, IsClaimOf, IsPut, term_claimed, term_said, literal_said};
+ghost use Rattle.congruence_explain.specs.Claims.{IsClaimIn, IsClaimOf, IsClaimPut, term_claimed, term_said, literal_said};
 ghost use Rattle.congruence_explain.specs.Steps.{Start, derived, spoken, Explains, HasPut};
 
 use crate::claims::{Claim, Said};
@@ -21,7 +21,7 @@ use world_io::NoMemory;
 fn formula_of(alloc: Global, table: &mut TermTable, claim: Claim) -> Result<TermId, NoMemory>
     requires { IsClaimIn table.old claim }
     ensures wider { Widens table.old table.new }
-    ensures means { IfOk result (IsPut table.new (term_claimed table.old claim)) }
+    ensures means { IfOk result (IsClaimPut table.new (term_claimed table.old claim)) }
 {
     match claim {
         Claim::Atom(id) => Ok(id),
@@ -41,7 +41,7 @@ fn signed_of(
 ) -> Result<TermId, NoMemory>
     requires { IsFormulaIn table.old id }
     ensures wider { Widens table.old table.new }
-    ensures means { IfOk result (IsPut table.new (signed positive (term_at table.old id))) }
+    ensures means { IfOk result (IsClaimPut table.new (signed_term positive (term_at table.old id))) }
 {
     if positive {
         return Ok(id);
@@ -54,7 +54,7 @@ fn signed_of(
 fn term_of(alloc: Global, table: &mut TermTable, said: Said) -> Result<TermId, NoMemory>
     requires { IsClaimIn table.old said.claim }
     ensures wider { Widens table.old table.new }
-    ensures means { IfOk result (IsPut table.new (term_said table.old said)) }
+    ensures means { IfOk result (IsClaimPut table.new (term_said table.old said)) }
 {
     let formula = formula_of(alloc, table, said.claim)?;
     signed_of(alloc, table, formula, said.positive)

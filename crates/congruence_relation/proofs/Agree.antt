@@ -6,16 +6,16 @@ use Rattle.spec_text.proofs.Members.{to_image, from_image}
 use Rattle.spec_sorts.specs.Terms.{Equal, Head, Term, Terms, app, nil, cons, terms_of, of}
 use Rattle.spec_sorts.specs.Literals.{Literal as TermLiteral}
 use Rattle.spec_equality.specs.Reasons.{equal}
-use Rattle.spec_congruence.specs.Congruence.{truth_term, signed, IsRefuted as AreRefuted, IsCongruent as AreEqual, AreCongruent as AreAllEqual, equated, decided, itself as same_term, turned as turned_terms, joined as joined_terms, by_arguments as by_equal_arguments, none as no_terms, more as more_terms}
+use Rattle.spec_congruence.specs.Congruence.{truth_term, signed_literal, IsRefuted as AreRefuted, IsCongruent as AreEqual, AreCongruent as AreAllEqual, equated, decided, itself as same_term, turned as turned_terms, joined as joined_terms, by_arguments as by_equal_arguments, none as no_terms, more as more_terms}
 use Rattle.term_core.specs.declared.ids.TermId.{TermId}
 use Rattle.term_core.specs.declared.ids.Lit.{Lit}
 use Rattle.term_core.specs.declared.nodes.Head.{Head as NodeHead}
 use Rattle.term_core.specs.declared.nodes.Head.TheVariants as heads
 use Rattle.term_core.specs.Symbols.{AreDeclared}
-use Rattle.term_core.specs.Tables.{TableView, declared_in, term_at, IsIn, AreIn, clause_at, literal_at, head_meant, HasHead, Shape, shape_term, Fits, AreDifferent}
+use Rattle.term_core.specs.Tables.{TableView, declared_in, term_at, IsIn, AreIn, clause_at, literal_at, head_meant, HasHead, Shape, shape_term, ShapeFits, AreDifferent}
 use Rattle.term_core.proofs.TermsApart.{one_shape}
 use Rattle.term_core.proofs.Numbers.{same_numbers}
-use Rattle.congruence_relation.specs.Relation.{Application, Facts, truth_of, IsEquality, States, decides, equates, IsCongruent, AreCongruent, stated, itself, turned, joined, by_arguments, none, more, IsDenied, IsRefuted, AreOf, terms_listed}
+use Rattle.congruence_relation.specs.Relation.{Application, Facts, truth_of, IsEquality, StatesEqual, decides, equates, IsCongruentIn, AreCongruentIn, stated, itself, turned, joined, by_arguments, none, more, IsDenied, FactsAreRefuted, AreFactsOf, terms_listed}
 
 -- Two terms are those of numbers of a table, which are congruent.
 pub record AreNumbered (t : TableView) (f : Facts) (u v : Term) : Type 0 where
@@ -29,7 +29,7 @@ pub record AreNumbered (t : TableView) (f : Facts) (u v : Term) : Type 0 where
   pub one_is : term_at t one ≡ u
   pub other_is : term_at t other ≡ v
   -- they are congruent
-  pub congruent : IsCongruent f one other
+  pub congruent : IsCongruentIn f one other
 
 -- The equality of two terms is held with a sign, by the numbers of a table.
 pub record IsHeldEquality (t : TableView) (f : Facts) (u v : Term) (sign : Bool) : Type 0 where
@@ -85,7 +85,7 @@ are_two t [] u v there e = absurd (cc)
 are_two t (a ∷ []) u v there e = absurd (cc)
 are_two t (a ∷ b ∷ c ∷ ids) u v there e = absurd (cc)
 
-module _ (t : TableView) (f : Facts) (whole : AreOf t f) where
+module _ (t : TableView) (f : Facts) (whole : AreFactsOf t f) where
   -- what is listed, and what is held, as terms
   abbrev listed : List Term
   listed = terms_listed t f
@@ -95,7 +95,7 @@ module _ (t : TableView) (f : Facts) (whole : AreOf t f) where
 
   -- what a table says of a listed term
   abbrev IsListed : Application → Type 0
-  IsListed x = IsIn t x.term × Fits t x.shape × (shape_term t x.shape ≡ term_at t x.term)
+  IsListed x = IsIn t x.term × ShapeFits t x.shape × (shape_term t x.shape ≡ term_at t x.term)
 
   is_listed : (x : Application) → Contains f.listed x → IsListed x
   is_listed x there = All-contains IsListed f.listed x whole.terms there
@@ -106,7 +106,7 @@ module _ (t : TableView) (f : Facts) (whole : AreOf t f) where
 
   -- a held equality is held among terms
   pub equality_literal : (l : Lit) (a b : TermId) (sign : Bool) → Contains f.held l → l.positive ≡ sign → IsEquality f.listed l.term a b
-      → Contains literals (signed (equal (term_at t a) (term_at t b)) sign)
+      → Contains literals (signed_literal (equal (term_at t a) (term_at t b)) sign)
   equality_literal l a b sign there positive q = subst (Contains literals) (λ i. record { atom = equality_term l.term a b q i; positive = positive i }) (to_image (literal_at t) f.held l there)
 
   truth_is : (b : Bool) → truth_term b ≡ term_at t (truth_of f.truths b)
@@ -117,13 +117,13 @@ module _ (t : TableView) (f : Facts) (whole : AreOf t f) where
   truth_there true = whole.true_there
   truth_there false = whole.false_there
 
-  states_terms : (l : Lit) (a b : TermId) → Contains f.held l → States f l a b → AreEqual listed literals (term_at t a) (term_at t b)
+  states_terms : (l : Lit) (a b : TermId) → Contains f.held l → StatesEqual f l a b → AreEqual listed literals (term_at t a) (term_at t b)
   states_terms l _ _ there decides = subst (AreEqual listed literals (term_at t l.term)) (truth_is l.positive) (decided (literal_at t l) (to_image (literal_at t) f.held l there))
   states_terms l a b there (equates _ _ positive q) = equated (term_at t a) (term_at t b) (equality_literal l a b true there positive q)
 
   -- congruent numbers have equal terms
   mutual
-    pub terms_equal : (a b : TermId) → IsCongruent f a b → AreEqual listed literals (term_at t a) (term_at t b)
+    pub terms_equal : (a b : TermId) → IsCongruentIn f a b → AreEqual listed literals (term_at t a) (term_at t b)
     terms_equal a b (stated l _ _ there s) = states_terms l a b there s
     terms_equal a b (itself _) = same_term (term_at t a)
     terms_equal a b (turned _ _ h) = turned_terms (term_at t b) (term_at t a) (terms_equal b a h)
@@ -138,7 +138,7 @@ module _ (t : TableView) (f : Facts) (whole : AreOf t f) where
         (by_equal_arguments (head_meant t x.shape.head) (terms_of (clause_at t x.shape.arguments)) (terms_of (clause_at t y.shape.arguments))
         (subst (Contains listed) (sym x_is) here) (subst (Contains listed) (sym y_is) there) (all_equal x.shape.arguments y.shape.arguments arguments)))
 
-    pub all_equal : (xs ys : List TermId) → AreCongruent f xs ys → AreAllEqual listed literals (terms_of (clause_at t xs)) (terms_of (clause_at t ys))
+    pub all_equal : (xs ys : List TermId) → AreCongruentIn f xs ys → AreAllEqual listed literals (terms_of (clause_at t xs)) (terms_of (clause_at t ys))
     all_equal _ _ none = no_terms
     all_equal _ _ (more x y xs ys h hs) = more_terms (term_at t x) (term_at t y) (terms_of (clause_at t xs)) (terms_of (clause_at t ys)) (terms_equal x y h) (all_equal xs ys hs)
 
@@ -155,9 +155,9 @@ module _ (t : TableView) (f : Facts) (whole : AreOf t f) where
   atom_there l there = let x = atom_listed l there in subst (IsIn t) x.2 (is_listed x.0 x.1).0
 
   -- an equality that is held among terms is held by numbers
-  pub held_equality : (u v : Term) (sign : Bool) → Contains literals (signed (equal u v) sign) → IsHeldEquality t f u v sign
+  pub held_equality : (u v : Term) (sign : Bool) → Contains literals (signed_literal (equal u v) sign) → IsHeldEquality t f u v sign
   held_equality u v sign there =
-      let (l, l_there, l_is) = from_image (literal_at t) f.held (signed (equal u v) sign) there in
+      let (l, l_there, l_is) = from_image (literal_at t) f.held (signed_literal (equal u v) sign) there in
       let (x, x_there, x_is) = atom_listed l l_there in
       let w = written x Equal (terms_of (u ∷ v ∷ [])) x_there (ap (term_at t) x_is ∙ ap (λ (k : TermLiteral). k.atom) l_is) in
       let two = are_two t x.shape.arguments u v (is_listed x x_there).1.arguments w.arguments in
@@ -177,17 +177,17 @@ module _ (t : TableView) (f : Facts) (whole : AreOf t f) where
 
   module _ (apart : AreDifferent t.terms) (declared : AreDeclared t.sorts t.symbols) where
     -- heads that mean one head are one
-    one_head : (s u : Shape) → HasHead t s.head → Fits t u → head_meant t s.head ≡ head_meant t u.head → s.head ≡ u.head
+    one_head : (s u : Shape) → HasHead t s.head → ShapeFits t u → head_meant t s.head ≡ head_meant t u.head → s.head ≡ u.head
     one_head s u has fits e =
         ap (λ (z : Shape). z.head) (one_shape t.terms (length t.terms) apart (declared_in t) (record { head = s.head; arguments = u.arguments }) u declared fits.arguments has fits
         (ap (λ h. of h (clause_at t u.arguments)) e))
 
     -- numbers whose terms are one, or those of congruent numbers, are congruent
-    numbers_of : (a b : TermId) (u v : Term) → IsIn t a → IsIn t b → term_at t a ≡ u → term_at t b ≡ v → (u ≡ v) ⊎ AreNumbered t f u v → IsCongruent f a b
-    numbers_of a b u v a_there b_there a_is b_is (inl e) = subst (IsCongruent f a) (same_numbers t apart a b a_there b_there (a_is ∙ e ∙ sym b_is)) (itself a)
+    numbers_of : (a b : TermId) (u v : Term) → IsIn t a → IsIn t b → term_at t a ≡ u → term_at t b ≡ v → (u ≡ v) ⊎ AreNumbered t f u v → IsCongruentIn f a b
+    numbers_of a b u v a_there b_there a_is b_is (inl e) = subst (IsCongruentIn f a) (same_numbers t apart a b a_there b_there (a_is ∙ e ∙ sym b_is)) (itself a)
     numbers_of a b u v a_there b_there a_is b_is (inr n) =
-        subst (λ c. IsCongruent f c b) (same_numbers t apart n.one a n.one_there a_there (n.one_is ∙ sym a_is))
-        (subst (IsCongruent f n.one) (same_numbers t apart n.other b n.other_there b_there (n.other_is ∙ sym b_is)) n.congruent)
+        subst (λ c. IsCongruentIn f c b) (same_numbers t apart n.one a n.one_there a_there (n.one_is ∙ sym a_is))
+        (subst (IsCongruentIn f n.one) (same_numbers t apart n.other b n.other_there b_there (n.other_is ∙ sym b_is)) n.congruent)
 
     turn_numbered : (u v : Term) → (u ≡ v) ⊎ AreNumbered t f u v → (v ≡ u) ⊎ AreNumbered t f v u
     turn_numbered u v (inl e) = inl (sym e)
@@ -204,7 +204,7 @@ module _ (t : TableView) (f : Facts) (whole : AreOf t f) where
       one_is = n.one_is;
       other_is = m.other_is;
       congruent = joined n.one n.other m.other n.congruent
-          (subst (λ c. IsCongruent f c m.other) (same_numbers t apart m.one n.other m.one_there n.other_there (m.one_is ∙ sym n.other_is)) m.congruent);
+          (subst (λ c. IsCongruentIn f c m.other) (same_numbers t apart m.one n.other m.one_there n.other_there (m.one_is ∙ sym n.other_is)) m.congruent);
     })
 
     -- of two equal terms either both are one, or they have congruent numbers
@@ -247,7 +247,7 @@ module _ (t : TableView) (f : Facts) (whole : AreOf t f) where
           })
 
       pub all_numbers : (ts us : Terms) → AreAllEqual listed literals ts us → (xs ys : List TermId) → AreIn t xs → AreIn t ys
-          → terms_of (clause_at t xs) ≡ ts → terms_of (clause_at t ys) ≡ us → AreCongruent f xs ys
+          → terms_of (clause_at t xs) ≡ ts → terms_of (clause_at t ys) ≡ us → AreCongruentIn f xs ys
       all_numbers _ _ no_terms [] [] xs_there ys_there xs_are ys_are = none
       all_numbers _ _ no_terms [] (y ∷ ys) xs_there ys_there xs_are ys_are = absurd (cc)
       all_numbers _ _ no_terms (x ∷ xs) ys xs_there ys_there xs_are ys_are = absurd (cc)
@@ -259,17 +259,17 @@ module _ (t : TableView) (f : Facts) (whole : AreOf t f) where
       all_numbers _ _ (more_terms u v ts us h hs) (x ∷ xs) [] xs_there ys_there xs_are ys_are = absurd (cc)
 
     -- numbers are congruent where their terms are equal
-    pub numbers_agree : (a b : TermId) → IsIn t a → IsIn t b → IsCongruent f a b ↔ AreEqual listed literals (term_at t a) (term_at t b)
+    pub numbers_agree : (a b : TermId) → IsIn t a → IsIn t b → IsCongruentIn f a b ↔ AreEqual listed literals (term_at t a) (term_at t b)
     numbers_agree a b a_there b_there = (terms_equal a b, λ e. numbers_of a b (term_at t a) (term_at t b) a_there b_there refl refl (numbers_congruent (term_at t a) (term_at t b) e))
 
     -- what is refuted by numbers is refuted among terms, and the other way
-    pub refuted_terms : IsRefuted f → AreRefuted listed literals
+    pub refuted_terms : FactsAreRefuted f → AreRefuted listed literals
     refuted_terms (inl h) =
         inl (subst (λ u. AreEqual listed literals u (truth_term false)) whole.true_is
         (subst (AreEqual listed literals (term_at t f.truths.true_term)) whole.false_is (terms_equal f.truths.true_term f.truths.false_term h)))
     refuted_terms (inr (a, b, d, h)) = inr (term_at t a, term_at t b, equality_literal d.literal a b false d.held d.negative d.equality, terms_equal a b h)
 
-    pub refuted_numbers : AreRefuted listed literals → IsRefuted f
+    pub refuted_numbers : AreRefuted listed literals → FactsAreRefuted f
     refuted_numbers (inl h) =
         inl (numbers_of f.truths.true_term f.truths.false_term (truth_term true) (truth_term false) whole.true_there whole.false_there whole.true_is whole.false_is
         (numbers_congruent (truth_term true) (truth_term false) h))

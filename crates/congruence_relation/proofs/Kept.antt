@@ -3,13 +3,13 @@ use Rattle.std.proofs.Common.{◌≡◌, List, [], ◌∷◌, map, Contains, ref
 use Rattle.std.specs.Prelude.{All}
 use Rattle.std.proofs.lemmas.List.Elements.{All-contains, All-head, All-tail, All-weaker}
 use Rattle.term_core.specs.declared.ids.Lit.{Lit}
-use Rattle.term_core.specs.Tables.{TableView, term_at, IsIn, Fits, shape_term, literal_at, Extends}
+use Rattle.term_core.specs.Tables.{TableView, term_at, IsIn, ShapeFits, shape_term, literal_at, Extends}
 use Rattle.term_core.proofs.TermsExtend.{IsIn-kept, term_at-kept, literal_at-kept, shape_term-kept, Fits-kept}
-use Rattle.congruence_relation.specs.Relation.{Application, Facts, AreOf, terms_listed}
+use Rattle.congruence_relation.specs.Relation.{Application, Facts, AreFactsOf, terms_listed}
 
 -- what a table says of a listed term
 abbrev IsListedIn : TableView → Application → Type 0
-IsListedIn t x = IsIn t x.term × Fits t x.shape × (shape_term t x.shape ≡ term_at t x.term)
+IsListedIn t x = IsIn t x.term × ShapeFits t x.shape × (shape_term t x.shape ≡ term_at t x.term)
 
 module _ (t u : TableView) (grows : Extends t u) where
   listed_kept : (x : Application) → IsListedIn t x → IsListedIn u x
@@ -25,8 +25,8 @@ module _ (t u : TableView) (grows : Extends t u) where
   literals_kept (l ∷ ls) there =
       λ i. literal_at-kept t u grows l (All-head (λ (l : Lit). IsIn t l.term) l ls there) i ∷ literals_kept ls (All-tail (λ (l : Lit). IsIn t l.term) l ls there) i
 
-  module _ (f : Facts) (whole : AreOf t f) where
-    pub of_more : AreOf u f
+  module _ (f : Facts) (whole : AreFactsOf t f) where
+    pub of_more : AreFactsOf u f
     of_more = record {
       terms = All-weaker (IsListedIn t) (IsListedIn u) listed_kept f.listed whole.terms;
       true_there = IsIn-kept t u grows f.truths.true_term whole.true_there;

@@ -8,7 +8,7 @@ use Rattle.explain_forest.specs.declared.types.Label.TheVariants.{Held, Argument
 use Rattle.explain_forest.specs.Forest.{root, Linked}
 use Rattle.congruence_relation.specs.declared.Conflict.{Conflict}
 use Rattle.congruence_relation.specs.declared.Conflict.TheVariants.{Truths, Sides}
-use Rattle.congruence_relation.specs.Relation.{Application, Facts, IsEquality, States}
+use Rattle.congruence_relation.specs.Relation.{Application, Facts, IsEquality, StatesEqual}
 
 -- the terms that stand for these, each for all that are linked to it
 abbrev pub roots : List Edge → List TermId → List ℕ
@@ -31,19 +31,19 @@ pub record Meet (f : Facts) (es : List Edge) (a b : TermId) : Type 0 where
   pub arguments : roots es one.shape.arguments ≡ roots es other.shape.arguments
 
 -- an edge's label tells why its terms are equal, where older edges stand: a held literal states it, in either direction; or they are listed terms with one head and linked arguments
-abbrev pub IsReason : Facts → List Edge → Edge → Label → Type 0
-IsReason f es e (Held l) = Contains f.held l × (States f l e.a e.b ⊎ States f l e.b e.a)
-IsReason f es e (Arguments a b) = (a ≡ e.a) × (b ≡ e.b) × Meet f es e.a e.b
+abbrev pub IsEdgeReason : Facts → List Edge → Edge → Label → Type 0
+IsEdgeReason f es e (Held l) = Contains f.held l × (StatesEqual f l e.a e.b ⊎ StatesEqual f l e.b e.a)
+IsEdgeReason f es e (Arguments a b) = (a ≡ e.a) × (b ≡ e.b) × Meet f es e.a e.b
 
 -- each edge has a reason, edges newest first
-abbrev pub AreReasons : Facts → List Edge → Type 0
-AreReasons f [] = Unit {0}
-AreReasons f (e ∷ es) = IsReason f es e e.label × AreReasons f es
+abbrev pub EdgesHaveReasons : Facts → List Edge → Type 0
+EdgesHaveReasons f [] = Unit {0}
+EdgesHaveReasons f (e ∷ es) = IsEdgeReason f es e e.label × EdgesHaveReasons f es
 
 -- Edges link what held literals state, and listed terms with one head and linked arguments.
 pub record IsClosed (f : Facts) (es : List Edge) : Type 0 where
   -- what is stated
-  pub stated : (l : Lit) (a b : TermId) → Contains f.held l → States f l a b → Linked es a.0 b.0
+  pub stated : (l : Lit) (a b : TermId) → Contains f.held l → StatesEqual f l a b → Linked es a.0 b.0
   -- what has linked arguments
   pub arguments : (x y : Application) → Contains f.listed x → Contains f.listed y → x.shape.head ≡ y.shape.head
       → roots es x.shape.arguments ≡ roots es y.shape.arguments → Linked es x.term.0 y.term.0

@@ -4,7 +4,7 @@ use Rattle.spec_sorts.specs.Terms.{True, False, Term, of}
 use Rattle.term_core.specs.declared.ids.TermId.{TermId}
 use Rattle.term_core.specs.declared.ids.Lit.{Lit}
 use Rattle.term_core.specs.declared.nodes.Head.TheVariants as heads
-use Rattle.term_core.specs.Tables.{TableView, Shape, shape_of, shape_term, term_at, IsIn, Fits}
+use Rattle.term_core.specs.Tables.{TableView, Shape, shape_of, shape_term, term_at, IsIn, ShapeFits}
 use Rattle.congruence_relation.specs.declared.Truths.{Truths}
 use Rattle.congruence_relation.specs.declared.Listed.{Listed}
 
@@ -49,33 +49,33 @@ pub record IsEquality (listed : List Application) (e a b : TermId) : Type 0 wher
   pub shape : at.shape ≡ record { head = heads.Equal; arguments = a ∷ b ∷ [] }
 
 -- A held literal states that two terms are equal: its term and its truth value are, and so are the sides of an equality that is held as it stands.
-pub data States (f : Facts) (l : Lit) : TermId → TermId → Type 0 where
+pub data StatesEqual (f : Facts) (l : Lit) : TermId → TermId → Type 0 where
   -- its term, and its truth value
-  decides : States f l l.term (truth_of f.truths l.positive)
+  decides : StatesEqual f l l.term (truth_of f.truths l.positive)
   -- the sides of an equality
-  equates : (a b : TermId) → l.positive ≡ true → IsEquality f.listed l.term a b → States f l a b
+  equates : (a b : TermId) → l.positive ≡ true → IsEquality f.listed l.term a b → StatesEqual f l a b
 
 mutual
   -- The terms of two numbers are equal because of what is held.
-  pub data IsCongruent (f : Facts) : TermId → TermId → Type 0 where
+  pub data IsCongruentIn (f : Facts) : TermId → TermId → Type 0 where
     -- a held literal states it
-    stated : (l : Lit) (a b : TermId) → Contains f.held l → States f l a b → IsCongruent f a b
+    stated : (l : Lit) (a b : TermId) → Contains f.held l → StatesEqual f l a b → IsCongruentIn f a b
     -- a term is equal to itself
-    itself : (a : TermId) → IsCongruent f a a
+    itself : (a : TermId) → IsCongruentIn f a a
     -- in the other direction
-    turned : (a b : TermId) → IsCongruent f a b → IsCongruent f b a
+    turned : (a b : TermId) → IsCongruentIn f a b → IsCongruentIn f b a
     -- by a third term
-    joined : (a b c : TermId) → IsCongruent f a b → IsCongruent f b c → IsCongruent f a c
+    joined : (a b c : TermId) → IsCongruentIn f a b → IsCongruentIn f b c → IsCongruentIn f a c
     -- listed terms with one head and equal arguments
     by_arguments : (x y : Application) → Contains f.listed x → Contains f.listed y → x.shape.head ≡ y.shape.head
-        → AreCongruent f x.shape.arguments y.shape.arguments → IsCongruent f x.term y.term
+        → AreCongruentIn f x.shape.arguments y.shape.arguments → IsCongruentIn f x.term y.term
 
   -- as many terms as others, each equal to the other in its place
-  pub data AreCongruent (f : Facts) : List TermId → List TermId → Type 0 where
+  pub data AreCongruentIn (f : Facts) : List TermId → List TermId → Type 0 where
     -- none, and none
-    none : AreCongruent f [] []
+    none : AreCongruentIn f [] []
     -- a pair, and the rest
-    more : (a b : TermId) (xs ys : List TermId) → IsCongruent f a b → AreCongruent f xs ys → AreCongruent f (a ∷ xs) (b ∷ ys)
+    more : (a b : TermId) (xs ys : List TermId) → IsCongruentIn f a b → AreCongruentIn f xs ys → AreCongruentIn f (a ∷ xs) (b ∷ ys)
 
 -- A held literal denies that two terms are equal.
 pub record IsDenied (f : Facts) (a b : TermId) : Type 0 where
@@ -90,11 +90,11 @@ pub record IsDenied (f : Facts) (a b : TermId) : Type 0 where
 
 -- the two sides of a denied equality are equal
 abbrev pub HasJoinedSides : Facts → Type 0
-HasJoinedSides f = (a : TermId) × (b : TermId) × IsDenied f a b × IsCongruent f a b
+HasJoinedSides f = (a : TermId) × (b : TermId) × IsDenied f a b × IsCongruentIn f a b
 
 -- what is held joins `true` and `false`, or the sides of a denied equality
-abbrev pub IsRefuted : Facts → Type 0
-IsRefuted f = IsCongruent f f.truths.true_term f.truths.false_term ⊎ HasJoinedSides f
+abbrev pub FactsAreRefuted : Facts → Type 0
+FactsAreRefuted f = IsCongruentIn f f.truths.true_term f.truths.false_term ⊎ HasJoinedSides f
 
 -- All that is listed and held of old facts is so of new ones, over the same truth values.
 pub record AreMore (old new : Facts) : Type 0 where
@@ -106,9 +106,9 @@ pub record AreMore (old new : Facts) : Type 0 where
   pub held : (l : Lit) → Contains old.held l → Contains new.held l
 
 -- What is listed are terms of a table, and the truth values are its own.
-pub record AreOf (t : TableView) (f : Facts) : Type 0 where
+pub record AreFactsOf (t : TableView) (f : Facts) : Type 0 where
   -- each listed term is one of the table's, with its head and its arguments
-  pub terms : All (λ x. IsIn t x.term × Fits t x.shape × (shape_term t x.shape ≡ term_at t x.term)) f.listed
+  pub terms : All (λ x. IsIn t x.term × ShapeFits t x.shape × (shape_term t x.shape ≡ term_at t x.term)) f.listed
   -- `true`
   pub true_there : IsIn t f.truths.true_term
   pub true_is : term_at t f.truths.true_term ≡ of True []

@@ -3,11 +3,11 @@ use Rattle.std.proofs.Common.{◌≡◌, ◌≢◌, ℕ, zero, suc, ◌+◌, ◌
 use Rattle.std.proofs.lemmas.Bool.Decides.{nat_tests}
 use Rattle.explain_forest.specs.declared.types.Edge.{Edge}
 use Rattle.explain_forest.specs.Forest.{root, Linked}
-use Rattle.explain_forest.specs.Kept.{AreApart, parents_by, stamps_by, height, root_at, Shows, Tops, IsOlder, Climbs}
+use Rattle.explain_forest.specs.Kept.{EdgesAreApart, parents_by, stamps_by, height, root_at, ArraysShow, Tops, IsOlder, Climbs}
 use Rattle.explain_forest.proofs.Roots.{stamp-root, stamp-less, stamp-one, parent-low, height-less, length-stamps}
 use Rattle.explain_forest.proofs.Levels.{at-all, at-none, at-until, at-again, stamp-says, next-under, next-beside}
 
-module _ (n : ℕ) (es : List Edge) (x y : ℕ) (ok : AreApart n es) where
+module _ (n : ℕ) (es : List Edge) (x y : ℕ) (ok : EdgesAreApart n es) where
   pub climbs-start : x < n → y < n → x ≢ y → Climbs n es (stamps_by n es) (x, y) (x, y)
   climbs-start hx hy apart = record {
     level = 0;
@@ -143,7 +143,7 @@ module _ (n : ℕ) (es : List Edge) (x y : ℕ) (ok : AreApart n es) where
         (says.there, (λ r. c.apart (sym px ∙ r ∙ py)), px ∙ met ∙ sym says.above, py ∙ sym says.under)
 
 -- the same of arrays that show the edges
-module _ (parents stamps : List ℕ) (edges : List Edge) (s : Shows parents stamps edges) where
+module _ (parents stamps : List ℕ) (edges : List Edge) (s : ArraysShow parents stamps edges) where
   pub by_arrays : (P : List ℕ → List ℕ → Type 0) → P (parents_by (length parents) (reverse edges)) (stamps_by (length parents) (reverse edges)) → P parents stamps
   by_arrays P h = subst (λ us. P us stamps) (sym s.parents_are) (subst (λ os. P (parents_by (length parents) (reverse edges)) os) (sym s.stamps_are) h)
 

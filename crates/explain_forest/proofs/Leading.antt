@@ -5,31 +5,31 @@ use Rattle.std.proofs.lemmas.Bool.{cases_eq}
 use Rattle.std.proofs.lemmas.List.Elements.{All-append, All-cons, All-nil}
 use Rattle.explain_forest.specs.declared.types.Edge.{Edge}
 use Rattle.explain_forest.specs.declared.types.Step.{Step}
-use Rattle.explain_forest.specs.Forest.{root, Linked, forth, back, path, numbered, Leads, IsAlong}
+use Rattle.explain_forest.specs.Forest.{root, Linked, forth, back, path, numbered, PathLeads, IsAlong}
 use Rattle.explain_forest.specs.Telling.{}
 use Rattle.explain_forest.proofs.Roots.{root-under, root-beside}
 use Rattle.explain_forest.proofs.Levels.{numbered-top, numbered-older, path-kept, path-forth, path-back}
 
-leads-append : (x : ℕ) (ss ts : List Step) (m y : ℕ) → Leads x ss m → Leads m ts y → Leads x (ss ++ ts) y
-leads-append x [] ts m y p q = subst (λ z. Leads z ts y) (sym p) q
+leads-append : (x : ℕ) (ss ts : List Step) (m y : ℕ) → PathLeads x ss m → PathLeads m ts y → PathLeads x (ss ++ ts) y
+leads-append x [] ts m y p q = subst (λ z. PathLeads z ts y) (sym p) q
 leads-append x (s ∷ ss) ts m y p q = (p.0, leads-append s.to.0 ss ts m y p.1 q)
 
-pub path-leads : (es : List Edge) (x y : ℕ) → Linked es x y → Leads x (path es x y) y
+pub path-leads : (es : List Edge) (x y : ℕ) → Linked es x y → PathLeads x (path es x y) y
 path-leads [] x y h = h
 path-leads (e ∷ es) x y h = go (cases_eq (root es x) (root es y)) (cases_eq (root es x) (root es e.a.0)) (path-leads es)
   where
-    go : (root es x ≡ root es y) ⊎ (root es x ≢ root es y) → (root es x ≡ root es e.a.0) ⊎ (root es x ≢ root es e.a.0) → ((v w : ℕ) → Linked es v w → Leads v (path es v w) w) → Leads x (path (e ∷ es) x y) y
-    go (inl p) q ih = subst (λ l. Leads x l y) (sym (path-kept e es x y p)) (ih x y p)
+    go : (root es x ≡ root es y) ⊎ (root es x ≢ root es y) → (root es x ≡ root es e.a.0) ⊎ (root es x ≢ root es e.a.0) → ((v w : ℕ) → Linked es v w → PathLeads v (path es v w) w) → PathLeads x (path (e ∷ es) x y) y
+    go (inl p) q ih = subst (λ l. PathLeads x l y) (sym (path-kept e es x y p)) (ih x y p)
     go (inr p) (inl q) ih =
         let by : root es e.b.0 ≡ root es y = sym (root-under e es x q) ∙ h ∙ root-beside e es y (λ r. p (q ∙ sym r)) in
-        subst (λ l. Leads x l y) (sym (path-forth e es x y p q)) (leads-append x (path es x e.a.0) (forth (length es) e ∷ path es e.b.0 y) e.a.0 y (ih x e.a.0 q) (refl, ih e.b.0 y by))
+        subst (λ l. PathLeads x l y) (sym (path-forth e es x y p q)) (leads-append x (path es x e.a.0) (forth (length es) e ∷ path es e.b.0 y) e.a.0 y (ih x e.a.0 q) (refl, ih e.b.0 y by))
     go (inr p) (inr q) ih = last (cases_eq (root es y) (root es e.a.0))
       where
-        last : (root es y ≡ root es e.a.0) ⊎ (root es y ≢ root es e.a.0) → Leads x (path (e ∷ es) x y) y
+        last : (root es y ≡ root es e.a.0) ⊎ (root es y ≢ root es e.a.0) → PathLeads x (path (e ∷ es) x y) y
         last (inr r) = absurd (p (sym (root-beside e es x q) ∙ h ∙ root-beside e es y r))
         last (inl r) =
             let bx : root es x ≡ root es e.b.0 = sym (root-beside e es x q) ∙ h ∙ root-under e es y r in
-            subst (λ l. Leads x l y) (sym (path-back e es x y p q)) (leads-append x (path es x e.b.0) (back (length es) e ∷ path es e.a.0 y) e.b.0 y (ih x e.b.0 bx) (refl, ih e.a.0 y (sym r)))
+            subst (λ l. PathLeads x l y) (sym (path-back e es x y p q)) (leads-append x (path es x e.b.0) (back (length es) e ∷ path es e.a.0 y) e.b.0 y (ih x e.b.0 bx) (refl, ih e.a.0 y (sym r)))
 
 -- a newer edge leaves the numbers of older ones
 pub along-later : (e : Edge) (es : List Edge) (s : Step) → IsAlong es s → IsAlong (e ∷ es) s

@@ -4,7 +4,7 @@ use Rattle.std.proofs.lemmas.Bool.{cases_eq, cases_lt}
 use Rattle.std.proofs.lemmas.Bool.Decides.{nat_tests}
 use Rattle.explain_forest.specs.declared.types.Edge.{Edge}
 use Rattle.explain_forest.specs.Forest.{root, Linked, forth, back, path, no_edge, numbered, older}
-use Rattle.explain_forest.specs.Kept.{AreApart, parents_by, stamps_by, root_at}
+use Rattle.explain_forest.specs.Kept.{EdgesAreApart, parents_by, stamps_by, root_at}
 use Rattle.explain_forest.proofs.Roots.{root-again, stamp-top, stamp-other, parent-top, parent-other, root-stamp}
 
 test_true : (a b : ℕ) → a ≡ b → (a == b) ≡ true
@@ -33,7 +33,7 @@ at-none [] t = refl
 at-none (e ∷ es) t = at-later 0 e es t (omega arith) ∙ at-none es t
 
 -- a term is its own root until the edge over it comes
-pub at-until : (n k : ℕ) (es : List Edge) (t : ℕ) → AreApart n es → t < n → (slice_index (stamps_by n es) t ≡ 0) ⊎ (k < slice_index (stamps_by n es) t) → root_at k es t ≡ t
+pub at-until : (n k : ℕ) (es : List Edge) (t : ℕ) → EdgesAreApart n es → t < n → (slice_index (stamps_by n es) t ≡ 0) ⊎ (k < slice_index (stamps_by n es) t) → root_at k es t ≡ t
 at-until n k [] t ok h z = refl
 at-until n k (e ∷ es) t ok h z = go (cases_eq t (root es e.a.0)) (cases_eq (root_at k es t) (root_at k es e.a.0)) (at-until n k es t ok.3 h)
   where
@@ -62,7 +62,7 @@ at-until n k (e ∷ es) t ok h z = go (cases_eq t (root es e.a.0)) (cases_eq (ro
             late (inl a) own2 = absurd (p (sym own2 ∙ r ∙ at-all k es e.a.0 (omega arith)))
 
 -- later edges see the roots of earlier ones
-pub at-again : (n j k : ℕ) (es : List Edge) (x : ℕ) → AreApart n es → j ≤ k → root_at k es x ≡ root_at k es (root_at j es x)
+pub at-again : (n j k : ℕ) (es : List Edge) (x : ℕ) → EdgesAreApart n es → j ≤ k → root_at k es x ≡ root_at k es (root_at j es x)
 at-again n j k [] x ok h = refl
 at-again n j k (e ∷ es) x ok h = go (cases_lt (length es) j) (at-again n j k es x ok.3 h)
   where
@@ -85,7 +85,7 @@ numbered-top e es k h = grind (arith, nat_tests)
 pub numbered-older : (e : Edge) (es : List Edge) (k : ℕ) → k ≢ length es → numbered (e ∷ es) k ≡ numbered es k
 numbered-older e es k h = grind (arith, nat_tests)
 
-pub stamp-says : (n k : ℕ) (es : List Edge) (t : ℕ) → AreApart n es → t < n → slice_index (stamps_by n es) t ≡ suc k → IsStamped es k t (slice_index (parents_by n es) t)
+pub stamp-says : (n k : ℕ) (es : List Edge) (t : ℕ) → EdgesAreApart n es → t < n → slice_index (stamps_by n es) t ≡ suc k → IsStamped es k t (slice_index (parents_by n es) t)
 stamp-says n k [] t ok h e = absurd (no_edge (sym (stamp-root-zero) ∙ e))
   where
     no_edge : 0 ≡ suc k → ⊥
@@ -153,12 +153,12 @@ path-forth e es x y h p = (λ i. if test_false _ _ h i then path es x y else if 
 pub path-back : (e : Edge) (es : List Edge) (x y : ℕ) → root es x ≢ root es y → root es x ≢ root es e.a.0 → path (e ∷ es) x y ≡ path es x e.b.0 ++ back (length es) e ∷ path es e.a.0 y
 path-back e es x y h p = (λ i. if test_false _ _ h i then path es x y else if test_false _ _ p i then path es x e.a.0 ++ forth (length es) e ∷ path es e.b.0 y else path es x e.b.0 ++ back (length es) e ∷ path es e.a.0 y)
 
-linked-from : (n k : ℕ) (es : List Edge) (x y : ℕ) → AreApart n es → k ≤ length es → root_at k es x ≡ root_at k es y → Linked es x y
+linked-from : (n k : ℕ) (es : List Edge) (x y : ℕ) → EdgesAreApart n es → k ≤ length es → root_at k es x ≡ root_at k es y → Linked es x y
 linked-from n k es x y ok h p = sym (at-all (length es) es x (omega arith)) ∙ at-again n k (length es) es x ok h ∙ ap (root_at (length es) es) p ∙ sym (at-again n k (length es) es y ok h) ∙ at-all (length es) es y (omega arith)
 
 -- A path whose newest edge has the number k goes over it.
 module _ (n k : ℕ) where
-  pub split-forth : (es : List Edge) (x y : ℕ) → AreApart n es → k < length es → root_at k es x ≢ root_at k es y → root_at k es x ≡ root_at k es (numbered es k).a.0 → root_at k es y ≡ root_at k es (numbered es k).b.0
+  pub split-forth : (es : List Edge) (x y : ℕ) → EdgesAreApart n es → k < length es → root_at k es x ≢ root_at k es y → root_at k es x ≡ root_at k es (numbered es k).a.0 → root_at k es y ≡ root_at k es (numbered es k).b.0
       → path es x y ≡ path es x (numbered es k).a.0 ++ forth k (numbered es k) ∷ path es (numbered es k).b.0 y
   split-forth [] x y ok h d p q = absurd (omega arith)
   split-forth (e ∷ es) x y ok h d p q = go (cases_eq k (length es)) (split-forth es x y ok.3)
@@ -184,7 +184,7 @@ module _ (n k : ℕ) where
           subst (λ g. path (e ∷ es) x y ≡ path (e ∷ es) x g.a.0 ++ forth k g ∷ path (e ∷ es) g.b.0 y) (sym (numbered-older e es k t))
           (path-kept e es x y lxy ∙ ih (omega arith) dd px py ∙ (λ i. sym (path-kept e es x f.a.0 lx) i ++ forth k f ∷ sym (path-kept e es f.b.0 y ly) i))
 
-  pub split-back : (es : List Edge) (x y : ℕ) → AreApart n es → k < length es → root_at k es x ≢ root_at k es y → root_at k es x ≡ root_at k es (numbered es k).b.0 → root_at k es y ≡ root_at k es (numbered es k).a.0
+  pub split-back : (es : List Edge) (x y : ℕ) → EdgesAreApart n es → k < length es → root_at k es x ≢ root_at k es y → root_at k es x ≡ root_at k es (numbered es k).b.0 → root_at k es y ≡ root_at k es (numbered es k).a.0
       → path es x y ≡ path es x (numbered es k).b.0 ++ back k (numbered es k) ∷ path es (numbered es k).a.0 y
   split-back [] x y ok h d p q = absurd (omega arith)
   split-back (e ∷ es) x y ok h d p q = go (cases_eq k (length es)) (split-back es x y ok.3)
@@ -211,10 +211,10 @@ module _ (n k : ℕ) where
           subst (λ g. path (e ∷ es) x y ≡ path (e ∷ es) x g.b.0 ++ back k g ∷ path (e ∷ es) g.a.0 y) (sym (numbered-older e es k t))
           (path-kept e es x y lxy ∙ ih (omega arith) dd px py ∙ (λ i. sym (path-kept e es x f.b.0 lx) i ++ back k f ∷ sym (path-kept e es f.a.0 y ly) i))
 
-  pub linked-forth : (es : List Edge) (x y : ℕ) → AreApart n es → k < length es → root_at k es x ≡ root_at k es (numbered es k).a.0 → root_at k es y ≡ root_at k es (numbered es k).b.0
+  pub linked-forth : (es : List Edge) (x y : ℕ) → EdgesAreApart n es → k < length es → root_at k es x ≡ root_at k es (numbered es k).a.0 → root_at k es y ≡ root_at k es (numbered es k).b.0
       → Linked es x (numbered es k).a.0 × Linked es (numbered es k).b.0 y
   linked-forth es x y ok h p q = (linked-from n k es x _ ok (omega arith) p, linked-from n k es _ y ok (omega arith) (sym q))
 
-  pub linked-back : (es : List Edge) (x y : ℕ) → AreApart n es → k < length es → root_at k es x ≡ root_at k es (numbered es k).b.0 → root_at k es y ≡ root_at k es (numbered es k).a.0
+  pub linked-back : (es : List Edge) (x y : ℕ) → EdgesAreApart n es → k < length es → root_at k es x ≡ root_at k es (numbered es k).b.0 → root_at k es y ≡ root_at k es (numbered es k).a.0
       → Linked es x (numbered es k).b.0 × Linked es (numbered es k).a.0 y
   linked-back es x y ok h p q = (linked-from n k es x _ ok (omega arith) p, linked-from n k es _ y ok (omega arith) (sym q))

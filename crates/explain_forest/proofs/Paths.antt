@@ -10,7 +10,7 @@ use Rattle.explain_forest.specs.declared.types.Edge.{Edge}
 use Rattle.explain_forest.specs.declared.types.Step.{Step}
 use Rattle.explain_forest.specs.declared.types.Part.{Part}
 use Rattle.explain_forest.specs.Forest.{Linked, forth, back, path, numbered}
-use Rattle.explain_forest.specs.Kept.{AreApart, Tops}
+use Rattle.explain_forest.specs.Kept.{EdgesAreApart, Tops}
 use Rattle.explain_forest.specs.Telling.{step_of, told, told_all, cost, costs, first, second, halves, Turns}
 use Rattle.explain_forest.proofs.Levels.{path-kept, split-forth, split-back, linked-forth, linked-back}
 
@@ -38,7 +38,7 @@ pub costs-append : (es : List Edge) (ps qs : List Part) → costs es (ps ++ qs) 
 costs-append es [] qs = omega arith
 costs-append es (p ∷ ps) qs = omega (arith, costs-append es ps qs)
 
-module _ (n : ℕ) (es : List Edge) (ok : AreApart n es) (edges_low : (k : ℕ) → k < length es → ((numbered es k).a.0 < n) × ((numbered es k).b.0 < n)) where
+module _ (n : ℕ) (es : List Edge) (ok : EdgesAreApart n es) (edges_low : (k : ℕ) → k < length es → ((numbered es k).a.0 < n) × ((numbered es k).b.0 < n)) where
   -- what a split tells is the path
   pub split-told : (p : Part) (k : ℕ) (along : Bool) → Tops es p.from.0 p.to.0 k along
       → told es (first (numbered es k) along p) ++ told es (second (numbered es k) k along p) ≡ path es p.from.0 p.to.0
@@ -59,7 +59,7 @@ module _ (n : ℕ) (es : List Edge) (ok : AreApart n es) (edges_low : (k : ℕ) 
   split-second p k true h t = ((edges_low k t.0).1, h, (linked-forth n k es p.from.0 p.to.0 ok t.0 t.2 t.3).1)
   split-second p k false h t = ((edges_low k t.0).0, h, (linked-back n k es p.from.0 p.to.0 ok t.0 t.2 t.3).1)
 
-pub numbered-low : (n : ℕ) (es : List Edge) → AreApart n es → (k : ℕ) → k < length es → ((numbered es k).a.0 < n) × ((numbered es k).b.0 < n)
+pub numbered-low : (n : ℕ) (es : List Edge) → EdgesAreApart n es → (k : ℕ) → k < length es → ((numbered es k).a.0 < n) × ((numbered es k).b.0 < n)
 numbered-low n [] ok k h = absurd (omega arith)
 numbered-low n (e ∷ es) ok k h = go (cases_eq k (length es)) (numbered-low n es ok.3 k)
   where
@@ -68,7 +68,7 @@ numbered-low n (e ∷ es) ok k h = go (cases_eq k (length es)) (numbered-low n e
     go (inr p) ih = let q : numbered (e ∷ es) k ≡ numbered es k = grind (arith, nat_tests) in subst (λ f. (f.a.0 < n) × (f.b.0 < n)) (sym q) (ih (omega arith))
 
 -- One part is explained: its step, and nothing more where it leads nowhere, else its two halves.
-module _ (n : ℕ) (es : List Edge) (ok : AreApart n es) (out after : List Step) (whole : List Step) (ps : List Part) (p : Part) where
+module _ (n : ℕ) (es : List Edge) (ok : EdgesAreApart n es) (out after : List Step) (whole : List Step) (ps : List Part) (p : Part) where
   pub told-end : after ≡ out ++ step_of p → p.from.0 ≡ p.to.0 → out ++ told_all es (ps ++ p ∷ []) ≡ whole → after ++ told_all es ps ≡ whole
   told-end tells same all =
       (λ i. tells i ++ told_all es ps) ∙ append_assoc out (step_of p) (told_all es ps) ∙ ap (λ l. out ++ l) (sym inner) ∙ ap (λ l. out ++ l) (sym (told_all-append es ps (p ∷ []))) ∙ all
@@ -90,7 +90,7 @@ module _ (n : ℕ) (es : List Edge) (ok : AreApart n es) (out after : List Step)
       ∙ all
 
 -- a turn over a part that leads nowhere
-pub turns-end : (n : ℕ) (es : List Edge) (ok : AreApart n es) (p : Part) (ps : List Part) (out after : List Step) → after ≡ out ++ step_of p → p.from.0 ≡ p.to.0 → Turns n es p (record { parts = ps; out = out }) (record { parts = ps; out = after })
+pub turns-end : (n : ℕ) (es : List Edge) (ok : EdgesAreApart n es) (p : Part) (ps : List Part) (out after : List Step) → after ≡ out ++ step_of p → p.from.0 ≡ p.to.0 → Turns n es p (record { parts = ps; out = out }) (record { parts = ps; out = after })
 turns-end n es ok p ps out after tells same = record {
   whole = λ steps h. told-end n es ok out after steps ps p tells same h;
   less = let c = costs-append es ps (p ∷ []) in omega arith;
@@ -98,7 +98,7 @@ turns-end n es ok p ps out after tells same = record {
 }
 
 -- and over one that is split
-pub turns-split : (n : ℕ) (es : List Edge) (ok : AreApart n es) (p : Part) (ps qs : List Part) (out after : List Step) (k : ℕ) (along : Bool) → (p.from.0 < n) × (p.to.0 < n) × Linked es p.from.0 p.to.0
+pub turns-split : (n : ℕ) (es : List Edge) (ok : EdgesAreApart n es) (p : Part) (ps qs : List Part) (out after : List Step) (k : ℕ) (along : Bool) → (p.from.0 < n) × (p.to.0 < n) × Linked es p.from.0 p.to.0
     → after ≡ out ++ step_of p → Tops es p.from.0 p.to.0 k along → qs ≡ ps ++ halves (numbered es k) k along p → Turns n es p (record { parts = ps; out = out }) (record { parts = qs; out = after })
 turns-split n es ok p ps qs out after k along low tells t is = subst (λ l. Turns n es p (record { parts = ps; out = out }) (record { parts = l; out = after })) (sym is) (record {
   whole = λ steps h. told-split n es ok out after steps ps p k along tells t h;

@@ -4,7 +4,7 @@ use Rattle.std.proofs.lemmas.Bool.{cases_eq}
 use Rattle.std.proofs.lemmas.Bool.Decides.{nat_tests}
 use Rattle.explain_forest.specs.declared.types.Edge.{Edge}
 use Rattle.explain_forest.specs.Forest.{root, Linked}
-use Rattle.explain_forest.specs.Kept.{AreApart}
+use Rattle.explain_forest.specs.Kept.{EdgesAreApart}
 use Rattle.explain_forest.proofs.Roots.{root-low, root-again, root-under, root-beside}
 
 count_below : (ℕ → Bool) → ℕ → ℕ
@@ -50,7 +50,7 @@ all_roots zero = refl
 all_roots (suc n) = let h = all_roots n in let t : (n == n) ≡ true = grind (arith, nat_tests) in rw t (omega (arith, h))
 
 -- each edge takes one root away
-roots-count : (n : ℕ) (es : List Edge) → AreApart n es → count_below (is_root es) n + length es ≡ n
+roots-count : (n : ℕ) (es : List Edge) → EdgesAreApart n es → count_below (is_root es) n + length es ≡ n
 unfolding is_root
 roots-count n [] ok = omega (arith, all_roots n)
 roots-count n (e ∷ es) ok =
@@ -79,7 +79,7 @@ roots-count n (e ∷ es) ok =
             let g : (root es i == i) ≡ false = grind (arith, nat_tests) in ap (λ r. r == i) u ∙ f ∙ sym g
 
 -- some root is left
-pub edges-fewer : (n : ℕ) (es : List Edge) → AreApart n es → 0 < n → length es < n
+pub edges-fewer : (n : ℕ) (es : List Edge) → EdgesAreApart n es → 0 < n → length es < n
 unfolding is_root
 edges-fewer n es ok h =
     let c = roots-count n es ok in
@@ -87,9 +87,9 @@ edges-fewer n es ok h =
     let s : 0 < count_below (is_root es) n = count_below-some (is_root es) n (root es 0) (root-low n es 0 ok h) (grind (arith, nat_tests, again)) in omega (arith, c, s)
 
 -- there is room for one edge more
-pub room-left : (n : ℕ) (e : Edge) (es : List Edge) → AreApart n es → e.a.0 < n → e.b.0 < n → (Linked es e.a.0 e.b.0 → ⊥) → length es + 1 < n
+pub room-left : (n : ℕ) (e : Edge) (es : List Edge) → EdgesAreApart n es → e.a.0 < n → e.b.0 < n → (Linked es e.a.0 e.b.0 → ⊥) → length es + 1 < n
 room-left n e es ok ha hb apart = let h = edges-fewer n (e ∷ es) (ha, hb, apart, ok) (omega arith) in omega (arith, h)
 
 -- there are no more edges than terms
-pub edges-few : (n : ℕ) (es : List Edge) → AreApart n es → length es ≤ n
+pub edges-few : (n : ℕ) (es : List Edge) → EdgesAreApart n es → length es ≤ n
 edges-few n es ok = let c = roots-count n es ok in omega (arith, c)

@@ -9,7 +9,7 @@ use Rattle.std.proofs.lemmas.Bool.Decides.{nat_tests}
 use Rattle.term_core.proofs.Numbers.{range-at}
 use Rattle.explain_forest.specs.declared.types.Edge.{Edge}
 use Rattle.explain_forest.specs.Forest.{root, Linked}
-use Rattle.explain_forest.specs.Kept.{AreApart, parents_by, stamps_by, height}
+use Rattle.explain_forest.specs.Kept.{EdgesAreApart, parents_by, stamps_by, height}
 use Rattle.explain_forest.specs.Telling.{}
 
 -- one more edge changes the root of those that have its first term's
@@ -19,7 +19,7 @@ root-under e es t h = grind (arith, nat_tests)
 pub root-beside : (e : Edge) (es : List Edge) (t : ℕ) → root es t ≢ root es e.a.0 → root (e ∷ es) t ≡ root es t
 root-beside e es t h = grind (arith, nat_tests)
 
-pub root-low : (n : ℕ) (es : List Edge) (t : ℕ) → AreApart n es → t < n → root es t < n
+pub root-low : (n : ℕ) (es : List Edge) (t : ℕ) → EdgesAreApart n es → t < n → root es t < n
 root-low n [] t ok h = h
 root-low n (e ∷ es) t ok h = go (cases_eq (root es t) (root es e.a.0)) (λ s. root-low n es s ok.3)
   where
@@ -31,7 +31,7 @@ root-low n (e ∷ es) t ok h = go (cases_eq (root es t) (root es e.a.0)) (λ s. 
 pub linked-more : (e : Edge) (es : List Edge) (x y : ℕ) → Linked es x y → Linked (e ∷ es) x y
 linked-more e es x y h = λ i. if h i == root es e.a.0 then root es e.b.0 else h i
 
-pub root-again : (n : ℕ) (es : List Edge) (t : ℕ) → AreApart n es → root es (root es t) ≡ root es t
+pub root-again : (n : ℕ) (es : List Edge) (t : ℕ) → EdgesAreApart n es → root es (root es t) ≡ root es t
 root-again n [] t ok = refl
 root-again n (e ∷ es) t ok = go (cases_eq (root es t) (root es e.a.0)) (λ s. root-again n es s ok.3)
   where
@@ -55,7 +55,7 @@ pub length-stamps : (n : ℕ) (es : List Edge) → length (stamps_by n es) ≡ n
 length-stamps n [] = length-replicate n 0
 length-stamps n (e ∷ es) = length-set _ _ _ ∙ length-stamps n es
 
-module _ (n : ℕ) (e : Edge) (es : List Edge) (ok : AreApart n (e ∷ es)) where
+module _ (n : ℕ) (e : Edge) (es : List Edge) (ok : EdgesAreApart n (e ∷ es)) where
   top_low : root es e.a.0 < n
   top_low = root-low n es e.a.0 ok.3 ok.0
 
@@ -75,7 +75,7 @@ module _ (n : ℕ) (e : Edge) (es : List Edge) (ok : AreApart n (e ∷ es)) wher
   pub above_top : root es e.b.0 ≢ root es e.a.0
   above_top h = ok.2 (sym h)
 
-pub stamp-le : (n : ℕ) (es : List Edge) (t : ℕ) → AreApart n es → t < n → slice_index (stamps_by n es) t ≤ length es
+pub stamp-le : (n : ℕ) (es : List Edge) (t : ℕ) → EdgesAreApart n es → t < n → slice_index (stamps_by n es) t ≤ length es
 stamp-le n [] t ok h = let k = blank-at n t h in omega arith
 stamp-le n (e ∷ es) t ok h = go (cases_eq t (root es e.a.0)) (stamp-le n es t ok.3 h)
   where
@@ -84,7 +84,7 @@ stamp-le n (e ∷ es) t ok h = go (cases_eq t (root es e.a.0)) (stamp-le n es t 
     go (inr p) r = let k = stamp-other n e es ok t p in omega arith
 
 -- a term over which no edge is stands for itself, and no other does
-pub stamp-root : (n : ℕ) (es : List Edge) (t : ℕ) → AreApart n es → t < n → slice_index (stamps_by n es) t ≡ 0 → root es t ≡ t
+pub stamp-root : (n : ℕ) (es : List Edge) (t : ℕ) → EdgesAreApart n es → t < n → slice_index (stamps_by n es) t ≡ 0 → root es t ≡ t
 stamp-root n [] t ok h z = refl
 stamp-root n (e ∷ es) t ok h z = go (cases_eq t (root es e.a.0)) (stamp-root n es t ok.3 h)
   where
@@ -95,7 +95,7 @@ stamp-root n (e ∷ es) t ok h z = go (cases_eq t (root es e.a.0)) (stamp-root n
         zero_suc q = omega arith
     go (inr p) ih = let r = ih (sym (stamp-other n e es ok t p) ∙ z) in root-beside e es t (λ q. p (sym r ∙ q)) ∙ r
 
-pub root-stamp : (n : ℕ) (es : List Edge) (t : ℕ) → AreApart n es → t < n → root es t ≡ t → slice_index (stamps_by n es) t ≡ 0
+pub root-stamp : (n : ℕ) (es : List Edge) (t : ℕ) → EdgesAreApart n es → t < n → root es t ≡ t → slice_index (stamps_by n es) t ≡ 0
 root-stamp n [] t ok h z = blank-at n t h
 root-stamp n (e ∷ es) t ok h z = go (cases_eq t (root es e.a.0)) (cases_eq (root es t) (root es e.a.0)) (root-stamp n es t ok.3 h)
   where
@@ -108,7 +108,7 @@ root-stamp n (e ∷ es) t ok h z = go (cases_eq t (root es e.a.0)) (cases_eq (ro
         b_is = sym z ∙ root-under e es t q
     go (inr p) (inr q) ih = stamp-other n e es ok t p ∙ ih (sym (root-beside e es t q) ∙ z)
 
-pub root-parent : (n : ℕ) (es : List Edge) (t : ℕ) → AreApart n es → t < n → root es t ≡ t → slice_index (parents_by n es) t ≡ t
+pub root-parent : (n : ℕ) (es : List Edge) (t : ℕ) → EdgesAreApart n es → t < n → root es t ≡ t → slice_index (parents_by n es) t ≡ t
 root-parent n [] t ok h z = range-at n t h
 root-parent n (e ∷ es) t ok h z = go (cases_eq t (root es e.a.0)) (cases_eq (root es t) (root es e.a.0)) (root-parent n es t ok.3 h)
   where
@@ -121,7 +121,7 @@ root-parent n (e ∷ es) t ok h z = go (cases_eq t (root es e.a.0)) (cases_eq (r
         b_is = sym z ∙ root-under e es t q
     go (inr p) (inr q) ih = parent-other n e es ok t p ∙ ih (sym (root-beside e es t q) ∙ z)
 
-pub parent-low : (n : ℕ) (es : List Edge) (t : ℕ) → AreApart n es → t < n → slice_index (parents_by n es) t < n
+pub parent-low : (n : ℕ) (es : List Edge) (t : ℕ) → EdgesAreApart n es → t < n → slice_index (parents_by n es) t < n
 parent-low n [] t ok h = let k = range-at n t h in omega arith
 parent-low n (e ∷ es) t ok h = go (cases_eq t (root es e.a.0)) (parent-low n es t ok.3 h)
   where
@@ -130,7 +130,7 @@ parent-low n (e ∷ es) t ok h = go (cases_eq t (root es e.a.0)) (parent-low n e
     go (inr p) ih = subst (λ r. r < n) (sym (parent-other n e es ok t p)) ih
 
 -- the term above has the same root
-pub parent-linked : (n : ℕ) (es : List Edge) (t : ℕ) → AreApart n es → t < n → Linked es (slice_index (parents_by n es) t) t
+pub parent-linked : (n : ℕ) (es : List Edge) (t : ℕ) → EdgesAreApart n es → t < n → Linked es (slice_index (parents_by n es) t) t
 parent-linked n [] t ok h = range-at n t h
 parent-linked n (e ∷ es) t ok h = go (cases_eq t (root es e.a.0)) (parent-linked n es t ok.3 h)
   where
@@ -140,7 +140,7 @@ parent-linked n (e ∷ es) t ok h = go (cases_eq t (root es e.a.0)) (parent-link
     go (inr p) ih = ap (root (e ∷ es)) (parent-other n e es ok t p) ∙ linked-more e es _ _ ih
 
 -- the edge over the term above is newer, if there is one
-pub stamp-less : (n : ℕ) (es : List Edge) (t : ℕ) → AreApart n es → t < n → slice_index (stamps_by n es) t ≢ 0
+pub stamp-less : (n : ℕ) (es : List Edge) (t : ℕ) → EdgesAreApart n es → t < n → slice_index (stamps_by n es) t ≢ 0
     → (slice_index (stamps_by n es) (slice_index (parents_by n es) t) ≡ 0) ⊎ (slice_index (stamps_by n es) t < slice_index (stamps_by n es) (slice_index (parents_by n es) t))
 stamp-less n [] t ok h z = absurd (z (blank-at n t h))
 stamp-less n (e ∷ es) t ok h z = go (cases_eq t (root es e.a.0)) (cases_eq (slice_index (parents_by n es) t) (root es e.a.0)) (stamp-less n es t ok.3 h)
@@ -167,7 +167,7 @@ stamp-less n (e ∷ es) t ok h z = go (cases_eq t (root es e.a.0)) (cases_eq (sl
         keep (inl k) = inl (parents ∙ k)
         keep (inr k) = inr (rw (parents, stamp-other n e es ok t p) k)
 
-pub height-less : (n : ℕ) (es : List Edge) (t : ℕ) → AreApart n es → t < n → slice_index (stamps_by n es) t ≢ 0 → height (stamps_by n es) (length es) (slice_index (parents_by n es) t) < height (stamps_by n es) (length es) t
+pub height-less : (n : ℕ) (es : List Edge) (t : ℕ) → EdgesAreApart n es → t < n → slice_index (stamps_by n es) t ≢ 0 → height (stamps_by n es) (length es) (slice_index (parents_by n es) t) < height (stamps_by n es) (length es) t
 height-less n es t ok h z = go (stamp-less n es t ok h z) (stamp-le n es t ok h) (stamp-le n es (slice_index (parents_by n es) t) ok (parent-low n es t ok h))
   where
     go : (slice_index (stamps_by n es) (slice_index (parents_by n es) t) ≡ 0) ⊎ (slice_index (stamps_by n es) t < slice_index (stamps_by n es) (slice_index (parents_by n es) t)) → slice_index (stamps_by n es) t ≤ length es
@@ -176,7 +176,7 @@ height-less n es t ok h z = go (stamp-less n es t ok h z) (stamp-le n es t ok h)
     go (inr p) le le2 = grind (arith, nat_tests)
 
 -- no edge is over two terms
-pub stamp-one : (n : ℕ) (es : List Edge) (s t : ℕ) → AreApart n es → s < n → t < n → slice_index (stamps_by n es) s ≢ 0 → slice_index (stamps_by n es) s ≡ slice_index (stamps_by n es) t → s ≡ t
+pub stamp-one : (n : ℕ) (es : List Edge) (s t : ℕ) → EdgesAreApart n es → s < n → t < n → slice_index (stamps_by n es) s ≢ 0 → slice_index (stamps_by n es) s ≡ slice_index (stamps_by n es) t → s ≡ t
 stamp-one n [] s t ok hs ht z e = absurd (z (blank-at n s hs))
 stamp-one n (e ∷ es) s t ok hs ht z same = go (cases_eq s (root es e.a.0)) (cases_eq t (root es e.a.0)) (stamp-one n es s t ok.3 hs ht) (stamp-le n es s ok.3 hs) (stamp-le n es t ok.3 ht)
   where

@@ -66,9 +66,9 @@ older [] k = []
 older (e ∷ es) k = if nat_lt (length es) k then e ∷ es else older es k
 
 -- who takes these steps from one term comes to the other
-abbrev pub Leads : ℕ → List Step → ℕ → Type 0
-Leads x [] y = x ≡ y
-Leads x (s ∷ ss) y = (s.from.0 ≡ x) × Leads s.to.0 ss y
+abbrev pub PathLeads : ℕ → List Step → ℕ → Type 0
+PathLeads x [] y = x ≡ y
+PathLeads x (s ∷ ss) y = (s.from.0 ≡ x) × PathLeads s.to.0 ss y
 
 -- the step goes along the edge of its number, either way
 abbrev pub IsAlong : List Edge → Step → Type 0

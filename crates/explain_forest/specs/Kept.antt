@@ -6,9 +6,9 @@ use Rattle.explain_forest.specs.declared.types.Mark.{Mark}
 use Rattle.explain_forest.specs.Forest.{ForestState, root, Linked, numbered}
 
 -- each edge is between terms below a number that older edges do not link
-abbrev pub AreApart : ℕ → List Edge → Type 0
-AreApart n [] = Unit {0}
-AreApart n (e ∷ es) = (e.a.0 < n) × (e.b.0 < n) × (Linked es e.a.0 e.b.0 → ⊥) × AreApart n es
+abbrev pub EdgesAreApart : ℕ → List Edge → Type 0
+EdgesAreApart n [] = Unit {0}
+EdgesAreApart n (e ∷ es) = (e.a.0 < n) × (e.b.0 < n) × (Linked es e.a.0 e.b.0 → ⊥) × EdgesAreApart n es
 
 -- the term above each term, itself where none is
 abbrev pub parents_by : ℕ → List Edge → List ℕ
@@ -31,13 +31,13 @@ root_at k (e ∷ es) t =
     if nat_lt (length es) k && (root_at k es t == root_at k es e.a.0) then root_at k es e.b.0 else root_at k es t
 
 -- The arrays are those of the edges, which are listed oldest first.
-pub record Shows (parents stamps : List ℕ) (edges : List Edge) : Type 0 where
+pub record ArraysShow (parents stamps : List ℕ) (edges : List Edge) : Type 0 where
   -- the term above each term
   pub parents_are : parents ≡ parents_by (length parents) (reverse edges)
   -- the edge that put it there
   pub stamps_are : stamps ≡ stamps_by (length parents) (reverse edges)
   -- no edge was between linked terms
-  pub apart : AreApart (length parents) (reverse edges)
+  pub apart : EdgesAreApart (length parents) (reverse edges)
 
 -- the terms and edges at a mark
 abbrev pub state_at : List Edge → Mark → ForestState
@@ -50,7 +50,7 @@ pub record IsMark (terms : ℕ) (edges : List Edge) (m : Mark) : Type 0 where
   -- its edges are there
   pub few_edges : m.edges ≤ length edges
   -- its edges are between its terms
-  pub apart : AreApart m.terms (reverse (take m.edges edges))
+  pub apart : EdgesAreApart m.terms (reverse (take m.edges edges))
 
 -- One mark was set before another.
 pub record IsBefore (m later : Mark) : Type 0 where
@@ -60,16 +60,16 @@ pub record IsBefore (m later : Mark) : Type 0 where
   pub few_edges : m.edges ≤ later.edges
 
 -- marks, oldest first
-abbrev pub AreMarks : ℕ → List Edge → List Mark → Type 0
-AreMarks terms edges [] = Unit {0}
-AreMarks terms edges (m ∷ ms) = IsMark terms edges m × All (IsBefore m) ms × AreMarks terms edges ms
+abbrev pub AreEdgeMarks : ℕ → List Edge → List Mark → Type 0
+AreEdgeMarks terms edges [] = Unit {0}
+AreEdgeMarks terms edges (m ∷ ms) = IsMark terms edges m × All (IsBefore m) ms × AreEdgeMarks terms edges ms
 
 -- What the parts of a forest keep.
-pub record IsKept (parents stamps : List ℕ) (edges : List Edge) (marks : List Mark) (room : ℕ) : Type 0 where
+pub record ForestFits (parents stamps : List ℕ) (edges : List Edge) (marks : List Mark) (room : ℕ) : Type 0 where
   -- the arrays are those of the edges
-  pub shows : Shows parents stamps edges
+  pub shows : ArraysShow parents stamps edges
   -- the marks are older states
-  pub marked : AreMarks (length parents) edges marks
+  pub marked : AreEdgeMarks (length parents) edges marks
   -- there is room for as many edges as terms
   pub fits : length parents ≤ room
 

@@ -2,7 +2,7 @@
 
 ghost use Rattle.std.specs.Prelude.{◌≡◌, ◌+◌, ◌-◌, ◌<◌, ◌≤◌, ◌^◌, List, length, take, reverse, get_or, vec_len, vec_capacity};
 ghost use Rattle.explain_forest.specs.declared.types.Edge.{Edge as EdgeView};
-ghost use Rattle.explain_forest.specs.Kept.{AreApart, Shows};
+ghost use Rattle.explain_forest.specs.Kept.{EdgesAreApart, ArraysShow};
 
 use crate::types::Edge;
 
@@ -12,8 +12,8 @@ pub(crate) fn grow(parents: &mut Vec<u64>, stamps: &mut Vec<u64>, more: usize)
     requires stamps { vec_len stamps.old + more ≤ vec_capacity stamps.old }
     requires few { vec_len parents.old + more < 2 ^ 64 }
     ensures terms { length parents.new.items ≡ length parents.old.items + more }
-    ensures shows { (edges : List EdgeView) → Shows parents.old.items stamps.old.items edges
-        → Shows parents.new.items stamps.new.items edges }
+    ensures shows { (edges : List EdgeView) → ArraysShow parents.old.items stamps.old.items edges
+        → ArraysShow parents.new.items stamps.new.items edges }
 {
     for _ in 0..more {
         parents.push_reserved(parents.len() as u64);
@@ -25,8 +25,8 @@ pub(crate) fn grow(parents: &mut Vec<u64>, stamps: &mut Vec<u64>, more: usize)
 pub(crate) fn shrink(parents: &mut Vec<u64>, stamps: &mut Vec<u64>, terms: usize)
     requires { terms ≤ length parents.old.items }
     ensures terms { length parents.new.items ≡ terms }
-    ensures shows { (edges : List EdgeView) → AreApart terms (reverse edges)
-        → Shows parents.old.items stamps.old.items edges → Shows parents.new.items stamps.new.items edges }
+    ensures shows { (edges : List EdgeView) → EdgesAreApart terms (reverse edges)
+        → ArraysShow parents.old.items stamps.old.items edges → ArraysShow parents.new.items stamps.new.items edges }
 {
     parents.truncate(terms);
     stamps.truncate(terms);
@@ -34,7 +34,7 @@ pub(crate) fn shrink(parents: &mut Vec<u64>, stamps: &mut Vec<u64>, terms: usize
 
 /// Gives the term that the newest edge put under another.
 fn below_of(parents: &[u64], stamps: &[u64], edges: &[Edge]) -> u64
-    requires shows { Shows parents.now stamps.now edges.now }
+    requires shows { ArraysShow parents.now stamps.now edges.now }
     requires some { 0 < length edges.now }
     ensures low { result < length parents.now }
     ensures stamp { get_or stamps.now result 0 ≡ length edges.now }
@@ -49,12 +49,12 @@ fn below_of(parents: &[u64], stamps: &[u64], edges: &[Edge]) -> u64
 
 /// Takes the newest edge away.
 fn undo(parents: &mut [u64], stamps: &mut [u64], edges: &mut Vec<Edge>)
-    requires shows { Shows parents.old stamps.old edges.old.items }
+    requires shows { ArraysShow parents.old stamps.old edges.old.items }
     requires some { 0 < vec_len edges.old }
     ensures edges { edges.new.items ≡ take (vec_len edges.old - 1) edges.old.items }
     ensures room { vec_capacity edges.new ≡ vec_capacity edges.old }
     ensures terms { length parents.new ≡ length parents.old }
-    ensures shows { Shows parents.new stamps.new edges.new.items }
+    ensures shows { ArraysShow parents.new stamps.new edges.new.items }
 {
     let below = below_of(parents, stamps, edges);
     parents[below as usize] = below;
@@ -64,12 +64,12 @@ fn undo(parents: &mut [u64], stamps: &mut [u64], edges: &mut Vec<Edge>)
 
 /// Takes all edges but the oldest away.
 pub(crate) fn cut(parents: &mut [u64], stamps: &mut [u64], edges: &mut Vec<Edge>, floor: usize)
-    requires shows { Shows parents.old stamps.old edges.old.items }
+    requires shows { ArraysShow parents.old stamps.old edges.old.items }
     requires floor { floor ≤ vec_len edges.old }
     ensures edges { edges.new.items ≡ take floor edges.old.items }
     ensures room { vec_capacity edges.new ≡ vec_capacity edges.old }
     ensures terms { length parents.new ≡ length parents.old }
-    ensures shows { Shows parents.new stamps.new edges.new.items }
+    ensures shows { ArraysShow parents.new stamps.new edges.new.items }
 {
     'edges: while edges.len() > floor {
         undo(parents, stamps, edges);

@@ -2,13 +2,13 @@
 
 ghost use Rattle.std.specs.Prelude.{◌≡◌, ◌≢◌, ◌+◌, ◌<◌, length, reverse, MatchBool};
 ghost use Rattle.explain_forest.specs.Forest.{root, Linked};
-ghost use Rattle.explain_forest.specs.Kept.{Shows, Tops, IsOlder};
+ghost use Rattle.explain_forest.specs.Kept.{ArraysShow, Tops, IsOlder};
 
 use crate::types::Edge;
 
 /// Gives the root of a term.
 pub(crate) fn find(parents: &[u64], stamps: &[u64], edges: &[Edge], t: u64) -> u64
-    requires shows { Shows parents.now stamps.now edges.now }
+    requires shows { ArraysShow parents.now stamps.now edges.now }
     requires t { t < length parents.now }
     ensures value { result ≡ root (reverse edges.now) t }
     ensures low { result < length parents.now }
@@ -38,7 +38,7 @@ fn left_first(u: u64, v: u64) -> bool
 /// Gives the number of the newest edge on the path between two terms, and whether the path goes from the edge's first end to its
 /// second.
 pub(crate) fn top(parents: &[u64], stamps: &[u64], edges: &[Edge], x: u64, y: u64) -> (u64, bool)
-    requires shows { Shows parents.now stamps.now edges.now }
+    requires shows { ArraysShow parents.now stamps.now edges.now }
     requires x { x < length parents.now }
     requires y { y < length parents.now }
     requires linked { Linked (reverse edges.now) x y }

@@ -2,7 +2,7 @@
 
 ghost use Rattle.std.specs.Prelude.{◌≡◌, ◌<◌, ◌++◌, length, reverse, IfOk, OnOk};
 ghost use Rattle.explain_forest.specs.Forest.{Linked, path, numbered};
-ghost use Rattle.explain_forest.specs.Kept.{Shows};
+ghost use Rattle.explain_forest.specs.Kept.{ArraysShow};
 ghost use Rattle.explain_forest.specs.Telling.{step_of, halves, Turns};
 
 use crate::climb::top;
@@ -70,7 +70,7 @@ fn turn(
     parts: &mut Vec<Part>,
     out: &mut Vec<Step>,
 ) -> Result<(), NoMemory>
-    requires shows { Shows parents.now stamps.now edges.now }
+    requires shows { ArraysShow parents.now stamps.now edges.now }
     requires part { (p.from.0 < length parents.now) × (p.to.0 < length parents.now)
         × Linked (reverse edges.now) p.from.0 p.to.0 }
     ensures { OnOk result (Turns (length parents.now) (reverse edges.now) p
@@ -95,7 +95,7 @@ pub(crate) fn explain(
     x: TermId,
     y: TermId,
 ) -> Result<Vec<Step>, NoMemory>
-    requires shows { Shows parents.now stamps.now edges.now }
+    requires shows { ArraysShow parents.now stamps.now edges.now }
     requires x { x.0 < length parents.now }
     requires y { y.0 < length parents.now }
     requires linked { Linked (reverse edges.now) x.0 y.0 }

@@ -1,7 +1,7 @@
 //! The forest, with its marks.
 
 ghost use Rattle.std.specs.Prelude.{◌≡◌, ℕ, suc, ◌-◌, ◌<◌, ◌≤◌, ◌==◌, max, [], ◌∷◌, ◌++◌, length, take, get_or, IfOk, OnOk, OnErr};
-ghost use Rattle.explain_forest.specs.Forest.{Linked, path, root, numbered, Leads, AlongEdges};
+ghost use Rattle.explain_forest.specs.Forest.{Linked, path, root, numbered, PathLeads, AlongEdges};
 
 use crate::arrays::{cut, grow, shrink};
 use crate::climb::find;
@@ -34,7 +34,7 @@ pub struct Forest {
 impl Model for Forest {
     ghost use Rattle.std.specs.Prelude.{length, reverse, map, vec_capacity};
     ghost use Rattle.explain_forest.specs.Forest.{ForestView};
-    ghost use Rattle.explain_forest.specs.Kept.{state_at, IsKept};
+    ghost use Rattle.explain_forest.specs.Kept.{state_at, ForestFits};
 
     ghost Value = { ForestView };
 
@@ -43,7 +43,7 @@ impl Model for Forest {
       marks = map (state_at f.edges.items) f.marks.items;
     } };
 
-    ghost invariant = { λ f. IsKept f.parents.items f.stamps.items f.edges.items f.marks.items (vec_capacity f.edges) };
+    ghost invariant = { λ f. ForestFits f.parents.items f.stamps.items f.edges.items f.marks.items (vec_capacity f.edges) };
 }
 
 impl Forest {
@@ -123,7 +123,7 @@ impl Forest {
 
     /// States that each path leads from its first term to its last, along edges by their numbers.
     pub fn paths_lead(&self)
-        ensures leads { (x y : ℕ) → Linked self.now.now.edges x y → Leads x (path self.now.now.edges x y) y }
+        ensures leads { (x y : ℕ) → Linked self.now.now.edges x y → PathLeads x (path self.now.now.edges x y) y }
         ensures along { (x y : ℕ) → AlongEdges self.now.now.edges (path self.now.now.edges x y) }
     {
         let _ = &self.parents;

@@ -6,7 +6,7 @@ use Rattle.term_core.specs.declared.ids.TermId.{TermId}
 use Rattle.term_core.specs.declared.ids.Lit.{Lit}
 use Rattle.proof_log.specs.Theories.{Mark, no_mark}
 use Rattle.held_literals.specs.declared.held.Place.{Place}
-use Rattle.held_literals.specs.Room.{HasRoom, AreMarks, AreOver, mark_of, marks_of}
+use Rattle.held_literals.specs.Room.{HasRoom, AreHeldMarks, AreOverWatched, mark_of, marks_of}
 
 pub early : {A : Type 0} (xs ys : List A) (k : ℕ) (d : A) → k < length xs → get_or (xs ++ ys) k d ≡ get_or xs k d
 early [] ys k d lt = absurd (omega (arith, lt))
@@ -27,23 +27,23 @@ place (suc k) (suc n) lt = elim (place k n (omega (arith, lt))) [ inl l ↦ inl 
 abbrev pub mark_now : List Lit → List TermId → Mark
 mark_now held watched = record { held = length held; watched = length watched }
 
-module _ (held : List Lit) (watched : List TermId) (marks : List Mark) (m : AreMarks held watched marks) where
-  pub marks_held : (l : Lit) → AreMarks (held ++ l ∷ []) watched marks
+module _ (held : List Lit) (watched : List TermId) (marks : List Mark) (m : AreHeldMarks held watched marks) where
+  pub marks_held : (l : Lit) → AreHeldMarks (held ++ l ∷ []) watched marks
   marks_held l = record {
     held_in = λ k lt. omega (arith, m.held_in k lt, length-append held (l ∷ []));
     watched_in = m.watched_in;
     held_order = m.held_order;
     watched_order = m.watched_order;
-    over = λ k lt. subst (λ h. AreOver h (take (get_or marks k no_mark).watched watched)) (sym (take-append-le (get_or marks k no_mark).held held (l ∷ []) (m.held_in k lt))) (m.over k lt);
+    over = λ k lt. subst (λ h. AreOverWatched h (take (get_or marks k no_mark).watched watched)) (sym (take-append-le (get_or marks k no_mark).held held (l ∷ []) (m.held_in k lt))) (m.over k lt);
   }
 
-  pub marks_watched : (t : TermId) → AreMarks held (watched ++ t ∷ []) marks
+  pub marks_watched : (t : TermId) → AreHeldMarks held (watched ++ t ∷ []) marks
   marks_watched t = record {
     held_in = m.held_in;
     watched_in = λ k lt. omega (arith, m.watched_in k lt, length-append watched (t ∷ []));
     held_order = m.held_order;
     watched_order = m.watched_order;
-    over = λ k lt. subst (λ w. AreOver (take (get_or marks k no_mark).held held) w) (sym (take-append-le (get_or marks k no_mark).watched watched (t ∷ []) (m.watched_in k lt))) (m.over k lt);
+    over = λ k lt. subst (λ w. AreOverWatched (take (get_or marks k no_mark).held held) w) (sym (take-append-le (get_or marks k no_mark).watched watched (t ∷ []) (m.watched_in k lt))) (m.over k lt);
   }
 
   at : (P : Mark → Type 0) → ((k : ℕ) → k < length marks → P (get_or marks k no_mark)) → P (mark_now held watched) → (k : ℕ) → k < length (marks ++ mark_now held watched ∷ []) → P (get_or (marks ++ mark_now held watched ∷ []) k no_mark)
@@ -52,7 +52,7 @@ module _ (held : List Lit) (watched : List TermId) (marks : List Mark) (m : AreM
     | inr is ↦ subst P (sym (ap (λ n. get_or (marks ++ mark_now held watched ∷ []) n no_mark) is ∙ last marks (mark_now held watched) no_mark)) now
   ]
 
-  pub marks_more : AreOver held watched → AreMarks held watched (marks ++ mark_now held watched ∷ [])
+  pub marks_more : AreOverWatched held watched → AreHeldMarks held watched (marks ++ mark_now held watched ∷ [])
   marks_more over = record {
     held_in = at (λ x. x.held ≤ length held) m.held_in (omega arith);
     watched_in = at (λ x. x.watched ≤ length watched) m.watched_in (omega arith);
@@ -66,11 +66,11 @@ module _ (held : List Lit) (watched : List TermId) (marks : List Mark) (m : AreM
       | inr is ↦ (let b = ap (λ n. get_or (marks ++ mark_now held watched ∷ []) n no_mark) is ∙ last marks (mark_now held watched) no_mark in
           let a = at (λ x. x.watched ≤ length watched) m.watched_in (omega arith) i (omega (arith, le, lt)) in omega (arith, a, ap (λ (x : Mark). x.watched) b))
     ];
-    over = at (λ x. AreOver (take x.held held) (take x.watched watched)) m.over (subst (λ h. AreOver h (take (length watched) watched)) (sym (take-length held)) (subst (AreOver held) (sym (take-length watched)) over));
+    over = at (λ x. AreOverWatched (take x.held held) (take x.watched watched)) m.over (subst (λ h. AreOverWatched h (take (length watched) watched)) (sym (take-length held)) (subst (AreOverWatched held) (sym (take-length watched)) over));
   }
 
   -- the first of the marks
-  pub marks_first : (n : ℕ) → n ≤ length marks → AreMarks held watched (take n marks)
+  pub marks_first : (n : ℕ) → n ≤ length marks → AreHeldMarks held watched (take n marks)
   marks_first n le =
       let size = length-take-le n marks le in
       record {
@@ -78,7 +78,7 @@ module _ (held : List Lit) (watched : List TermId) (marks : List Mark) (m : AreM
         watched_in = λ k l. omega (arith, m.watched_in k (omega (arith, l, size, le)), ap (λ (x : Mark). x.watched) (get_or-take n marks k no_mark (omega (arith, l, size))));
         held_order = λ i j e l. let a = get_or-take n marks i no_mark (omega (arith, e, l, size)) in let b = get_or-take n marks j no_mark (omega (arith, l, size)) in omega (arith, m.held_order i j e (omega (arith, l, size, le)), ap (λ (x : Mark). x.held) a, ap (λ (x : Mark). x.held) b);
         watched_order = λ i j e l. let a = get_or-take n marks i no_mark (omega (arith, e, l, size)) in let b = get_or-take n marks j no_mark (omega (arith, l, size)) in omega (arith, m.watched_order i j e (omega (arith, l, size, le)), ap (λ (x : Mark). x.watched) a, ap (λ (x : Mark). x.watched) b);
-        over = λ k l. subst (λ (x : Mark). AreOver (take x.held held) (take x.watched watched)) (sym (get_or-take n marks k no_mark (omega (arith, l, size)))) (m.over k (omega (arith, l, size, le)));
+        over = λ k l. subst (λ (x : Mark). AreOverWatched (take x.held held) (take x.watched watched)) (sym (get_or-take n marks k no_mark (omega (arith, l, size)))) (m.over k (omega (arith, l, size, le)));
       }
 
   -- going back to a mark
@@ -95,7 +95,7 @@ module _ (held : List Lit) (watched : List TermId) (marks : List Mark) (m : AreM
     size_marks : length (take kept marks) ≡ kept
     size_marks = length-take-le kept marks (omega (arith, lt))
 
-    pub marks_back : AreMarks (take back.held held) (take back.watched watched) (take kept marks)
+    pub marks_back : AreHeldMarks (take back.held held) (take back.watched watched) (take kept marks)
     marks_back = record {
       held_in = λ k l. let a = get_or-take kept marks k no_mark (omega (arith, l, size_marks)) in omega (arith, m.held_order k kept (omega (arith, l, size_marks)) lt, size_held, ap (λ (x : Mark). x.held) a);
       watched_in = λ k l. let a = get_or-take kept marks k no_mark (omega (arith, l, size_marks)) in omega (arith, m.watched_order k kept (omega (arith, l, size_marks)) lt, size_watched, ap (λ (x : Mark). x.watched) a);
@@ -104,9 +104,9 @@ module _ (held : List Lit) (watched : List TermId) (marks : List Mark) (m : AreM
       over = λ k l.
           let small : k < kept = omega (arith, l, size_marks) in
           let x : Mark = get_or marks k no_mark in
-          subst (λ (y : Mark). AreOver (take y.held (take back.held held)) (take y.watched (take back.watched watched))) (sym (get_or-take kept marks k no_mark small))
-          (subst (λ h. AreOver h (take x.watched (take back.watched watched))) (sym (take-take x.held back.held held (m.held_order k kept (omega (arith, small)) lt)))
-          (subst (AreOver (take x.held held)) (sym (take-take x.watched back.watched watched (m.watched_order k kept (omega (arith, small)) lt))) (m.over k (omega (arith, small, lt)))));
+          subst (λ (y : Mark). AreOverWatched (take y.held (take back.held held)) (take y.watched (take back.watched watched))) (sym (get_or-take kept marks k no_mark small))
+          (subst (λ h. AreOverWatched h (take x.watched (take back.watched watched))) (sym (take-take x.held back.held held (m.held_order k kept (omega (arith, small)) lt)))
+          (subst (AreOverWatched (take x.held held)) (sym (take-take x.watched back.watched watched (m.watched_order k kept (omega (arith, small)) lt))) (m.over k (omega (arith, small, lt)))));
     }
 
     pub room_back : (capacity : ℕ) → HasRoom held watched capacity → HasRoom (take back.held held) (take back.watched watched) capacity

@@ -19,15 +19,15 @@ abbrev pub without_mark : TheoryView → TheoryView
 without_mark v = record { held = v.held; watched = v.watched; marks = take (length v.marks - 1) v.marks }
 
 -- the terms of the literals are watched
-abbrev pub AreOver : List Lit → List TermId → Type 0
-AreOver held watched = All (λ (l : Lit). Contains watched l.term) held
+abbrev pub AreOverWatched : List Lit → List TermId → Type 0
+AreOverWatched held watched = All (λ (l : Lit). Contains watched l.term) held
 
 -- Literals of watched terms, each once.
 pub record IsHeldOver (held : List Lit) (watched : List TermId) : Type 0 where
   -- no two places have one literal
   pub once : AllPairs (λ l m. l ≢ m) held
   -- the terms are watched
-  pub over : AreOver held watched
+  pub over : AreOverWatched held watched
 
 -- The literals are in a list whose capacity has room for both literals of each watched term.
 pub record HasRoom (held : List Lit) (watched : List TermId) (capacity : ℕ) : Type 0 where
@@ -37,7 +37,7 @@ pub record HasRoom (held : List Lit) (watched : List TermId) (capacity : ℕ) : 
   pub room : 2 * length watched ≤ capacity
 
 -- Marks of what is held and watched: in order, and what was held was over what was watched.
-pub record AreMarks (held : List Lit) (watched : List TermId) (marks : List Mark) : Type 0 where
+pub record AreHeldMarks (held : List Lit) (watched : List TermId) (marks : List Mark) : Type 0 where
   -- as many literals are held
   pub held_in : (k : ℕ) → k < length marks → (get_or marks k no_mark).held ≤ length held
   -- as many terms are watched
@@ -47,4 +47,4 @@ pub record AreMarks (held : List Lit) (watched : List TermId) (marks : List Mark
   -- later marks have no fewer terms
   pub watched_order : (i j : ℕ) → i ≤ j → j < length marks → (get_or marks i no_mark).watched ≤ (get_or marks j no_mark).watched
   -- at a mark the literals were over the terms
-  pub over : (k : ℕ) → k < length marks → AreOver (take (get_or marks k no_mark).held held) (take (get_or marks k no_mark).watched watched)
+  pub over : (k : ℕ) → k < length marks → AreOverWatched (take (get_or marks k no_mark).held held) (take (get_or marks k no_mark).watched watched)

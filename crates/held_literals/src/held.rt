@@ -2,7 +2,7 @@
 
 ghost use Rattle.std.specs.Prelude.{◌≡◌, ◌<◌, ◌≤◌, [], length, get_or, Contains, MatchResult};
 ghost use Rattle.proof_log.specs.Theories.{with_held, with_watched, with_mark, at_mark, gone_back};
-ghost use Rattle.held_literals.specs.Room.{without_mark, IsHeldOver, AreMarks};
+ghost use Rattle.held_literals.specs.Room.{without_mark, IsHeldOver, AreHeldMarks};
 
 use std::alloc::Global;
 use std::marker::Model;
@@ -30,7 +30,7 @@ pub struct HeldLiterals {
 impl Model for HeldLiterals {
     ghost use Rattle.std.specs.Prelude.{vec_capacity};
     ghost use Rattle.proof_log.specs.Theories.{TheoryView};
-    ghost use Rattle.held_literals.specs.Room.{HasRoom, AreMarks, marks_of};
+    ghost use Rattle.held_literals.specs.Room.{HasRoom, AreHeldMarks, marks_of};
 
     ghost Value = { TheoryView };
 
@@ -41,7 +41,7 @@ impl Model for HeldLiterals {
     } };
 
     ghost invariant = { λ h. HasRoom h.held.items h.watched.items (vec_capacity h.held)
-        × AreMarks h.held.items h.watched.items (marks_of h.marks.items) };
+        × AreHeldMarks h.held.items h.watched.items (marks_of h.marks.items) };
 }
 
 impl HeldLiterals {
@@ -101,7 +101,7 @@ impl HeldLiterals {
 
     /// States that marks are in order, each of no more than what is held and watched.
     pub fn marks_are_prefixes(&self)
-        ensures { AreMarks self.now.held self.now.watched self.now.marks }
+        ensures { AreHeldMarks self.now.held self.now.watched self.now.marks }
     {
         let _ = &self.held;
     }

@@ -25,7 +25,7 @@ use Rattle.linear_form.specs.Coefficients.{coefficient_meant, coefficients_meant
 use Rattle.linear_form.specs.Literals.{one_meant, relation_meant}
 use Rattle.linear_form.specs.Making.{FailsBy, with_front}
 use Rattle.linear_form.specs.Meant.{FormView, form_meant}
-use Rattle.linear_form.specs.Sums.{part_meant, parts_meant, HasVariablesOf, HaveVariablesOf, difference_meant, fault_by, Judges}
+use Rattle.linear_form.specs.Sums.{part_meant, parts_meant, HasVariablesOf, HaveVariablesOf, difference_meant, fault_by, JudgesSum}
 use Rattle.linear_form.specs.Clauses.{pair_meant, pairs_meant, HasPairIn, HavePairsIn, number_meant, numbered_meant, HasNumberIn, HaveNumbersIn, paired_one, option_front, Pushes, judged_numbers}
 use Rattle.linear_form.proofs.Indexes.{left_at}
 
@@ -173,20 +173,20 @@ pub pair_sides : (t : TableView) (done new : List (Negation × Coeff)) (p : Nega
 pair_sides t done new p e all here = subst (HavePairsIn t) (sym e) (All-push (HasPairIn t) done p all here)
 
 -- the judgement, level by level
-pub parts_judged : (ns : List (sums.Negation × Fraction)) (qs : List sums.Part) (r : Result (Unit {0}) ArithFault) → parts_of ns ≡ Ok qs → Judges (judged_parts qs) r → Judges (judged_numbers ns) r
+pub parts_judged : (ns : List (sums.Negation × Fraction)) (qs : List sums.Part) (r : Result (Unit {0}) ArithFault) → parts_of ns ≡ Ok qs → JudgesSum (judged_parts qs) r → JudgesSum (judged_numbers ns) r
 unfolding judged_numbers ◌>>=◌
-parts_judged ns qs r e h = subst (λ a. Judges a r) (sym (ap (λ a. as_failure a >>= λ qs. judged_parts qs) e)) h
+parts_judged ns qs r e h = subst (λ a. JudgesSum a r) (sym (ap (λ a. as_failure a >>= λ qs. judged_parts qs) e)) h
 
-pub parts_fail : (ns : List (sums.Negation × Fraction)) (s : Stop) → FailsBy (parts_of ns) s → Judges (judged_numbers ns) (Err (fault_by s))
+pub parts_fail : (ns : List (sums.Negation × Fraction)) (s : Stop) → FailsBy (parts_of ns) s → JudgesSum (judged_numbers ns) (Err (fault_by s))
 unfolding judged_numbers ◌>>=◌
 parts_fail ns (stops.Wide w) e = ap (λ a. as_failure a >>= λ qs. judged_parts qs) e
 parts_fail ns stops.Memory e = tt
 
-pub numbers_judged : (ps : List (sums.Negation × sums.Coefficient)) (ns : List (sums.Negation × Fraction)) (r : Result (Unit {0}) ArithFault) → numbered ps ≡ Ok ns → Judges (judged_numbers ns) r → Judges (judged_pairs (Some ps)) r
+pub numbers_judged : (ps : List (sums.Negation × sums.Coefficient)) (ns : List (sums.Negation × Fraction)) (r : Result (Unit {0}) ArithFault) → numbered ps ≡ Ok ns → JudgesSum (judged_numbers ns) r → JudgesSum (judged_pairs (Some ps)) r
 unfolding judged_numbers ◌>>=◌
-numbers_judged ps ns r e h = subst (λ a. Judges a r) (sym (ap (λ a. as_failure a >>= λ ns. as_failure (parts_of ns) >>= λ qs. judged_parts qs) e)) h
+numbers_judged ps ns r e h = subst (λ a. JudgesSum a r) (sym (ap (λ a. as_failure a >>= λ ns. as_failure (parts_of ns) >>= λ qs. judged_parts qs) e)) h
 
-pub numbers_fail : (ps : List (sums.Negation × sums.Coefficient)) (s : Stop) → FailsBy (numbered ps) s → Judges (judged_pairs (Some ps)) (Err (fault_by s))
+pub numbers_fail : (ps : List (sums.Negation × sums.Coefficient)) (s : Stop) → FailsBy (numbered ps) s → JudgesSum (judged_pairs (Some ps)) (Err (fault_by s))
 unfolding ◌>>=◌
 numbers_fail ps (stops.Wide w) e = ap (λ a. as_failure a >>= λ ns. as_failure (parts_of ns) >>= λ qs. judged_parts qs) e
 numbers_fail ps stops.Memory e = tt

@@ -15,7 +15,7 @@ use Rattle.linear_form.specs.declared.stop.Stop.{Stop}
 use Rattle.linear_form.specs.declared.stop.Stop.TheVariants as stops
 use Rattle.linear_form.specs.Meant.{FormView, form_meant}
 use Rattle.linear_form.specs.Entries.{unless_dead, live, variables_meant}
-use Rattle.linear_form.specs.Making.{FailsBy, Comes, Makes}
+use Rattle.linear_form.specs.Making.{FailsBy, Comes, ReturnsMade}
 use Rattle.linear_form.proofs.Indexes.{live-append, live_one, list_at}
 use Rattle.linear_form.proofs.Joining.{fails_on}
 
@@ -101,18 +101,18 @@ changed_opposite t c ps v e = subst (λ (v : FormView). changed (λ k. Ok (oppos
 pub changed_same : (t : TableView) (c : Fraction) (ps : List (TermId × Ratio)) (v : FormView) → view_of c ps ≡ v → changed (λ k. Ok k) (form_meant t v) ≡ Ok (form_meant t v)
 changed_same t c ps v e = subst (λ (v : FormView). changed (λ k. Ok k) (form_meant t v) ≡ Ok (form_meant t v)) e (same_by t c ps)
 
-pub makes_as : (a b : Answer Form) (r : Result FormView Stop) (meant : FormView → Form) → a ≡ b → Makes a r meant → Makes b r meant
-makes_as a b r meant e h = subst (λ x. Makes x r meant) e h
+pub makes_as : (a b : Answer Form) (r : Result FormView Stop) (meant : FormView → Form) → a ≡ b → ReturnsMade a r meant → ReturnsMade b r meant
+makes_as a b r meant e h = subst (λ x. ReturnsMade x r meant) e h
 
 -- what always comes fails by memory alone
-pub made_alone : (a : TableView → Form) (r : Result FormView Stop) → ((t : TableView) → Makes (let x : Answer Form = Ok (a t) in x) r (form_meant t)) → IfOk r (λ g. (t : TableView) → form_meant t g ≡ a t)
+pub made_alone : (a : TableView → Form) (r : Result FormView Stop) → ((t : TableView) → ReturnsMade (let x : Answer Form = Ok (a t) in x) r (form_meant t)) → IfOk r (λ g. (t : TableView) → form_meant t g ≡ a t)
 made_alone a (Ok g) h = λ t. by t (h t)
   where
     by : (t : TableView) → (let x : Answer Form = Ok (a t) in x) ≡ Ok (form_meant t g) → form_meant t g ≡ a t
     by t e = cc
 made_alone a (Err s) h = tt
 
-pub stops_alone : (a : Form) (t : TableView) (r : Result FormView Stop) → Makes (let x : Answer Form = Ok a in x) r (form_meant t) → IfErr r (λ e. e ≡ stops.Memory)
+pub stops_alone : (a : Form) (t : TableView) (r : Result FormView Stop) → ReturnsMade (let x : Answer Form = Ok a in x) r (form_meant t) → IfErr r (λ e. e ≡ stops.Memory)
 stops_alone a t (Ok g) h = tt
 stops_alone a t (Err stops.Memory) h = refl
 stops_alone a t (Err (stops.Wide w)) h = cc

@@ -3,7 +3,7 @@ use Rattle.std.proofs.Common.{◌≡◌, ℕ, ◌<◌, ◌⊎◌, inl, inr, List
 use Rattle.std.specs.Ordering.{nat_cmp}
 use Rattle.std.specs.BTreeMap.Range.{IsLtBy}
 use Rattle.term_core.specs.Tables.{TableView}
-use Rattle.term_walks.specs.Orders.{In, Adds, Ascends}
+use Rattle.term_walks.specs.Orders.{In, AddsNumbers, Ascends}
 use Rattle.term_walks.proofs.Among.{in_either, all_in}
 use Rattle.term_walks.proofs.Found.{less_by, waits}
 use Rattle.linear_form.specs.Walks.{needed_at, IsOrder}
@@ -17,7 +17,7 @@ pub record IsFound (t : TableView) (root : ℕ) (waiting found : List ℕ) (top 
   pub root_there : In root waiting ⊎ In root found
   pub below : (q : ℕ) → In q waiting → q < top
 
-pub found_first : (t : TableView) (root : ℕ) (old new : List ℕ) → old ≡ [] → Adds old (needed_at t root) new → All (λ a. a < root) (needed_at t root) → root < length t.terms → IsFound t root new (root ∷ []) root
+pub found_first : (t : TableView) (root : ℕ) (old new : List ℕ) → old ≡ [] → AddsNumbers old (needed_at t root) new → All (λ a. a < root) (needed_at t root) → root < length t.terms → IsFound t root new (root ∷ []) root
 found_first t root old new e adds before lt = record {
   ascends = (λ q j. absurd j, tt);
   apart = λ q k i j. elim j [ inl is ↦ subst (λ n. q < n) (sym is) (new_below q i) | inr r ↦ absurd r ];
@@ -36,7 +36,7 @@ k_there t root k waiting rest found top f popped = f.there k (inl (waits k waiti
 pub k_below : (t : TableView) (root k : ℕ) (waiting rest found : List ℕ) (top : ℕ) → IsFound t root waiting found top → waiting ≡ rest ++ k ∷ [] → k < top
 k_below t root k waiting rest found top f popped = f.below k (waits k waiting rest popped)
 
-module _ (t : TableView) (root k : ℕ) (waiting rest new found : List ℕ) (top : ℕ) (f : IsFound t root waiting found top) (popped : waiting ≡ rest ++ k ∷ []) (low : All (λ q. IsLtBy nat_cmp q k) rest) (adds : Adds rest (needed_at t k) new) (before : All (λ a. a < k) (needed_at t k)) where
+module _ (t : TableView) (root k : ℕ) (waiting rest new found : List ℕ) (top : ℕ) (f : IsFound t root waiting found top) (popped : waiting ≡ rest ++ k ∷ []) (low : All (λ q. IsLtBy nat_cmp q k) rest) (adds : AddsNumbers rest (needed_at t k) new) (before : All (λ a. a < k) (needed_at t k)) where
   new_below : (q : ℕ) → In q new → q < k
   new_below q i = elim (adds.no_others q i) [ inl r ↦ less_by q k (all_in (λ q. IsLtBy nat_cmp q k) q rest low r) | inr a ↦ all_in (λ a. a < k) q (needed_at t k) before a ]
 

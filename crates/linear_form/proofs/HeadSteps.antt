@@ -14,19 +14,19 @@ use Rattle.term_core.specs.Tables.{TableView, term_at}
 use Rattle.linear_form.specs.declared.stop.Stop.{Stop}
 use Rattle.linear_form.specs.declared.stop.Stop.TheVariants as stops
 use Rattle.linear_form.specs.Meant.{FormView, pair_meant, form_meant, AreVariablesOf}
-use Rattle.linear_form.specs.Making.{FailsBy, Makes, forms_meant, HaveVariables, product_step}
+use Rattle.linear_form.specs.Making.{FailsBy, ReturnsMade, forms_meant, HaveVariables, product_step}
 use Rattle.linear_form.proofs.Indexes.{left_at}
 use Rattle.linear_form.proofs.Joining.{fails_on}
 
 -- the term itself as a variable
 pub variable_made : (t : TableView) (id : TermId) (a : Answer Form) (r : Result FormView Stop) → a ≡ Ok (variable_form (term_at t id))
-    → IfOk r (λ f. (t : TableView) → form_meant t f ≡ variable_form (term_at t id)) → IfErr r (λ e. e ≡ stops.Memory) → Makes a r (form_meant t)
+    → IfOk r (λ f. (t : TableView) → form_meant t f ≡ variable_form (term_at t id)) → IfErr r (λ e. e ≡ stops.Memory) → ReturnsMade a r (form_meant t)
 variable_made t id a (Ok f) e h k = e ∙ ap Ok (sym (h t))
 variable_made t id a (Err (stops.Wide w)) e h k = cc
 variable_made t id a (Err stops.Memory) e h k = tt
 
 -- a number or a negative, which only memory hinders
-pub alone_made : (t : TableView) (a : Answer Form) (b : TableView → Form) (r : Result FormView Stop) → a ≡ Ok (b t) → IfOk r (λ f. (t : TableView) → form_meant t f ≡ b t) → IfErr r (λ e. e ≡ stops.Memory) → Makes a r (form_meant t)
+pub alone_made : (t : TableView) (a : Answer Form) (b : TableView → Form) (r : Result FormView Stop) → a ≡ Ok (b t) → IfOk r (λ f. (t : TableView) → form_meant t f ≡ b t) → IfErr r (λ e. e ≡ stops.Memory) → ReturnsMade a r (form_meant t)
 alone_made t a b (Ok f) e h k = e ∙ ap Ok (sym (h t))
 alone_made t a b (Err (stops.Wide w)) e h k = cc
 alone_made t a b (Err stops.Memory) e h k = tt

@@ -21,7 +21,7 @@ use Rattle.linear_form.specs.declared.stop.Stop.{Stop}
 use Rattle.linear_form.specs.declared.stop.Stop.TheVariants as stops
 use Rattle.linear_form.specs.Meant.{pair_meant}
 use Rattle.linear_form.specs.Entries.{unless_dead, live, variables_meant, HasVariables, LacksNumber, IsLiveAt}
-use Rattle.linear_form.specs.Making.{way_meant, FailsBy, Comes, Makes}
+use Rattle.linear_form.specs.Making.{way_meant, FailsBy, Comes, ReturnsMade}
 use Rattle.linear_form.proofs.Indexes.{live-append, list_at, set_at, own_id}
 
 -- ---- why nothing comes
@@ -37,7 +37,7 @@ pub comes_err : {A : Type 0} (a : Answer A) (r : Result (Unit {0}) Stop) (s : St
 comes_err a (Ok u) s new f is = absurd is
 comes_err a (Err e) s new f is = subst (FailsBy a) (sym is) f
 
-pub makes_err : {A B : Type 0} (a : Answer A) (r : Result B Stop) (s : Stop) (meant : B → A) → FailsBy a s → IsErrAnd r (λ e. e ≡ s) → Makes a r meant
+pub makes_err : {A B : Type 0} (a : Answer A) (r : Result B Stop) (s : Stop) (meant : B → A) → FailsBy a s → IsErrAnd r (λ e. e ≡ s) → ReturnsMade a r meant
 makes_err a (Ok u) s meant f is = absurd is
 makes_err a (Err e) s meant f is = subst (FailsBy a) (sym is) f
 

@@ -20,7 +20,7 @@ use Rattle.linear_form.specs.declared.known.Known.{Known}
 use Rattle.linear_form.specs.declared.known.Known.TheVariants as known
 use Rattle.linear_form.specs.Meant.{FormView, form_meant, AreVariablesOf}
 use Rattle.linear_form.specs.Making.{fault_meant, forms_meant, HaveVariables, with_front as forms_front}
-use Rattle.linear_form.specs.Walks.{needed_by, IsKnown, KnownVariables, known_meant, AreKnown, gathered}
+use Rattle.linear_form.specs.Walks.{needed_by, IsKnown, KnownVariables, known_meant, AreKnownForms, gathered}
 
 -- the forms of terms, or the first fault
 abbrev pub forms_of : List Term → Result (List Form) Fault
@@ -128,14 +128,14 @@ named_more t ys fs gs x f h e n all =
     subst (HaveVariables t) (sym n) (All-append (AreVariablesOf t) fs (f ∷ []) (h front) (All-cons (AreVariablesOf t) f [] (subst (KnownVariables t) e last) (λ k d lt. absurd (omega (arith, lt)))))
 
 -- what is known of the arguments, gathered, is their forms
-pub gathered_known : (t : TableView) (ids : List TermId) (xs : List Known) → AreKnown t (numbers_of ids) xs → gathered (map (known_meant t) xs) ≡ forms_of (map (term_at t) ids)
+pub gathered_known : (t : TableView) (ids : List TermId) (xs : List Known) → AreKnownForms t (numbers_of ids) xs → gathered (map (known_meant t) xs) ≡ forms_of (map (term_at t) ids)
 unfolding forms
 gathered_known t [] [] h = refl
 gathered_known t [] (x ∷ xs) h = absurd h
 gathered_known t (a ∷ ids) [] h = absurd h
 gathered_known t (a ∷ ids) (x ∷ xs) h = λ i. h.0.same i >>= λ f. gathered_known t ids xs h.1 i >>= λ fs. Ok (f ∷ fs)
 
-pub all_named : (t : TableView) (ks : List ℕ) (xs : List Known) → AreKnown t ks xs → All (KnownVariables t) xs
+pub all_named : (t : TableView) (ks : List ℕ) (xs : List Known) → AreKnownForms t ks xs → All (KnownVariables t) xs
 all_named t [] [] h = λ j d lt. absurd (omega (arith, lt))
 all_named t [] (x ∷ xs) h = absurd h
 all_named t (k ∷ ks) [] h = absurd h

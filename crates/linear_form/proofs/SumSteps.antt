@@ -22,14 +22,14 @@ use Rattle.linear_form.specs.declared.stop.Stop.TheVariants as stops
 use Rattle.linear_form.specs.declared.sums.Part.{Part}
 use Rattle.linear_form.specs.Meant.{form_meant}
 use Rattle.linear_form.specs.Making.{FailsBy, Comes, Finds, fault_meant}
-use Rattle.linear_form.specs.Sums.{part_meant, parts_meant, HasVariablesOf, HaveVariablesOf, added_part, stop_by, fault_by, Judges, judged_turned}
+use Rattle.linear_form.specs.Sums.{part_meant, parts_meant, HasVariablesOf, HaveVariablesOf, added_part, stop_by, fault_by, JudgesSum, judged_turned}
 use Rattle.linear_form.proofs.Indexes.{left_at}
 use Rattle.linear_form.proofs.Joining.{fails_on}
 
 -- an error from below says why the clause is not taken
-pub judges_failed : (a : Result (Unit {0}) Failure) (r : Result (Unit {0}) ArithFault) (s : Stop) → IsErrAnd r (λ e. e ≡ fault_by s) → Judges a (Err (fault_by s)) → Judges a r
+pub judges_failed : (a : Result (Unit {0}) Failure) (r : Result (Unit {0}) ArithFault) (s : Stop) → IsErrAnd r (λ e. e ≡ fault_by s) → JudgesSum a (Err (fault_by s)) → JudgesSum a r
 judges_failed a (Ok b) s is h = absurd is
-judges_failed a (Err e) s is h = subst (λ f. Judges a (Err f)) (sym is) h
+judges_failed a (Err e) s is h = subst (λ f. JudgesSum a (Err f)) (sym is) h
 
 -- the size of a number
 pub size_below : (x : Fraction) → int_lt x.num (pos 0) ≡ true → opposite x ≡ size x
@@ -151,20 +151,20 @@ module _ (ps : List sums.Part) where
   pub first_taken : (f : Form) → sum_of false ps ≡ Ok f → cannot_hold (is_strict ps) f ≡ true → judged_parts ps ≡ Ok tt
   first_taken f e h = first f true e h
 
-  pub first_fails : (s : Stop) → FailsBy (sum_of false ps) s → Judges (judged_parts ps) (Err (fault_by s))
+  pub first_fails : (s : Stop) → FailsBy (sum_of false ps) s → JudgesSum (judged_parts ps) (Err (fault_by s))
   unfolding ◌>>=◌
   first_fails (stops.Wide w) e = ap (λ a. as_failure a >>= λ f. judged_first ps f) e
   first_fails stops.Memory e = tt
 
-  pub goes_on : (f : Form) (r : Result (Unit {0}) ArithFault) → sum_of false ps ≡ Ok f → cannot_hold (is_strict ps) f ≡ false → Judges (judged_turned ps) r → Judges (judged_parts ps) r
+  pub goes_on : (f : Form) (r : Result (Unit {0}) ArithFault) → sum_of false ps ≡ Ok f → cannot_hold (is_strict ps) f ≡ false → JudgesSum (judged_turned ps) r → JudgesSum (judged_parts ps) r
   unfolding judged_turned
-  goes_on f r e h k = subst (λ a. Judges a r) (sym (first f false e h)) k
+  goes_on f r e h k = subst (λ a. JudgesSum a r) (sym (first f false e h)) k
 
   pub turned_taken : (g : Form) (b : Bool) → sum_of true ps ≡ Ok g → cannot_hold (is_strict ps) g ≡ b → judged_turned ps ≡ taken_if b
   unfolding ◌>>=◌ judged_turned
   turned_taken g b k l = ap (λ a. as_failure a >>= λ g. judged_last ps g) k ∙ ap taken_if l
 
-  pub turned_fails : (s : Stop) → FailsBy (sum_of true ps) s → Judges (judged_turned ps) (Err (fault_by s))
+  pub turned_fails : (s : Stop) → FailsBy (sum_of true ps) s → JudgesSum (judged_turned ps) (Err (fault_by s))
   unfolding ◌>>=◌ judged_turned
   turned_fails (stops.Wide w) k = ap (λ a. as_failure a >>= λ g. judged_last ps g) k
   turned_fails stops.Memory k = tt

@@ -48,9 +48,9 @@ Comes a (Ok u) new = a ≡ Ok new
 Comes a (Err s) new = FailsBy a s
 
 -- what was to be made is returned, or why it was not is said
-abbrev pub Makes : {A B : Type 0} → Answer A → Result B Stop → (B → A) → Type 0
-Makes a (Ok b) meant = a ≡ Ok (meant b)
-Makes a (Err s) meant = FailsBy a s
+abbrev pub ReturnsMade : {A B : Type 0} → Answer A → Result B Stop → (B → A) → Type 0
+ReturnsMade a (Ok b) meant = a ≡ Ok (meant b)
+ReturnsMade a (Err s) meant = FailsBy a s
 
 -- an overflow with the term whose head makes it
 abbrev pub fault_meant : TableView → TermId → Wide → Fault

@@ -13,7 +13,7 @@ abbrev pub IsNoPair : Head → Term → Type 0
 IsNoPair h e = (s t : Term) → e ≡ pair h s t → ⊥
 
 -- The term is a head before the terms of two numbers.
-pub record IsPair (table : TableView) (h : Head) (e : Term) (p : TermId × TermId) : Type 0 where
+pub record IsBinaryTerm (table : TableView) (h : Head) (e : Term) (p : TermId × TermId) : Type 0 where
   -- the numbers are of the table's
   pub left_there : IsIn table p.0
   pub right_there : IsIn table p.1

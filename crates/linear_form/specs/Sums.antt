@@ -52,12 +52,12 @@ fault_by (stops.Wide w) = verdicts.Wide w
 fault_by stops.Memory = verdicts.Memory
 
 -- the code judges as the definition does; out of memory says nothing
-abbrev pub Judges : Result (Unit {0}) Failure → Result (Unit {0}) ArithFault → Type 0
-Judges a (Ok u) = a ≡ Ok tt
-Judges a (Err verdicts.Shape) = a ≡ Err shape
-Judges a (Err verdicts.NoContradiction) = a ≡ Err no_contradiction
-Judges a (Err (verdicts.Wide w)) = a ≡ Err (wide (overflow w))
-Judges a (Err verdicts.Memory) = Unit {0}
+abbrev pub JudgesSum : Result (Unit {0}) Failure → Result (Unit {0}) ArithFault → Type 0
+JudgesSum a (Ok u) = a ≡ Ok tt
+JudgesSum a (Err verdicts.Shape) = a ≡ Err shape
+JudgesSum a (Err verdicts.NoContradiction) = a ≡ Err no_contradiction
+JudgesSum a (Err (verdicts.Wide w)) = a ≡ Err (wide (overflow w))
+JudgesSum a (Err verdicts.Memory) = Unit {0}
 
 -- the clause by the sum with turned equalities alone
 unfoldable pub judged_turned : List sums.Part → Result (Unit {0}) Failure

@@ -91,11 +91,11 @@ pub record IsKnown (t : TableView) (k : ℕ) (x : Known) : Type 0 where
   pub there : KnownVariables t x
 
 -- what is known of each of these terms, in order
-abbrev pub AreKnown : TableView → List ℕ → List Known → Type 0
-AreKnown t [] [] = Unit {0}
-AreKnown t [] (x ∷ xs) = ⊥
-AreKnown t (k ∷ ks) [] = ⊥
-AreKnown t (k ∷ ks) (x ∷ xs) = IsKnown t k x × AreKnown t ks xs
+abbrev pub AreKnownForms : TableView → List ℕ → List Known → Type 0
+AreKnownForms t [] [] = Unit {0}
+AreKnownForms t [] (x ∷ xs) = ⊥
+AreKnownForms t (k ∷ ks) [] = ⊥
+AreKnownForms t (k ∷ ks) (x ∷ xs) = IsKnown t k x × AreKnownForms t ks xs
 
 -- something is there, and is known of a term
 abbrev pub HeldBy : TableView → ℕ → Option Known → Type 0
@@ -103,12 +103,12 @@ HeldBy t k None = ⊥
 HeldBy t k (Some x) = IsKnown t k x
 
 -- what is known of a term stands at the place
-abbrev pub Holds : TableView → List (Option Known) → ℕ → ℕ → Type 0
-Holds t slots j k = HeldBy t k (get_or slots j None)
+abbrev pub SlotHolds : TableView → List (Option Known) → ℕ → ℕ → Type 0
+SlotHolds t slots j k = HeldBy t k (get_or slots j None)
 
 -- what is still used stands at its place
-abbrev pub IsReady : TableView → (order last : List ℕ) → List (Option Known) → ℕ → Type 0
-IsReady t order last slots tick = (j : ℕ) → j < length slots → tick ≤ get_or last j 0 → Holds t slots j (get_or order j 0)
+abbrev pub HoldsUsed : TableView → (order last : List ℕ) → List (Option Known) → ℕ → Type 0
+HoldsUsed t order last slots tick = (j : ℕ) → j < length slots → tick ≤ get_or last j 0 → SlotHolds t slots j (get_or order j 0)
 
 -- all forms, or the first fault
 abbrev pub gathered : List (Result Form Fault) → Result (List Form) Fault

@@ -4,8 +4,8 @@ ghost use Rattle.std.specs.Prelude.{◌≡◌, Some, true, IfOk, IfSome};
 ghost use Rattle.spec_arithmetic.specs.Contradictions.{la_generic, judged_pairs, negation_of, paired, numbered, parts_of};
 ghost use Rattle.term_core.specs.Tables.{TableView, IsIn, AreIn, term_at, clause_at};
 ghost use Rattle.linear_form.specs.Coefficients.{coefficient_meant, coefficients_meant};
-ghost use Rattle.linear_form.specs.Making.{Makes};
-ghost use Rattle.linear_form.specs.Sums.{parts_meant, HaveVariablesOf, Judges};
+ghost use Rattle.linear_form.specs.Making.{ReturnsMade};
+ghost use Rattle.linear_form.specs.Sums.{parts_meant, HaveVariablesOf, JudgesSum};
 ghost use Rattle.linear_form.specs.Clauses.{pairs_meant, pairs_option, HasPairIn, HavePairsIn, numbered_meant, HaveNumbersIn, pair_option, paired_one, Pushes, with_coefficient, judged_numbers};
 
 use crate::arith_fault::ArithFault;
@@ -80,7 +80,7 @@ fn push_number(numbers: &mut Vec<(Negation, Ratio)>, pair: (Negation, Coeff)) ->
 
 /// Gives the arguments' numbers, or the first that leaves the bound.
 fn numbers_of(alloc: Global, pairs: &[(Negation, Coeff)]) -> Result<Vec<(Negation, Ratio)>, Stop>
-    ensures comes { (t : TableView) → Makes (numbered (pairs_meant t pairs.now)) result
+    ensures comes { (t : TableView) → ReturnsMade (numbered (pairs_meant t pairs.now)) result
         (λ v. numbered_meant t v.items) }
     ensures there { IfOk result (λ v. (t : TableView) → HavePairsIn t pairs.now → HaveNumbersIn t v.items) }
 {
@@ -98,7 +98,7 @@ fn make_parts(
     numbers: &[(Negation, Ratio)],
 ) -> Result<Vec<Part>, Stop>
     requires there { HaveNumbersIn table.now numbers.now }
-    ensures comes { Makes (parts_of (numbered_meant table.now numbers.now)) result
+    ensures comes { ReturnsMade (parts_of (numbered_meant table.now numbers.now)) result
         (λ v. parts_meant table.now v.items) }
     ensures there { IfOk result (λ v. HaveVariablesOf table.now v.items) }
 {
@@ -122,7 +122,7 @@ fn judge_numbers(
     numbers: &[(Negation, Ratio)],
 ) -> Result<(), ArithFault>
     requires there { HaveNumbersIn table.now numbers.now }
-    ensures { Judges (judged_numbers (numbered_meant table.now numbers.now)) result }
+    ensures { JudgesSum (judged_numbers (numbered_meant table.now numbers.now)) result }
 {
     table.ids_are_unique();
     let parts = make_parts(alloc, table, numbers)?;
@@ -136,7 +136,7 @@ fn judge_pairs(
     pairs: &[(Negation, Coeff)],
 ) -> Result<(), ArithFault>
     requires there { HavePairsIn table.now pairs.now }
-    ensures { Judges (judged_pairs (Some (pairs_meant table.now pairs.now))) result }
+    ensures { JudgesSum (judged_pairs (Some (pairs_meant table.now pairs.now))) result }
 {
     let numbers = numbers_of(alloc, pairs)?;
     judge_numbers(alloc, table, numbers.as_slice())
@@ -164,7 +164,7 @@ pub fn la_generic(
     coeffs: &[Coeff],
 ) -> Result<(), ArithFault>
     requires there { AreIn table.now clause.now }
-    ensures exact { Judges (la_generic (clause_at table.now clause.now) (coefficients_meant coeffs.now)) result }
+    ensures exact { JudgesSum (la_generic (clause_at table.now clause.now) (coefficients_meant coeffs.now)) result }
 {
     match pairs_of(alloc, table, clause, coeffs)? {
         Some(pairs) => judge_pairs(alloc, table, pairs.as_slice()),

@@ -6,7 +6,7 @@ ghost use Rattle.ratio128.specs.Meant.{fraction};
 ghost use Rattle.term_core.specs.Tables.{TableView, IsIn, AreDifferent, term_at};
 ghost use Rattle.linear_form.specs.Meant.{form_meant, AreVariablesOf};
 ghost use Rattle.linear_form.specs.Entries.{live, pair_view};
-ghost use Rattle.linear_form.specs.Making.{way_meant, change_meant, CanChange, Comes, Makes};
+ghost use Rattle.linear_form.specs.Making.{way_meant, change_meant, CanChange, Comes, ReturnsMade};
 
 use crate::entries::{both, change_all, changed_number, is_zero, join_all, push_entry};
 pub use crate::entries::{Change, Way};
@@ -153,7 +153,7 @@ pub fn combine(e: &mut Form, way: Way, f: &Form) -> Result<(), Stop>
 pub fn made_by(alloc: Global, f: &Form, change: Change) -> Result<Form, Stop>
     requires { CanChange change }
     ensures comes { (t : TableView)
-        → Makes (changed (change_meant change) (form_meant t f.now)) result (form_meant t) }
+        → ReturnsMade (changed (change_meant change) (form_meant t f.now)) result (form_meant t) }
     ensures there { IfOk result (λ g. (t : TableView) → AreVariablesOf t f.now → AreVariablesOf t g) }
 {
     let constant = changed_number(change, f.constant)?;

@@ -5,7 +5,7 @@ ghost use Rattle.spec_sorts.specs.Terms.{Minus, Divide};
 ghost use Rattle.spec_arithmetic.specs.Forms.{all_added, all_multiplied, quotient_form, form_by};
 ghost use Rattle.term_core.specs.Tables.{TableView, IsIn, AreDifferent, term_at, head_meant};
 ghost use Rattle.linear_form.specs.Meant.{form_meant, AreVariablesOf};
-ghost use Rattle.linear_form.specs.Making.{Makes, forms_meant, HaveVariables, product_step, option_meant};
+ghost use Rattle.linear_form.specs.Making.{ReturnsMade, forms_meant, HaveVariables, product_step, option_meant};
 
 use crate::entries::is_zero;
 use crate::form::{Change, Form, Way, combine, constant_alone, made_by, negative, variable_alone};
@@ -17,7 +17,7 @@ use term_core::{Head, TermId};
 /// Adds forms, in order, to the first.
 fn add_all(mut sum: Form, others: &[Form]) -> Result<Form, Stop>
     ensures comes { (t : TableView) → AreDifferent t.terms → AreVariablesOf t sum → HaveVariables t others.now
-        → Makes (all_added (form_meant t sum) (forms_meant t others.now)) result (form_meant t) }
+        → ReturnsMade (all_added (form_meant t sum) (forms_meant t others.now)) result (form_meant t) }
     ensures there { IfOk result (λ f. (t : TableView) → AreVariablesOf t sum → HaveVariables t others.now
         → AreVariablesOf t f) }
 {
@@ -30,7 +30,7 @@ fn add_all(mut sum: Form, others: &[Form]) -> Result<Form, Stop>
 /// Multiplies two forms, where one has no variables: the left one is the factor if both have none.
 fn multiply(alloc: Global, left: &Form, right: &Form) -> Result<Option<Form>, Stop>
     ensures comes { (t : TableView)
-        → Makes (product_step (form_meant t left.now) (form_meant t right.now)) result (option_meant t) }
+        → ReturnsMade (product_step (form_meant t left.now) (form_meant t right.now)) result (option_meant t) }
     ensures there { IfOk result (λ o. IfSome o (λ f. (t : TableView)
         → AreVariablesOf t left.now → AreVariablesOf t right.now → AreVariablesOf t f)) }
 {
@@ -50,7 +50,7 @@ fn multiply(alloc: Global, left: &Form, right: &Form) -> Result<Option<Form>, St
 /// Multiplies forms from the left; where two of them have variables, the term itself is a variable.
 fn multiply_all(alloc: Global, id: TermId, first: Form, others: &[Form]) -> Result<Form, Stop>
     ensures comes { (t : TableView)
-        → Makes (all_multiplied (term_at t id) (form_meant t first) (forms_meant t others.now)) result (form_meant t) }
+        → ReturnsMade (all_multiplied (term_at t id) (form_meant t first) (forms_meant t others.now)) result (form_meant t) }
     ensures there { IfOk result (λ f. (t : TableView) → IsIn t id → AreVariablesOf t first → HaveVariables t others.now
         → AreVariablesOf t f) }
 {
@@ -67,7 +67,7 @@ fn multiply_all(alloc: Global, id: TermId, first: Form, others: &[Form]) -> Resu
 /// Divides a form by one that is a number other than 0; else the term itself is a variable.
 fn divide(alloc: Global, id: TermId, left: &Form, right: &Form) -> Result<Form, Stop>
     ensures comes { (t : TableView)
-        → Makes (quotient_form (term_at t id) (form_meant t left.now) (form_meant t right.now)) result (form_meant t) }
+        → ReturnsMade (quotient_form (term_at t id) (form_meant t left.now) (form_meant t right.now)) result (form_meant t) }
     ensures there { IfOk result (λ f. (t : TableView) → IsIn t id → AreVariablesOf t left.now → AreVariablesOf t f) }
 {
     if !right.is_constant() {
@@ -85,7 +85,7 @@ fn divide(alloc: Global, id: TermId, left: &Form, right: &Form) -> Result<Form, 
 /// Where two forms with variables meet in a product, or the divisor has variables or is 0, the term itself is a variable.
 pub fn by_head(alloc: Global, id: TermId, head: Head, mut forms: Vec<Form>) -> Result<Form, Stop>
     ensures comes { (t : TableView) → AreDifferent t.terms → HaveVariables t forms.items
-        → Makes (form_by (term_at t id) (head_meant t head) (forms_meant t forms.items)) result (form_meant t) }
+        → ReturnsMade (form_by (term_at t id) (head_meant t head) (forms_meant t forms.items)) result (form_meant t) }
     ensures there { IfOk result (λ f. (t : TableView) → IsIn t id → HaveVariables t forms.items
         → AreVariablesOf t f) }
 {
@@ -109,7 +109,7 @@ fn by_first(
 ) -> Result<Form, Stop>
     requires { (q : Ratio) → head ≢ Head.Literal q }
     ensures comes { (t : TableView) → AreDifferent t.terms → AreVariablesOf t first → HaveVariables t others.now
-        → Makes (form_by (term_at t id) (head_meant t head) (form_meant t first ∷ forms_meant t others.now))
+        → ReturnsMade (form_by (term_at t id) (head_meant t head) (form_meant t first ∷ forms_meant t others.now))
         result (form_meant t) }
     ensures there { IfOk result (λ f. (t : TableView) → IsIn t id → AreVariablesOf t first → HaveVariables t others.now
         → AreVariablesOf t f) }
@@ -126,7 +126,7 @@ fn by_first(
 /// Negates a form, or subtracts one other from it.
 fn by_minus(alloc: Global, id: TermId, mut first: Form, others: &[Form]) -> Result<Form, Stop>
     ensures comes { (t : TableView) → AreDifferent t.terms → AreVariablesOf t first → HaveVariables t others.now
-        → Makes (form_by (term_at t id) Minus (form_meant t first ∷ forms_meant t others.now)) result (form_meant t) }
+        → ReturnsMade (form_by (term_at t id) Minus (form_meant t first ∷ forms_meant t others.now)) result (form_meant t) }
     ensures there { IfOk result (λ f. (t : TableView) → IsIn t id → AreVariablesOf t first → HaveVariables t others.now
         → AreVariablesOf t f) }
 {
@@ -143,7 +143,7 @@ fn by_minus(alloc: Global, id: TermId, mut first: Form, others: &[Form]) -> Resu
 /// Divides a form by one other.
 fn by_divide(alloc: Global, id: TermId, first: Form, others: &[Form]) -> Result<Form, Stop>
     ensures comes { (t : TableView) → AreDifferent t.terms → AreVariablesOf t first → HaveVariables t others.now
-        → Makes (form_by (term_at t id) Divide (form_meant t first ∷ forms_meant t others.now)) result (form_meant t) }
+        → ReturnsMade (form_by (term_at t id) Divide (form_meant t first ∷ forms_meant t others.now)) result (form_meant t) }
     ensures there { IfOk result (λ f. (t : TableView) → IsIn t id → AreVariablesOf t first → HaveVariables t others.now
         → AreVariablesOf t f) }
 {

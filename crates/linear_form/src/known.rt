@@ -2,7 +2,7 @@
 
 ghost use Rattle.std.specs.Prelude.{◌≡◌, ◌++◌, ◌∷◌, [], ℕ, map, All, IfOk, OnOk};
 ghost use Rattle.term_core.specs.Tables.{TableView, IsIn};
-ghost use Rattle.linear_form.specs.Walks.{needed_at, known_meant, KnownVariables, IsKnown, AreKnown, gathered, forms_made, MadeVariables};
+ghost use Rattle.linear_form.specs.Walks.{needed_at, known_meant, KnownVariables, IsKnown, AreKnownForms, gathered, forms_made, MadeVariables};
 
 use crate::form::{Form, copy};
 use crate::heads::by_head;
@@ -75,7 +75,7 @@ pub fn known_of(
     arguments: Vec<Known>,
 ) -> Result<Known, NoMemory>
     requires there { IsIn table.now id }
-    requires known { AreKnown table.now (needed_at table.now id.0) arguments.items }
+    requires known { AreKnownForms table.now (needed_at table.now id.0) arguments.items }
     ensures { IfOk result (IsKnown table.now id.0) }
 {
     table.ids_are_unique();

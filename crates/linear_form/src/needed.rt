@@ -2,7 +2,7 @@
 
 ghost use Rattle.std.specs.Prelude.{◌≡◌, ◌<◌, All, IfOk, OnOk};
 ghost use Rattle.term_core.specs.Tables.{IsIn};
-ghost use Rattle.term_walks.specs.Orders.{numbers_of, Adds};
+ghost use Rattle.term_walks.specs.Orders.{numbers_of, AddsNumbers};
 ghost use Rattle.linear_form.specs.Walks.{needed_by, needed_at, IsOrder};
 
 use std::alloc::Global;
@@ -54,7 +54,7 @@ pub fn order_of(alloc: Global, table: &TermTable, id: TermId) -> Result<Vec<u64>
 
 /// Puts numbers among those that wait.
 fn add_all(waiting: &mut BTreeSet<u64>, ids: &[TermId]) -> Result<(), NoMemory>
-    ensures { OnOk result (Adds waiting.old.keys (numbers_of ids.now) waiting.new.keys) }
+    ensures { OnOk result (AddsNumbers waiting.old.keys (numbers_of ids.now) waiting.new.keys) }
 {
     'ids: for at in 0..ids.len() {
         waiting.insert(ids[at].0)?;

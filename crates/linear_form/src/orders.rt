@@ -4,7 +4,7 @@ ghost use Rattle.std.specs.Prelude.{◌≡◌, MatchOption, MatchResult};
 ghost use Rattle.spec_sorts.specs.Terms.{Or, Equal, AtMost, Not, negated};
 ghost use Rattle.spec_arithmetic.specs.ArithmeticRules.{at_most, split, order, IsOfNumbers};
 ghost use Rattle.term_core.specs.Tables.{IsIn, AreIn, term_at, clause_at};
-ghost use Rattle.linear_form.specs.Orders.{Tests, IsNoPair, IsPair, IsNoTriple, IsTriple, IsNoNegation, IsNegation};
+ghost use Rattle.linear_form.specs.Orders.{Tests, IsNoPair, IsBinaryTerm, IsNoTriple, IsTriple, IsNoNegation, IsNegation};
 
 use crate::literals::are_numbers;
 use term_core::{Head, RuleFails, TermId, TermTable};
@@ -13,7 +13,7 @@ use term_core::{Head, RuleFails, TermId, TermTable};
 fn equality_sides(table: &TermTable, id: TermId) -> Option<(TermId, TermId)>
     requires { IsIn table.now id }
     ensures { MatchOption result (IsNoPair Equal (term_at table.now id))
-        (IsPair table.now Equal (term_at table.now id)) }
+        (IsBinaryTerm table.now Equal (term_at table.now id)) }
 {
     let node = table.node(id);
     let [left, right] = node.arguments.as_slice() else {
@@ -29,7 +29,7 @@ fn equality_sides(table: &TermTable, id: TermId) -> Option<(TermId, TermId)>
 fn order_sides(table: &TermTable, id: TermId) -> Option<(TermId, TermId)>
     requires { IsIn table.now id }
     ensures { MatchOption result (IsNoPair AtMost (term_at table.now id))
-        (IsPair table.now AtMost (term_at table.now id)) }
+        (IsBinaryTerm table.now AtMost (term_at table.now id)) }
 {
     let node = table.node(id);
     let [left, right] = node.arguments.as_slice() else {
@@ -45,7 +45,7 @@ fn order_sides(table: &TermTable, id: TermId) -> Option<(TermId, TermId)>
 fn two_of(table: &TermTable, id: TermId) -> Option<(TermId, TermId)>
     requires { IsIn table.now id }
     ensures { MatchOption result (IsNoPair Or (term_at table.now id))
-        (IsPair table.now Or (term_at table.now id)) }
+        (IsBinaryTerm table.now Or (term_at table.now id)) }
 {
     let node = table.node(id);
     let [left, right] = node.arguments.as_slice() else {

@@ -2,7 +2,7 @@
 
 ghost use Rattle.std.specs.Prelude.{◌≡◌, ◌≢◌, ℕ, ◌+◌, ◌<◌, ◌≤◌, length, take, drop, OnOk, IfOk, get_or};
 ghost use Rattle.term_core.specs.Tables.{TableView};
-ghost use Rattle.linear_form.specs.Walks.{numbers_at, AreLast, IsKnown, AreKnown, Holds, IsReady};
+ghost use Rattle.linear_form.specs.Walks.{numbers_at, AreLast, IsKnown, AreKnownForms, SlotHolds, HoldsUsed};
 
 use crate::known::{Known, copy_known};
 use crate::plan::Plan;
@@ -11,8 +11,8 @@ use world_io::NoMemory;
 
 /// Copies what stands at a place.
 fn copied(alloc: Global, slots: &Vec<Option<Known>>, place: usize) -> Result<Known, NoMemory>
-    requires there { (t : TableView) × (k : ℕ) × Holds t slots.now.items place k }
-    ensures known { (t : TableView) (k : ℕ) → Holds t slots.now.items place k → IfOk result (IsKnown t k) }
+    requires there { (t : TableView) × (k : ℕ) × SlotHolds t slots.now.items place k }
+    ensures known { (t : TableView) (k : ℕ) → SlotHolds t slots.now.items place k → IfOk result (IsKnown t k) }
 {
     match &slots[place] {
         Some(known) => copy_known(alloc, known),
@@ -22,11 +22,11 @@ fn copied(alloc: Global, slots: &Vec<Option<Known>>, place: usize) -> Result<Kno
 
 /// Takes what stands at a place.
 fn taken(slots: &mut Vec<Option<Known>>, place: usize) -> Known
-    requires there { (t : TableView) × (k : ℕ) × Holds t slots.old.items place k }
-    ensures known { (t : TableView) (k : ℕ) → Holds t slots.old.items place k → IsKnown t k result }
+    requires there { (t : TableView) × (k : ℕ) × SlotHolds t slots.old.items place k }
+    ensures known { (t : TableView) (k : ℕ) → SlotHolds t slots.old.items place k → IsKnown t k result }
     ensures len { length slots.new.items ≡ length slots.old.items }
-    ensures others { (t : TableView) (j k : ℕ) → j ≢ place → Holds t slots.old.items j k
-        → Holds t slots.new.items j k }
+    ensures others { (t : TableView) (j k : ℕ) → j ≢ place → SlotHolds t slots.old.items j k
+        → SlotHolds t slots.new.items j k }
 {
     match slots[place].take() {
         Some(known) => known,
@@ -45,12 +45,12 @@ pub fn fetch(
     requires place { get_or plan.now.uses.items tick 0 < length slots.old.items }
     requires len { length slots.old.items ≤ length plan.now.last.items }
     requires last { AreLast plan.now.uses.items plan.now.last.items }
-    requires ready { (t : TableView) × IsReady t plan.now.order.items plan.now.last.items slots.old.items tick }
-    ensures known { (t : TableView) → IsReady t plan.now.order.items plan.now.last.items slots.old.items tick
+    requires ready { (t : TableView) × HoldsUsed t plan.now.order.items plan.now.last.items slots.old.items tick }
+    ensures known { (t : TableView) → HoldsUsed t plan.now.order.items plan.now.last.items slots.old.items tick
         → IfOk result (IsKnown t (get_or plan.now.order.items (get_or plan.now.uses.items tick 0) 0)) }
     ensures len { length slots.new.items ≡ length slots.old.items }
-    ensures ready { (t : TableView) → IsReady t plan.now.order.items plan.now.last.items slots.old.items tick
-        → OnOk result (IsReady t plan.now.order.items plan.now.last.items slots.new.items (tick + 1)) }
+    ensures ready { (t : TableView) → HoldsUsed t plan.now.order.items plan.now.last.items slots.old.items tick
+        → OnOk result (HoldsUsed t plan.now.order.items plan.now.last.items slots.new.items (tick + 1)) }
 {
     let place = plan.uses[tick];
     if plan.last[place] != tick {
@@ -72,13 +72,13 @@ pub fn fetch_all(
         → get_or plan.now.uses.items i 0 < length slots.old.items }
     requires len { length slots.old.items ≤ length plan.now.last.items }
     requires last { AreLast plan.now.uses.items plan.now.last.items }
-    requires ready { (t : TableView) × IsReady t plan.now.order.items plan.now.last.items slots.old.items first }
-    ensures known { (t : TableView) → IsReady t plan.now.order.items plan.now.last.items slots.old.items first
-        → IfOk result (λ v. AreKnown t
+    requires ready { (t : TableView) × HoldsUsed t plan.now.order.items plan.now.last.items slots.old.items first }
+    ensures known { (t : TableView) → HoldsUsed t plan.now.order.items plan.now.last.items slots.old.items first
+        → IfOk result (λ v. AreKnownForms t
         (take count (drop first (numbers_at plan.now.order.items plan.now.uses.items))) v.items) }
     ensures len { OnOk result (length slots.new.items ≡ length slots.old.items) }
-    ensures ready { (t : TableView) → IsReady t plan.now.order.items plan.now.last.items slots.old.items first
-        → OnOk result (IsReady t plan.now.order.items plan.now.last.items slots.new.items (first + count)) }
+    ensures ready { (t : TableView) → HoldsUsed t plan.now.order.items plan.now.last.items slots.old.items first
+        → OnOk result (HoldsUsed t plan.now.order.items plan.now.last.items slots.new.items (first + count)) }
 {
     let mut found = Vec::new(alloc);
     'uses: for done in 0..count {

@@ -7,9 +7,9 @@ ghost use Rattle.spec_arithmetic.specs.Contradictions.{is_nought, sum_of, weight
 ghost use Rattle.ratio128.specs.Meant.{fraction};
 ghost use Rattle.term_core.specs.Tables.{TableView, AreDifferent};
 ghost use Rattle.linear_form.specs.Meant.{form_meant, AreVariablesOf};
-ghost use Rattle.linear_form.specs.Making.{Makes, Comes};
+ghost use Rattle.linear_form.specs.Making.{ReturnsMade, Comes};
 ghost use Rattle.linear_form.specs.Literals.{relation_meant, AreSidesIn};
-ghost use Rattle.linear_form.specs.Sums.{part_meant, parts_meant, HaveVariablesOf, added_part, difference_meant, judged_turned, Judges};
+ghost use Rattle.linear_form.specs.Sums.{part_meant, parts_meant, HaveVariablesOf, added_part, difference_meant, judged_turned, JudgesSum};
 
 use crate::arith_fault::ArithFault;
 use crate::entries::is_zero;
@@ -62,7 +62,7 @@ pub(crate) struct Part {
 /// Makes the form of the difference of a negation's two numbers.
 pub(crate) fn difference_of(alloc: Global, table: &TermTable, n: Negation) -> Result<Form, Stop>
     requires there { AreSidesIn table.now n }
-    ensures comes { Makes (difference_meant table.now n) result (form_meant table.now) }
+    ensures comes { ReturnsMade (difference_meant table.now n) result (form_meant table.now) }
     ensures there { IfOk result (AreVariablesOf table.now) }
 {
     table.ids_are_unique();
@@ -127,7 +127,7 @@ fn add_part(alloc: Global, sum: &mut Form, part: &Part, turned: bool) -> Result<
 /// Sums parts, each multiplied by its weight, in their order.
 fn sum_of(alloc: Global, parts: &[Part], turned: bool) -> Result<Form, Stop>
     ensures { (t : TableView) → AreDifferent t.terms → HaveVariablesOf t parts.now
-        → Makes (sum_of turned (parts_meant t parts.now)) result (form_meant t) }
+        → ReturnsMade (sum_of turned (parts_meant t parts.now)) result (form_meant t) }
 {
     let mut sum = constant_alone(alloc, zero())?;
     for part in parts {
@@ -176,7 +176,7 @@ fn cannot_hold(strict: bool, sum: &Form) -> bool
 /// Judges parts by their sum with the equalities turned.
 fn judge_turned(alloc: Global, parts: &[Part]) -> Result<(), ArithFault>
     ensures { (t : TableView) → AreDifferent t.terms → HaveVariablesOf t parts.now
-        → Judges (judged_turned (parts_meant t parts.now)) result }
+        → JudgesSum (judged_turned (parts_meant t parts.now)) result }
 {
     let sum = sum_of(alloc, parts, true)?;
     if cannot_hold(is_strict(parts), &sum) {
@@ -188,7 +188,7 @@ fn judge_turned(alloc: Global, parts: &[Part]) -> Result<(), ArithFault>
 /// Judges parts by their sum; where that is no contradiction, by the one with the equalities turned.
 pub(crate) fn judge_parts(alloc: Global, parts: &[Part]) -> Result<(), ArithFault>
     ensures { (t : TableView) → AreDifferent t.terms → HaveVariablesOf t parts.now
-        → Judges (judged_parts (parts_meant t parts.now)) result }
+        → JudgesSum (judged_parts (parts_meant t parts.now)) result }
 {
     let sum = sum_of(alloc, parts, false)?;
     if cannot_hold(is_strict(parts), &sum) {

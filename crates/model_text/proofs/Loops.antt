@@ -13,7 +13,7 @@ use Rattle.term_walks.specs.declared.values.Value.{Value as CodeValue}
 use Rattle.term_walks.specs.declared.values.Row.{Row as CodeRow}
 use Rattle.term_walks.specs.declared.values.Table.{Table as CodeTable}
 use Rattle.term_walks.specs.declared.values.Interp.{Interp}
-use Rattle.term_walks.specs.Valuations.{value_meant, values_meant, row_meant, table_meant, tables_meant, no_table, Stands, HasTables}
+use Rattle.term_walks.specs.Valuations.{value_meant, values_meant, row_meant, table_meant, tables_meant, no_table, HasSymbolTables, HasTables}
 use Rattle.world_io.specs.Writing.{SinkView}
 use Rattle.world_io.proofs.Chains.{IsSending, joined, split}
 use Rattle.model_text.specs.Lines.{gap, parameter_text, parameters_listed, equalities_listed, row_front, lines_by, text_by}
@@ -81,6 +81,6 @@ lines_meant i (s ∷ ss) (t ∷ ts) l h =
     ∙ ap (λ x. definition_line i s ++ x) (lines_meant i ss ts (omega (arith, l)) (λ k m. h (suc k) (omega (arith, m))))
 
 -- under an interpretation that stands for the tables, their text is the model's
-pub text_meant : (t : TableView) (interp : Interp) (i : Interpretation) → HasTables t interp → Stands t interp i → text_by t.symbols (tables_meant t.sorts interp) ≡ model_text i t.symbols
+pub text_meant : (t : TableView) (interp : Interp) (i : Interpretation) → HasTables t interp → HasSymbolTables t interp i → text_by t.symbols (tables_meant t.sorts interp) ≡ model_text i t.symbols
 text_meant t interp i there stands =
     ap (λ x. 40 ∷ 10 ∷ x ++ 41 ∷ 10 ∷ []) (lines_meant i t.symbols (tables_meant t.sorts interp) (omega (arith, there.count, length-map interp.tables.items (table_meant t.sorts))) (λ k l. stands (record { 0 = k }) l))

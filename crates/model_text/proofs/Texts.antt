@@ -4,7 +4,7 @@ use Rattle.std.specs.Prelude.{codes}
 use Rattle.spec_text.specs.Printed.{printed, printed_all, printed_symbol}
 use Rattle.spec_text.specs.Trees.{Tree}
 use Rattle.spec_sorts.specs.Terms.{Sort, Symbol}
-use Rattle.spec_sorts.specs.Values.{Value, Row, Table}
+use Rattle.spec_sorts.specs.Values.{Value, TableRow, Table}
 use Rattle.spec_models.specs.Values.{numeral, trees_of, in_list, word_tree, sort_tree, value_tree, value_text}
 use Rattle.spec_models.specs.Models.{parameter, parameters_from, parameter_trees, equality_tree, equality_trees, condition_tree, body_tree, body_front, body_back, definition_tree, indented}
 use Rattle.world_io.specs.Writing.{SinkView}
@@ -62,14 +62,14 @@ equality_start k v a = start _ _ a (pieces (numeral k) (value_text v))
     pieces n t = simp (append_assoc) refl
 
 -- a row, before its first piece
-pub front_start : (r : Row) (a : SinkView) → IsSending (row_front r) (codes "(ite " ∷ printed (condition_tree r.arguments) ∷ codes " " ∷ value_text r.value ∷ codes " " ∷ []) a a
+pub front_start : (r : TableRow) (a : SinkView) → IsSending (row_front r) (codes "(ite " ∷ printed (condition_tree r.arguments) ∷ codes " " ∷ value_text r.value ∷ codes " " ∷ []) a a
 front_start r a = start _ _ a (pieces (printed (condition_tree r.arguments)) (printed (value_tree r.value)))
   where
     pieces : (c v : List ℕ) → codes "(ite " ++ (c ++ (codes " " ++ (v ++ codes " "))) ≡ codes "(ite " ++ c ++ codes " " ++ v ++ codes " "
     pieces c v = simp (append_assoc) refl
 
 -- one row more
-pub front_more : (r : Row) (rs : List Row) → body_front (r ∷ rs) ≡ row_front r ++ body_front rs
+pub front_more : (r : TableRow) (rs : List TableRow) → body_front (r ∷ rs) ≡ row_front r ++ body_front rs
 front_more r rs = pieces (printed (condition_tree r.arguments)) (printed (value_tree r.value)) (body_front rs)
   where
     pieces : (c v rest : List ℕ) → codes "(ite " ++ c ++ codes " " ++ v ++ codes " " ++ rest ≡ (codes "(ite " ++ c ++ codes " " ++ v ++ codes " ") ++ rest
@@ -84,7 +84,7 @@ definition_start s t a = start _ _ a (pieces (printed_symbol s.name) (printed (i
     pieces n p r b = simp (append_assoc) refl
 
 -- a body, before its first piece
-pub body_start : (rs : List Row) (d : Value) (a : SinkView) → ((rows : List Row) (v : Value) → printed (body_tree rows v) ≡ body_front rows ++ value_text v ++ body_back rows) → IsSending (printed (body_tree rs d)) (body_front rs ∷ value_text d ∷ body_back rs ∷ []) a a
+pub body_start : (rs : List TableRow) (d : Value) (a : SinkView) → ((rows : List TableRow) (v : Value) → printed (body_tree rows v) ≡ body_front rows ++ value_text v ++ body_back rows) → IsSending (printed (body_tree rs d)) (body_front rs ∷ value_text d ∷ body_back rs ∷ []) a a
 body_start rs d a by_rows = start _ _ a (pieces (body_front rs) (value_text d) (body_back rs) ∙ sym (by_rows rs d))
   where
     pieces : (f v b : List ℕ) → f ++ (v ++ (b ++ [])) ≡ f ++ v ++ b

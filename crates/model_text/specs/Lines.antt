@@ -2,7 +2,7 @@
 use Rattle.std.specs.Prelude.{ℕ, zero, suc, List, [], ◌∷◌, ◌++◌, flat_map, codes}
 use Rattle.spec_text.specs.Printed.{printed}
 use Rattle.spec_sorts.specs.Terms.{Sort, Symbol}
-use Rattle.spec_sorts.specs.Values.{Value, Row, Table}
+use Rattle.spec_sorts.specs.Values.{Value, TableRow, Table}
 use Rattle.spec_models.specs.Values.{in_list, word_tree, sort_tree, value_tree}
 use Rattle.spec_models.specs.Models.{parameter, equality_tree, condition_tree, body_tree, definition_tree, indented}
 use Rattle.term_core.specs.Symbols.{SymbolsView}
@@ -32,7 +32,7 @@ equalities_listed k [] = []
 equalities_listed k (v ∷ vs) = (32 ∷ printed (equality_tree k v)) ++ equalities_listed (suc k) vs
 
 -- a row up to where the next one begins
-abbrev pub row_front : Row → List ℕ
+abbrev pub row_front : TableRow → List ℕ
 row_front r = codes "(ite " ++ printed (condition_tree r.arguments) ++ codes " " ++ printed (value_tree r.value) ++ codes " "
 
 -- a body: the rows, the default, and what closes the rows

@@ -3,7 +3,7 @@
 ghost use Rattle.std.specs.Prelude.{flat_map};
 ghost use Rattle.spec_sorts.specs.Values.{Interpretation};
 ghost use Rattle.spec_models.specs.Models.{model_text};
-ghost use Rattle.term_walks.specs.Valuations.{tables_meant, Stands, HasTables};
+ghost use Rattle.term_walks.specs.Valuations.{tables_meant, HasSymbolTables, HasTables};
 ghost use Rattle.world_io.specs.Writing.{Sends};
 ghost use Rattle.model_text.specs.Lines.{without_terms, lines_by, text_by};
 
@@ -44,7 +44,7 @@ fn write_model<K: Sink>(interp: &Interp, symbols: &Symbols, out: &mut K) -> Resu
 /// Source: SMT-LIB 2.6, sections 4.1.8 and 4.2.6; that a table is printed by its rows is own.
 pub fn send<K: Sink>(interp: &Interp, table: &TermTable, out: &mut K) -> Result<(), Failed>
     requires { HasTables table.now interp.now }
-    ensures { (i : Interpretation) → Stands table.now interp.now i
+    ensures { (i : Interpretation) → HasSymbolTables table.now interp.now i
         → Sends (model_text i table.now.symbols) result (K.state out.old) (K.state out.new) }
 {
     write_model(interp, table.symbols(), out)

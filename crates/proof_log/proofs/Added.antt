@@ -11,36 +11,36 @@ use Rattle.term_core.specs.declared.ids.TermId.{TermId}
 use Rattle.term_core.specs.Tables.{TableView, clause_at}
 use Rattle.rule_bool.specs.declared.rule_stop.RuleStop.{RuleStop}
 use Rattle.rule_bool.specs.declared.rule_stop.RuleStop.TheVariants.{Fails, Wide as is_wide, Memory as no_memory}
-use Rattle.rule_bool.specs.Resolvents.{Stops}
+use Rattle.rule_bool.specs.Resolvents.{StopsRule}
 use Rattle.rule_bool.specs.Arguments.{texts_of}
 use Rattle.proof_log.specs.declared.premises.StepId.{StepId}
 use Rattle.proof_log.specs.declared.log_fault.LogFault.{LogFault}
 use Rattle.proof_log.specs.declared.log_fault.LogFault.TheVariants.{RuleFails, Wide, Memory}
 use Rattle.spec_derivations.specs.Derivations.{FollowsFrom}
-use Rattle.proof_log.specs.Logs.{Logged, stepped, AreOf, clauses_in, named, logged_at, inference_of, derivation_in, AreFormulasIn, IsLogOf}
+use Rattle.proof_log.specs.Logs.{Logged, stepped, AreStepsOf, clauses_in, named, logged_at, inference_of, derivation_in, AreFormulasIn, IsLogOf}
 use Rattle.proof_log.specs.Faults.{fault_of}
-use Rattle.proof_log.specs.Adding.{IsAdded, Judges, Collects}
+use Rattle.proof_log.specs.Adding.{IsAdded, JudgesClause, Collects}
 use Rattle.proof_log.proofs.Logged.{numbers_back, follows_back, wide_there, wide_back, log_push}
 
 module _ (t : TableView) (log : List Logged) (r : Rule) (ps : List StepId) (qs : List Fraction) (c : List TermId) where
   -- a premise is not there, or its copy found no memory
-  pub missing : (f : LogFault) → Collects log ps (Err f) → Judges t log (stepped r ps qs c) (Err f)
+  pub missing : (f : LogFault) → Collects log ps (Err f) → JudgesClause t log (stepped r ps qs c) (Err f)
   missing RuleFails h = (λ follows. h (numbers_back t log ps follows.0), λ wide. h (numbers_back t log ps wide.0))
   missing Wide h = absurd h
   missing Memory h = tt
 
   -- the rule does not take the step, or found no memory
-  pub refused : (stop : RuleStop) → AreOf log ps
-      → Stops stop (IsRight r (map (clause_at t) (clauses_in log ps)) (texts_of qs) (clause_at t c)) (IsWide r (map (clause_at t) (clauses_in log ps)) (texts_of qs) (clause_at t c))
-      → Judges t log (stepped r ps qs c) (Err (fault_of stop))
+  pub refused : (stop : RuleStop) → AreStepsOf log ps
+      → StopsRule stop (IsRight r (map (clause_at t) (clauses_in log ps)) (texts_of qs) (clause_at t c)) (IsWide r (map (clause_at t) (clauses_in log ps)) (texts_of qs) (clause_at t c))
+      → JudgesClause t log (stepped r ps qs c) (Err (fault_of stop))
   refused Fails there h = (λ follows. h.0 (follows_back t log r ps qs c there follows), λ wide. h.1 (wide_back t log r ps qs c there wide))
   refused is_wide there h = wide_there t log r ps qs c there h
   refused no_memory there h = tt
 
 -- an error is that fault
 pub judged : (t : TableView) (log : List Logged) (l : Logged) (result : Result (Unit {0}) LogFault) (f : LogFault) → IsErrAnd result (λ e. e ≡ f)
-    → Judges t log l (Err f) → Judges t log l result
-judged t log l (Err e) f is h = subst (λ g. Judges t log l (Err g)) (sym is) h
+    → JudgesClause t log l (Err f) → JudgesClause t log l result
+judged t log l (Err e) f is h = subst (λ g. JudgesClause t log l (Err g)) (sym is) h
 judged t log l (Ok x) f is h = absurd is
 
 -- what follows, and stands last, is added
@@ -55,9 +55,9 @@ added t old l id new h here follows is_next is_last = record {
 
 -- the numbers before, with one more, are the log's
 pub one_more_there : (log : List Logged) (ss : List StepId) (k : ℕ) (d : StepId) → k < length ss → (get_or ss k d).0 < length log
-    → AreOf log (take k ss) → AreOf log (take (k + 1) ss)
+    → AreStepsOf log (take k ss) → AreStepsOf log (take (k + 1) ss)
 one_more_there log ss k d lt here there =
-    subst (λ l. AreOf log l) (sym (rw add-one (take-suc ss k d lt))) (All-push (λ (s : StepId). s.0 < length log) (take k ss) (get_or ss k d) there here)
+    subst (λ l. AreStepsOf log l) (sym (rw add-one (take-suc ss k d lt))) (All-push (λ (s : StepId). s.0 < length log) (take k ss) (get_or ss k d) there here)
 
 -- and the clauses with one more are theirs
 pub one_more_same : (log : List Logged) (ss : List StepId) (k : ℕ) (d : StepId) (clauses new : List (List TermId)) (clause : List TermId) → k < length ss

@@ -9,7 +9,7 @@ use Rattle.term_core.specs.Tables.{TableView}
 use Rattle.proof_log.specs.declared.premises.StepId.{StepId}
 use Rattle.proof_log.specs.declared.log_fault.LogFault.{LogFault}
 use Rattle.proof_log.specs.declared.log_fault.LogFault.TheVariants.{RuleFails, Wide, Memory}
-use Rattle.proof_log.specs.Logs.{Logged, assumed, AreOf, clauses_in, inference_of, derivation_in, IsFormulaIn, IsLogOf}
+use Rattle.proof_log.specs.Logs.{Logged, assumed, AreStepsOf, clauses_in, inference_of, derivation_in, IsFormulaIn, IsLogOf}
 
 -- A term is assumed last, under the next number.
 pub record IsAssumedLast (old : List Logged) (t : TermId) (id : StepId) (new : List Logged) : Type 0 where
@@ -48,18 +48,18 @@ Faults earlier x Wide = IsWideFrom earlier x
 Faults earlier x Memory = Unit {0}
 
 -- what comes of adding a clause: it is right and stands last, or there is a fault and nothing is changed
-abbrev pub Adds : TableView → List Logged → Logged → Result StepId LogFault → List Logged → Type 0
-Adds t old l (Ok id) new = IsAdded t old l id new
-Adds t old l (Err f) new = Faults (derivation_in t old) (inference_of t l) f × (new ≡ old)
+abbrev pub AddsClause : TableView → List Logged → Logged → Result StepId LogFault → List Logged → Type 0
+AddsClause t old l (Ok id) new = IsAdded t old l id new
+AddsClause t old l (Err f) new = Faults (derivation_in t old) (inference_of t l) f × (new ≡ old)
 
 -- a clause follows from those before it, or there is a fault
-abbrev pub Judges : TableView → List Logged → Logged → Result (Unit {0}) LogFault → Type 0
-Judges t log l (Ok _) = FollowsFrom (derivation_in t log) (inference_of t l)
-Judges t log l (Err f) = Faults (derivation_in t log) (inference_of t l) f
+abbrev pub JudgesClause : TableView → List Logged → Logged → Result (Unit {0}) LogFault → Type 0
+JudgesClause t log l (Ok _) = FollowsFrom (derivation_in t log) (inference_of t l)
+JudgesClause t log l (Err f) = Faults (derivation_in t log) (inference_of t l) f
 
 -- the clauses of numbers, where these are of the log's; that they aren't; or out of memory, which tells nothing
 abbrev pub Collects : List Logged → List StepId → Result (Vec (List TermId) Global) LogFault → Type 0
-Collects log ss (Ok cs) = AreOf log ss × (cs.items ≡ clauses_in log ss)
-Collects log ss (Err RuleFails) = AreOf log ss → ⊥
+Collects log ss (Ok cs) = AreStepsOf log ss × (cs.items ≡ clauses_in log ss)
+Collects log ss (Err RuleFails) = AreStepsOf log ss → ⊥
 Collects log ss (Err Wide) = ⊥
 Collects log ss (Err Memory) = Unit {0}

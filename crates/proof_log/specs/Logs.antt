@@ -41,8 +41,8 @@ abbrev pub logged_at : List Logged → StepId → Logged
 logged_at log s = slice_index_or log s.0 no_logged
 
 -- the numbers are of the log's
-abbrev pub AreOf : List Logged → List StepId → Type 0
-AreOf log ss = All (λ s. s.0 < length log) ss
+abbrev pub AreStepsOf : List Logged → List StepId → Type 0
+AreStepsOf log ss = All (λ s. s.0 < length log) ss
 
 -- the clauses of numbers
 abbrev pub clauses_in : List Logged → List StepId → List (List TermId)

@@ -80,7 +80,7 @@ abbrev pub literals_held : TableView → TheoryView → List Literal
 literals_held t v = map (literal_at t) v.held
 
 -- What a theory watches are terms over the table's symbols, with each its arguments, and what it holds are literals of atoms.
-pub record IsOver (t : TableView) (v : TheoryView) : Type 0 where
+pub record IsTheoryOver (t : TableView) (v : TheoryView) : Type 0 where
   -- the watched terms
   pub terms : All (IsTermIn t) v.watched
   -- the arguments of a watched term are watched
@@ -96,7 +96,7 @@ pub record Derived : Type 0 where
   pub log : List Logged
 
 -- Terms and steps came, and each step is right. They are lemmas: they rest on each other alone, and speak of terms made of these.
-pub record Derives (ts : List Term) (old new : Derived) : Type 0 where
+pub record DerivesLemmas (ts : List Term) (old new : Derived) : Type 0 where
   -- the table has all that it had
   pub table : Extends old.table new.table
   -- no sort and no symbol came
@@ -113,8 +113,8 @@ pub record Derives (ts : List Term) (old new : Derived) : Type 0 where
 -- what a check answers of what is held and watched: that nothing is wrong with the literals, with what it changes; or a step whose
 -- clause is false under them, and that something is; where it is stopped nothing is changed
 abbrev pub Checks : Type 0 → Type 0 → TheoryView → Derived → Result Verdict Stop → Derived → Type 0
-Checks agrees refuses v old (Ok Fine) new = agrees × Derives (terms_watched old.table v) old new
-Checks agrees refuses v old (Ok (Clash step)) new = refuses × Derives (terms_watched old.table v) old new × IsClash new.table new.log v.held step
+Checks agrees refuses v old (Ok Fine) new = agrees × DerivesLemmas (terms_watched old.table v) old new
+Checks agrees refuses v old (Ok (Clash step)) new = refuses × DerivesLemmas (terms_watched old.table v) old new × IsClash new.table new.log v.held step
 Checks agrees refuses v old (Err stop) new = new ≡ old
 
 -- what a call of a theory came to: by what it gives; where an overflow stopped it; and where the budget of exchanges did; where memory

@@ -4,7 +4,7 @@ ghost use Rattle.std.specs.Prelude.{◌≡◌, ◌<◌, [], length, take, MatchO
 ghost use Rattle.spec_derivations.specs.Derivations.{FollowsFrom};
 ghost use Rattle.term_core.specs.Tables.{TableView};
 ghost use Rattle.proof_log.specs.Logs.{AreFormulasIn, IsLogOf, named, stepped, logged_at, inference_of, derivation_in, IsAssumed, AreEarlier};
-ghost use Rattle.proof_log.specs.Adding.{Assumes, Adds, IsAdded, Judges, Collects};
+ghost use Rattle.proof_log.specs.Adding.{Assumes, AddsClause, IsAdded, JudgesClause, Collects};
 
 use crate::entry::Entry;
 use crate::log_fault::LogFault;
@@ -109,7 +109,7 @@ impl ProofLog {
     pub fn add(&mut self, table: &TermTable, step: Step) -> Result<StepId, LogFault>
         requires log { IsLogOf table.now self.old }
         requires clause { AreFormulasIn table.now step.clause }
-        ensures { Adds table.now self.old (stepped step.rule step.premises step.arguments step.clause) result self.new }
+        ensures { AddsClause table.now self.old (stepped step.rule step.premises step.arguments step.clause) result self.new }
     {
         self.follows(table, &step)?;
         let id = StepId(self.len());
@@ -143,7 +143,7 @@ impl ProofLog {
     fn follows(&self, table: &TermTable, step: &Step) -> Result<(), LogFault>
         requires log { IsLogOf table.now self.now }
         requires clause { AreFormulasIn table.now step.now.clause }
-        ensures { Judges table.now self.now
+        ensures { JudgesClause table.now self.now
             (stepped step.now.rule step.now.premises step.now.arguments step.now.clause) result }
     {
         let premises = self.clauses_of(step.premises.as_slice())?;

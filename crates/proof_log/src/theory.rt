@@ -8,7 +8,7 @@ ghost use Rattle.term_core.specs.Tables.{TableView, Extends, term_at};
 ghost use Rattle.sat_budget.specs.declared.limits.Strain.{Strain};
 ghost use Rattle.sat_budget.specs.Budgets.{Spends, StopsBy, AreSpent};
 ghost use Rattle.proof_log.specs.Logs.{IsLogOf};
-ghost use Rattle.proof_log.specs.Theories.{TheoryView, with_held, with_watched, with_mark, gone_back, IsTermIn, IsOver, terms_watched, literals_held, Checks, CameTo, paid_after};
+ghost use Rattle.proof_log.specs.Theories.{TheoryView, with_held, with_watched, with_mark, gone_back, IsTermIn, IsTheoryOver, terms_watched, literals_held, Checks, CameTo, paid_after};
 
 use crate::log::ProofLog;
 use crate::premises::StepId;
@@ -100,7 +100,7 @@ pub trait Theory {
         log: &mut ProofLog,
         budget: &mut Budget,
     ) -> Result<Verdict, Stop>
-        requires over { IsOver table.old (view self.old) }
+        requires over { IsTheoryOver table.old (view self.old) }
         requires with { goes_with self.old table.old }
         requires log { IsLogOf table.old log.old }
         ensures with { goes_with self.new table.new }

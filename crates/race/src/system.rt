@@ -1,7 +1,7 @@
 //! A system: rows of linear equations, and bounds of their variables.
 
 ghost use Rattle.std.specs.Prelude.{◌≡◌, ◌<◌, true};
-ghost use Rattle.spec_tableaux.specs.SolvedForms.{IsOver};
+ghost use Rattle.spec_tableaux.specs.SolvedForms.{AllVariables};
 ghost use Rattle.tableau.specs.Entries.{entries_of};
 
 use crate::fault::Fault;
@@ -28,7 +28,7 @@ pub(crate) fn times(coefficient: i64, variable: u64) -> Entry {
 
 /// Says whether each variable is below a number.
 fn are_below(entries: &[Entry], number: u64) -> bool
-    ensures { result ≡ true → IsOver (λ y. y < number) (entries_of entries.now) }
+    ensures { result ≡ true → AllVariables (λ y. y < number) (entries_of entries.now) }
 {
     let mut rest = entries;
     while let Some((e, more)) = rest.split_first() {

@@ -8,7 +8,7 @@ use Rattle.std.proofs.Math.IntN.{*ℤ_comm}
 use Rattle.std.proofs.Math.Nat.{mul-pos}
 use Rattle.std.proofs.lemmas.Int.{ints}
 use Rattle.std.proofs.lemmas.Bool.Decides.{nat_tests}
-use Rattle.spec_numbers.specs.Fractions.{signed}
+use Rattle.spec_numbers.specs.Fractions.{signed_integer}
 use Rattle.spec_numbers.proofs.Signs.{signed-scale}
 use Rattle.spec_numbers.proofs.Order.{cmp-scale}
 
@@ -41,8 +41,8 @@ size_above (pos n) h = absurd (grind (arith, nat_tests))
 size_above (negsuc n) h = omega arith
 
 -- a cross product by its sign and its size
-scaled : (u : ℤ) (e : ℕ) (b : Bool) → int_lt u (pos 0) ≡ b → u *ℤ pos e ≡ signed b (unsigned_abs u * e)
-scaled u e b h = signed-scale u e ∙ ap (λ b. signed b (unsigned_abs u * e)) h
+scaled : (u : ℤ) (e : ℕ) (b : Bool) → int_lt u (pos 0) ≡ b → u *ℤ pos e ≡ signed_integer b (unsigned_abs u * e)
+scaled u e b h = signed-scale u e ∙ ap (λ b. signed_integer b (unsigned_abs u * e)) h
 
 pub both_above : (u v : ℤ) (d e : ℕ) → int_lt u (pos 0) ≡ false → int_lt v (pos 0) ≡ false
     → nat_cmp (unsigned_abs u * e) (unsigned_abs v * d) ≡ int_cmp (u *ℤ pos e) (v *ℤ pos d)

@@ -4,7 +4,7 @@ use Rattle.std.specs.Int.RustNames.{int_lt}
 use Rattle.std.specs.Bool.{beq}
 use Rattle.std.proofs.Math.Nat.{mul-pos, mul-div_cancel', mul-one, div-eq_of_eq-mul_right}
 use Rattle.std.proofs.lemmas.Int.{unsigned_abs-mul}
-use Rattle.spec_numbers.specs.Fractions.{Fraction, gcd, over, signed, times, IsReduced}
+use Rattle.spec_numbers.specs.Fractions.{Fraction, gcd, over, signed_integer, times, IsReduced}
 use Rattle.spec_numbers.proofs.Signs.{signed-self, signed-mul, over-signed}
 use Rattle.spec_numbers.proofs.Gcd.{gcd-mul_left, gcd-dvd_left, gcd-dvd_right, gcd_positive, gcd-over, gcd-comm, gcd-mul_apart, apart_of_dvd, quotient_dvd}
 
@@ -56,7 +56,7 @@ over-product x y p q e =
     (λ i. over (signed-self x i *ℤ signed-self y i) (p * q))
     ∙ ap (λ z. over z (p * q)) (signed-mul b c (unsigned_abs x) (unsigned_abs y))
     ∙ over-signed (not (beq b c)) (unsigned_abs x * unsigned_abs y) (p * q)
-    ∙ ap (signed (not (beq b c))) e
+    ∙ ap (signed_integer (not (beq b c))) e
     ∙ sym (signed-mul b c (unsigned_abs x / p) (unsigned_abs y / q))
     ∙ (λ i. sym (over-signed b (unsigned_abs x) p) i *ℤ sym (over-signed c (unsigned_abs y) q) i)
     ∙ (λ i. over (sym (signed-self x) i) p *ℤ over (sym (signed-self y) i) q)

@@ -5,7 +5,7 @@ use Rattle.std.specs.Int.RustNames.{int_lt}
 use Rattle.std.proofs.Math.IntN.{sub_ℕ, +ℤ-neg_ℤ_cancel, +ℤ_comm}
 use Rattle.std.proofs.Math.Nat.{mul_comm, mul-div_cancel', mul-div-mul_left, mul-div_assoc, dvd-add, dvd-sub, dvd_trans, dvd_antisymm, dvd-mul_left}
 use Rattle.std.proofs.lemmas.Int.{ints, unsigned_abs-mul}
-use Rattle.spec_numbers.specs.Fractions.{Fraction, gcd, over, signed, plus, IsReduced}
+use Rattle.spec_numbers.specs.Fractions.{Fraction, gcd, over, signed_integer, plus, IsReduced}
 use Rattle.spec_numbers.specs.Bounds.{common_sum}
 use Rattle.spec_numbers.proofs.Gcd.{gcd-mul_left, gcd-dvd_left, gcd-dvd_right, dvd-gcd, gcd_positive, gcd-over, gcd-comm, gcd-mul_apart, apart_of_dvd, quotient_dvd}
 use Rattle.spec_numbers.proofs.Signs.{signed-self, over-signed, abs-signed, abs-neg, pos-signed}
@@ -78,7 +78,7 @@ pub sum_is : (x y : Fraction) → IsReduced x → IsReduced y → (g k : ℕ) (s
 unfolding plus
 sum_is x y r q g k s eg es ek =
     let m = x.den in let n = y.den in let b = int_lt s (pos 0) in let t = unsigned_abs s in
-    let whole : x.num *ℤ pos y.den +ℤ y.num *ℤ pos x.den ≡ signed (int_lt s (pos 0)) (gcd x.den y.den * unsigned_abs s) =
+    let whole : x.num *ℤ pos y.den +ℤ y.num *ℤ pos x.den ≡ signed_integer (int_lt s (pos 0)) (gcd x.den y.den * unsigned_abs s) =
     wholly x.num y.num x.den y.den ∙ ap (λ z. pos (gcd x.den y.den) *ℤ z) (sym es ∙ signed-self s) ∙ pos-signed (int_lt s (pos 0)) (gcd x.den y.den) (unsigned_abs s) in
     let bottom : x.den * y.den ≡ gcd x.den y.den * ((x.den / gcd x.den y.den) * y.den) =
     ap (λ z. z * y.den) (sym (back x.den y.den)) ∙ first_out (x.den / gcd x.den y.den) (gcd x.den y.den) y.den in
@@ -89,7 +89,7 @@ sum_is x y r q g k s eg es ek =
     ∙ gcd-mul_left (gcd x.den y.den) (unsigned_abs s) ((x.den / gcd x.den y.den) * y.den) (gcd_positive x.den y.den q.positive) ∙ ap (λ z. gcd x.den y.den * z) h in
     let f : gcd (unsigned_abs s) (gcd x.den y.den) ≡ k = ap (gcd (unsigned_abs s)) (sym eg) ∙ sym ek in
     λ i. record {
-      num = ((λ i. over (whole i) (w i)) ∙ over-signed b (gcd m n * t) (gcd m n * gcd t (gcd m n)) ∙ ap (signed b) (mul-div-mul_left t (gcd t (gcd m n)) (gcd_positive m n q.positive))
+      num = ((λ i. over (whole i) (w i)) ∙ over-signed b (gcd m n * t) (gcd m n * gcd t (gcd m n)) ∙ ap (signed_integer b) (mul-div-mul_left t (gcd t (gcd m n)) (gcd_positive m n q.positive))
           ∙ sym (over-signed b t (gcd t (gcd m n))) ∙ (λ i. over (sym (signed-self s) i) (f i))) i;
       den = ((λ i. bottom i / w i) ∙ mul-div-mul_left ((m / gcd m n) * n) (gcd t (gcd m n)) (gcd_positive m n q.positive)
           ∙ mul-div_assoc (gcd t (gcd m n)) (m / gcd m n) (dvd_trans _ (gcd-dvd_right t (gcd m n)) (gcd-dvd_right m n)) ∙ (λ i. (m / sym eg i) * (n / f i))) i;

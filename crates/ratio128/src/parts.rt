@@ -3,7 +3,7 @@
 ghost use Rattle.std.specs.Prelude.{◌≡◌, ◌*◌, ◌/◌, ◌^◌, ◌<◌, ℤ, pos, ◌+ℤ◌, ◌*ℤ◌, unsigned_abs};
 ghost use Rattle.std.specs.Option.{SomeIff};
 ghost use Rattle.std.specs.Ordering.{nat_cmp};
-ghost use Rattle.spec_numbers.specs.Fractions.{gcd, over, signed};
+ghost use Rattle.spec_numbers.specs.Fractions.{gcd, over, signed_integer};
 
 use std::cmp::Ordering;
 
@@ -37,7 +37,7 @@ pub(crate) fn cut(num: i128, by: u128) -> i128
 /// Gives the number of a sign and a size.
 pub(crate) fn signed(negative: bool, size: u128) -> i128
     requires { size < 2 ^ 127 }
-    ensures { result ≡ signed negative size }
+    ensures { result ≡ signed_integer negative size }
 {
     if negative {
         -(size as i128)

@@ -7,7 +7,7 @@ use Rattle.spec_proofs.specs.declared.Rest.{Rest}
 use Rattle.spec_proofs.specs.declared.Rest.TheVariants.{One, Two}
 use Rattle.term_core.specs.declared.nodes.Head.{Head as NodeHead}
 use Rattle.term_core.specs.declared.nodes.Head.TheVariants as heads
-use Rattle.term_core.specs.Tables.{TableView, term_at, clause_at, head_meant, takes, Shape, Fits}
+use Rattle.term_core.specs.Tables.{TableView, term_at, clause_at, head_meant, takes, Shape, ShapeFits}
 use Rattle.term_core.proofs.FactsOfNodes.{ite_long}
 use Rattle.rule_bool.specs.Schemes.{arity, HasPlaces, IsStating}
 
@@ -39,7 +39,7 @@ more_places n m (Two x y) le h = (omega (arith, le, h.0), omega (arith, le, h.1)
 more_places n m _ le h = tt
 
 -- the places of a scheme are there among the arguments of its head
-pub places_there : (t : TableView) (s : Shape) (r : Rest) → Fits t s → HasPlaces (arity s.head) r → HasPlaces (length s.arguments) r
+pub places_there : (t : TableView) (s : Shape) (r : Rest) → ShapeFits t s → HasPlaces (arity s.head) r → HasPlaces (length s.arguments) r
 places_there t s r fits places =
     let count : length (map sort_of (clause_at t s.arguments)) ≡ length s.arguments = length-map (clause_at t s.arguments) sort_of ∙ length-map s.arguments (term_at t) in
     more_places (arity s.head) (length s.arguments) r (omega (arith, count, least t s.head (map sort_of (clause_at t s.arguments)) fits.sorts)) places

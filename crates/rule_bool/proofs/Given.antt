@@ -10,7 +10,7 @@ use Rattle.spec_sorts.specs.Subsets.{arguments_of}
 use Rattle.spec_sorts.specs.Literals.{Clause}
 use Rattle.spec_sorts.proofs.General.{list_of-terms_of}
 use Rattle.spec_proofs.specs.declared.Rest.{Rest}
-use Rattle.spec_rules.specs.Schemes.{Scheme, signed, rests_of, is_formula_of}
+use Rattle.spec_rules.specs.Schemes.{Scheme, signed_term, rests_of, is_formula_of}
 use Rattle.spec_rules.specs.Rules.{IsGiven, IsStated, IsTurned, flipped}
 use Rattle.term_core.specs.declared.ids.TermId.{TermId}
 use Rattle.term_core.specs.declared.nodes.Head.{Head as NodeHead}
@@ -18,7 +18,7 @@ use Rattle.term_core.specs.declared.nodes.Head.TheVariants as heads
 use Rattle.term_core.specs.declared.nodes.Node.{Node}
 use Rattle.term_core.specs.contracts.nodes.HeadPartialEq.TheImpl.{ghosts as head_ghosts}
 use Rattle.term_core.proofs.NodesSame.{same_node, node_same}
-use Rattle.term_core.specs.Tables.{TableView, term_at, AreIn, clause_at, head_meant, takes, Shape, shape_term, Fits}
+use Rattle.term_core.specs.Tables.{TableView, term_at, AreIn, clause_at, head_meant, takes, Shape, shape_term, ShapeFits}
 use Rattle.clause_literals.specs.Polarities.{IsSigned, HasNoSign, HasNoTurn}
 use Rattle.rule_bool.specs.Schemes.{scheme_meant, IsStating, IsTurning, GivesRest}
 use Rattle.rule_bool.proofs.Behind.{signed_apart}
@@ -51,30 +51,30 @@ head_by n h false e = λ is. false≢true (e ∙ is_head n h is)
 none_given : (s : Scheme) → IsGiven s [] → ⊥
 none_given s (t, i) = go (is_formula_of s.head t) i
   where
-    go : (b : Bool) → Contains (if b then map (λ ls. signed s.positive t ∷ ls) (rests_of s.rest (arguments_of t)) else []) [] → ⊥
-    go true i = let ls = from_image (λ (ls : Clause). signed s.positive t ∷ ls) (rests_of s.rest (arguments_of t)) [] i in cc (ls.2)
+    go : (b : Bool) → Contains (if b then map (λ ls. signed_term s.positive t ∷ ls) (rests_of s.rest (arguments_of t)) else []) [] → ⊥
+    go true i = let ls = from_image (λ (ls : Clause). signed_term s.positive t ∷ ls) (rests_of s.rest (arguments_of t)) [] i in cc (ls.2)
     go false i = omega (arith, i.1)
 
 module _ (s : Scheme) (x : Term) (ls : Clause) where
   -- the term before a clause that is given
-  given_front : IsGiven s (x ∷ ls) → (t : Term) × (x ≡ signed s.positive t) × GivesRest s.head s.rest t ls
+  given_front : IsGiven s (x ∷ ls) → (t : Term) × (x ≡ signed_term s.positive t) × GivesRest s.head s.rest t ls
   given_front (t, i) = go (is_formula_of s.head t) refl i
     where
-      go : (b : Bool) → is_formula_of s.head t ≡ b → Contains (if b then map (λ ls. signed s.positive t ∷ ls) (rests_of s.rest (arguments_of t)) else []) (x ∷ ls)
-          → (t : Term) × (x ≡ signed s.positive t) × GivesRest s.head s.rest t ls
+      go : (b : Bool) → is_formula_of s.head t ≡ b → Contains (if b then map (λ ls. signed_term s.positive t ∷ ls) (rests_of s.rest (arguments_of t)) else []) (x ∷ ls)
+          → (t : Term) × (x ≡ signed_term s.positive t) × GivesRest s.head s.rest t ls
       go true e i =
-          let h = from_image (λ (ls : Clause). signed s.positive t ∷ ls) (rests_of s.rest (arguments_of t)) (x ∷ ls) i in
+          let h = from_image (λ (ls : Clause). signed_term s.positive t ∷ ls) (rests_of s.rest (arguments_of t)) (x ∷ ls) i in
           let tail : h.0 ≡ ls = cc (h.2) in
           (t, cc (h.2), record { formula = e; by_arguments = subst (λ (c : Clause). Contains (rests_of s.rest (arguments_of t)) c) tail h.1 })
       go false e i = absurd (omega (arith, i.1))
 
   -- a first term, with what may come after it
-  given_by : (t : Term) → x ≡ signed s.positive t → GivesRest s.head s.rest t ls → IsGiven s (x ∷ ls)
+  given_by : (t : Term) → x ≡ signed_term s.positive t → GivesRest s.head s.rest t ls → IsGiven s (x ∷ ls)
   given_by t e h = (
     t,
-    subst (λ (b : Bool). Contains (if b then map (λ ls. signed s.positive t ∷ ls) (rests_of s.rest (arguments_of t)) else []) (x ∷ ls)) (sym h.formula)
-        (subst (λ (y : Term). Contains (map (λ (ls : Clause). signed s.positive t ∷ ls) (rests_of s.rest (arguments_of t))) (y ∷ ls)) (sym e)
-        (to_image (λ (ls : Clause). signed s.positive t ∷ ls) (rests_of s.rest (arguments_of t)) ls h.by_arguments)),
+    subst (λ (b : Bool). Contains (if b then map (λ ls. signed_term s.positive t ∷ ls) (rests_of s.rest (arguments_of t)) else []) (x ∷ ls)) (sym h.formula)
+        (subst (λ (y : Term). Contains (map (λ (ls : Clause). signed_term s.positive t ∷ ls) (rests_of s.rest (arguments_of t))) (y ∷ ls)) (sym e)
+        (to_image (λ (ls : Clause). signed_term s.positive t ∷ ls) (rests_of s.rest (arguments_of t)) ls h.by_arguments)),
   )
 
 -- what comes after the first number is the table's too
@@ -150,7 +150,7 @@ module _ (t : TableView) (head : NodeHead) (rest : Rest) (form : IsStating head 
         let sorts = all_of (head_meant t head) (clause_at t s.arguments) formula in
         false≢true (sym other ∙ sorts)
 
-    module _ (fits : Fits t s) (all : all_same Truth (map sort_of (clause_at t s.arguments)) ≡ true) where
+    module _ (fits : ShapeFits t s) (all : all_same Truth (map sort_of (clause_at t s.arguments)) ≡ true) where
       -- the term has the head, over arguments of sort Bool
       formula_is : is_formula_of (head_meant t head) u ≡ true
       formula_is =

@@ -17,7 +17,7 @@ use Rattle.term_core.specs.Tables.{TableView, clause_at, head_meant}
 use Rattle.term_core.specs.declared.rule_fails.RuleFails.{RuleFails}
 use Rattle.rule_bool.specs.declared.rule_stop.RuleStop.{RuleStop}
 use Rattle.rule_bool.specs.declared.scheme_table.Scheme.{Scheme as CodeScheme}
-use Rattle.rule_bool.specs.Resolvents.{Stops}
+use Rattle.rule_bool.specs.Resolvents.{StopsRule}
 
 -- the scheme that the code's words mean in a table
 abbrev pub scheme_meant : TableView → NodeHead → Bool → Rest → Scheme
@@ -84,14 +84,14 @@ abbrev pub IsWideIn : TableView → Rule → List (List TermId) → Trees → Li
 IsWideIn table rule premises arguments clause = IsWide rule (map (clause_at table) premises) arguments (clause_at table clause)
 
 -- a success exactly where the step is right, whatever its arguments are
-abbrev pub Judges : TableView → Rule → List (List TermId) → List TermId → Result (Unit {0}) RuleFails → Type 0
-Judges table rule premises clause result = (arguments : Trees) → IsExact (IsRightIn table rule premises arguments clause) result
+abbrev pub JudgesRule : TableView → Rule → List (List TermId) → List TermId → Result (Unit {0}) RuleFails → Type 0
+JudgesRule table rule premises clause result = (arguments : Trees) → IsExact (IsRightIn table rule premises arguments clause) result
 
 -- a success only where the step is right; it fails where it is not, and is wide where this cannot be told
 abbrev pub JudgesOrStops : TableView → Rule → List (List TermId) → Trees → List TermId → Result (Unit {0}) RuleStop → Type 0
 JudgesOrStops table rule premises arguments clause result =
     MatchResult result (λ _. IsRightIn table rule premises arguments clause)
-    (λ stop. Stops stop (IsRightIn table rule premises arguments clause) (IsWideIn table rule premises arguments clause))
+    (λ stop. StopsRule stop (IsRightIn table rule premises arguments clause) (IsWideIn table rule premises arguments clause))
 
 -- the rules of that kind state no scheme's clauses
 abbrev pub states_nothing : Kind → Type 0
@@ -135,7 +135,7 @@ abbrev pub HasScheme : Rule → Type 0
 HasScheme rule = has_scheme (kind_of rule)
 
 -- The rule states the clauses of the scheme.
-pub record States (rule : Rule) (s : CodeScheme) : Type 0 where
+pub record StatesScheme (rule : Rule) (s : CodeScheme) : Type 0 where
   -- the definitions say so, whatever table there is
   pub same : (table : TableView) → kind_of rule ≡ states (scheme_seen table s)
   -- the head takes the arguments that are meant

@@ -3,7 +3,7 @@
 ghost use Rattle.std.specs.Prelude.{All};
 ghost use Rattle.spec_proofs.specs.declared.Rule.TheVariants as rules;
 ghost use Rattle.term_core.specs.Tables.{AreIn};
-ghost use Rattle.rule_bool.specs.Schemes.{Judges};
+ghost use Rattle.rule_bool.specs.Schemes.{JudgesRule};
 
 use crate::schemes::by_scheme;
 use spec_proofs::Rule;
@@ -24,12 +24,12 @@ pub fn rule_and_pos(
 ) -> Result<(), RuleFails>
     requires premises { All (AreIn table.now) premises.now }
     requires clause { AreIn table.now clause.now }
-    ensures { Judges table.now rules.AndPos premises.now clause.now result }
+    ensures { JudgesRule table.now rules.AndPos premises.now clause.now result }
 {
     by_scheme(table, Rule::AndPos, premises, clause)
 }
 
-/// Judges a step of the rule `and_neg`, which makes a conjunction of its arguments.
+/// JudgesRule a step of the rule `and_neg`, which makes a conjunction of its arguments.
 ///
 /// No premise; the conclusion is `(cl (and a1 .. an) (not a1) .. (not an))`, the arguments in their order. It is sound, since a
 /// conjunction is true, or one of its arguments is not.
@@ -44,12 +44,12 @@ pub fn rule_and_neg(
 ) -> Result<(), RuleFails>
     requires premises { All (AreIn table.now) premises.now }
     requires clause { AreIn table.now clause.now }
-    ensures { Judges table.now rules.AndNeg premises.now clause.now result }
+    ensures { JudgesRule table.now rules.AndNeg premises.now clause.now result }
 {
     by_scheme(table, Rule::AndNeg, premises, clause)
 }
 
-/// Judges a step of the rule `and`, which takes an argument out of a conjunction.
+/// JudgesRule a step of the rule `and`, which takes an argument out of a conjunction.
 ///
 /// One premise, whose one term is `(and a1 .. an)`; the conclusion is `(cl ak)`, for any of the arguments. It is sound, since
 /// where a conjunction is true, each of its arguments is.
@@ -61,12 +61,12 @@ pub fn rule_and_neg(
 pub fn rule_and(table: &TermTable, premises: &[Clause], clause: &[TermId]) -> Result<(), RuleFails>
     requires premises { All (AreIn table.now) premises.now }
     requires clause { AreIn table.now clause.now }
-    ensures { Judges table.now rules.And premises.now clause.now result }
+    ensures { JudgesRule table.now rules.And premises.now clause.now result }
 {
     by_scheme(table, Rule::And, premises, clause)
 }
 
-/// Judges a step of the rule `not_and`, which opens the negation of a conjunction.
+/// JudgesRule a step of the rule `not_and`, which opens the negation of a conjunction.
 ///
 /// One premise, whose one term is `(not (and a1 .. an))`; the conclusion is `(cl (not a1) .. (not an))`, the arguments in their
 /// order. It is sound, since where a conjunction is not true, one of its arguments is not.
@@ -81,12 +81,12 @@ pub fn rule_not_and(
 ) -> Result<(), RuleFails>
     requires premises { All (AreIn table.now) premises.now }
     requires clause { AreIn table.now clause.now }
-    ensures { Judges table.now rules.NotAnd premises.now clause.now result }
+    ensures { JudgesRule table.now rules.NotAnd premises.now clause.now result }
 {
     by_scheme(table, Rule::NotAnd, premises, clause)
 }
 
-/// Judges a step of the rule `or_pos`, which opens a disjunction.
+/// JudgesRule a step of the rule `or_pos`, which opens a disjunction.
 ///
 /// No premise; the conclusion is `(cl (not (or a1 .. an)) a1 .. an)`, the arguments in their order. It is sound, since where a
 /// disjunction is true, one of its arguments is.
@@ -101,12 +101,12 @@ pub fn rule_or_pos(
 ) -> Result<(), RuleFails>
     requires premises { All (AreIn table.now) premises.now }
     requires clause { AreIn table.now clause.now }
-    ensures { Judges table.now rules.OrPos premises.now clause.now result }
+    ensures { JudgesRule table.now rules.OrPos premises.now clause.now result }
 {
     by_scheme(table, Rule::OrPos, premises, clause)
 }
 
-/// Judges a step of the rule `or_neg`, which makes a disjunction of one of its arguments.
+/// JudgesRule a step of the rule `or_neg`, which makes a disjunction of one of its arguments.
 ///
 /// No premise; the conclusion is `(cl (or a1 .. an) (not ak))`, for any of the arguments. It is sound, since where one of its
 /// arguments is true, a disjunction is.
@@ -121,12 +121,12 @@ pub fn rule_or_neg(
 ) -> Result<(), RuleFails>
     requires premises { All (AreIn table.now) premises.now }
     requires clause { AreIn table.now clause.now }
-    ensures { Judges table.now rules.OrNeg premises.now clause.now result }
+    ensures { JudgesRule table.now rules.OrNeg premises.now clause.now result }
 {
     by_scheme(table, Rule::OrNeg, premises, clause)
 }
 
-/// Judges a step of the rule `not_or`, which takes an argument out of the negation of a disjunction.
+/// JudgesRule a step of the rule `not_or`, which takes an argument out of the negation of a disjunction.
 ///
 /// One premise, whose one term is `(not (or a1 .. an))`; the conclusion is `(cl (not ak))`, for any of the arguments. It is
 /// sound, since where a disjunction is not true, none of its arguments is.
@@ -141,7 +141,7 @@ pub fn rule_not_or(
 ) -> Result<(), RuleFails>
     requires premises { All (AreIn table.now) premises.now }
     requires clause { AreIn table.now clause.now }
-    ensures { Judges table.now rules.NotOr premises.now clause.now result }
+    ensures { JudgesRule table.now rules.NotOr premises.now clause.now result }
 {
     by_scheme(table, Rule::NotOr, premises, clause)
 }

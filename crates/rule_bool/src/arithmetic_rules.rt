@@ -5,7 +5,7 @@ ghost use Rattle.spec_text.specs.Trees.{Trees};
 ghost use Rattle.spec_proofs.specs.declared.Rule.TheVariants as rules;
 ghost use Rattle.term_core.specs.Tables.{AreIn};
 ghost use Rattle.rule_bool.specs.Arguments.{WritesCoefficients};
-ghost use Rattle.rule_bool.specs.Schemes.{Judges, JudgesOrStops};
+ghost use Rattle.rule_bool.specs.Schemes.{JudgesRule, JudgesOrStops};
 
 use crate::rule_stop::RuleStop;
 use linear_form::{ArithFault, Coeff, la_disequality, la_generic, la_totality};
@@ -61,7 +61,7 @@ pub fn rule_la_disequality(
 ) -> Result<(), RuleFails>
     requires premises { All (AreIn table.now) premises.now }
     requires clause { AreIn table.now clause.now }
-    ensures { Judges table.now rules.LaDisequality premises.now clause.now result }
+    ensures { JudgesRule table.now rules.LaDisequality premises.now clause.now result }
 {
     if !premises.is_empty() {
         return Err(RuleFails);
@@ -81,7 +81,7 @@ pub fn rule_la_totality(
 ) -> Result<(), RuleFails>
     requires premises { All (AreIn table.now) premises.now }
     requires clause { AreIn table.now clause.now }
-    ensures { Judges table.now rules.LaTotality premises.now clause.now result }
+    ensures { JudgesRule table.now rules.LaTotality premises.now clause.now result }
 {
     if !premises.is_empty() {
         return Err(RuleFails);

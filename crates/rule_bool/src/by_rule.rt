@@ -6,7 +6,7 @@ ghost use Rattle.spec_proofs.specs.declared.Rule.TheVariants as rules;
 ghost use Rattle.term_core.specs.Tables.{AreIn};
 ghost use Rattle.rule_bool.specs.declared.rule_stop.RuleStop.TheVariants as stops;
 ghost use Rattle.rule_bool.specs.Arguments.{WritesCoefficients};
-ghost use Rattle.rule_bool.specs.Schemes.{Judges, JudgesOrStops};
+ghost use Rattle.rule_bool.specs.Schemes.{JudgesRule, JudgesOrStops};
 
 use crate::arithmetic_rules::{rule_la_disequality, rule_la_generic, rule_la_totality};
 use crate::resolvent::resolution;
@@ -32,7 +32,7 @@ fn judge_alone(
     requires generic { rule ≢ rules.LaGeneric }
     requires premises { All (AreIn table.now) premises.now }
     requires clause { AreIn table.now clause.now }
-    ensures { Judges table.now rule premises.now clause.now result }
+    ensures { JudgesRule table.now rule premises.now clause.now result }
 {
     if let Some(equality) = equality_of(rule) {
         return judge_equality(table, equality, premises, clause);

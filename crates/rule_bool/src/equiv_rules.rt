@@ -3,7 +3,7 @@
 ghost use Rattle.std.specs.Prelude.{All};
 ghost use Rattle.spec_proofs.specs.declared.Rule.TheVariants as rules;
 ghost use Rattle.term_core.specs.Tables.{AreIn};
-ghost use Rattle.rule_bool.specs.Schemes.{Judges};
+ghost use Rattle.rule_bool.specs.Schemes.{JudgesRule};
 
 use crate::schemes::by_scheme;
 use spec_proofs::Rule;
@@ -22,12 +22,12 @@ pub fn rule_equiv_pos1(
 ) -> Result<(), RuleFails>
     requires premises { All (AreIn table.now) premises.now }
     requires clause { AreIn table.now clause.now }
-    ensures { Judges table.now rules.EquivPos1 premises.now clause.now result }
+    ensures { JudgesRule table.now rules.EquivPos1 premises.now clause.now result }
 {
     by_scheme(table, Rule::EquivPos1, premises, clause)
 }
 
-/// Judges a step of the rule `equiv_pos2`, which opens an equality from left to right.
+/// JudgesRule a step of the rule `equiv_pos2`, which opens an equality from left to right.
 ///
 /// No premise; the conclusion is `(cl (not (= a b)) (not a) b)`, for `a` and `b` of sort Bool. It is sound, since where terms of
 /// sort Bool are equal, both are true or neither is.
@@ -40,12 +40,12 @@ pub fn rule_equiv_pos2(
 ) -> Result<(), RuleFails>
     requires premises { All (AreIn table.now) premises.now }
     requires clause { AreIn table.now clause.now }
-    ensures { Judges table.now rules.EquivPos2 premises.now clause.now result }
+    ensures { JudgesRule table.now rules.EquivPos2 premises.now clause.now result }
 {
     by_scheme(table, Rule::EquivPos2, premises, clause)
 }
 
-/// Judges a step of the rule `equiv_neg1`, which makes an equality of two terms that are true.
+/// JudgesRule a step of the rule `equiv_neg1`, which makes an equality of two terms that are true.
 ///
 /// No premise; the conclusion is `(cl (= a b) (not a) (not b))`, for `a` and `b` of sort Bool. It is sound, since two terms of
 /// sort Bool that are true are equal.
@@ -58,12 +58,12 @@ pub fn rule_equiv_neg1(
 ) -> Result<(), RuleFails>
     requires premises { All (AreIn table.now) premises.now }
     requires clause { AreIn table.now clause.now }
-    ensures { Judges table.now rules.EquivNeg1 premises.now clause.now result }
+    ensures { JudgesRule table.now rules.EquivNeg1 premises.now clause.now result }
 {
     by_scheme(table, Rule::EquivNeg1, premises, clause)
 }
 
-/// Judges a step of the rule `equiv_neg2`, which makes an equality of two terms that are not true.
+/// JudgesRule a step of the rule `equiv_neg2`, which makes an equality of two terms that are not true.
 ///
 /// No premise; the conclusion is `(cl (= a b) a b)`, for `a` and `b` of sort Bool. It is sound, since two terms of sort Bool
 /// neither of which is true are equal.
@@ -76,12 +76,12 @@ pub fn rule_equiv_neg2(
 ) -> Result<(), RuleFails>
     requires premises { All (AreIn table.now) premises.now }
     requires clause { AreIn table.now clause.now }
-    ensures { Judges table.now rules.EquivNeg2 premises.now clause.now result }
+    ensures { JudgesRule table.now rules.EquivNeg2 premises.now clause.now result }
 {
     by_scheme(table, Rule::EquivNeg2, premises, clause)
 }
 
-/// Judges a step of the rule `equiv1`, which opens an equality from left to right.
+/// JudgesRule a step of the rule `equiv1`, which opens an equality from left to right.
 ///
 /// One premise, whose one term is `(= a b)`, for `a` and `b` of sort Bool; the conclusion is `(cl (not a) b)`. It is sound, since
 /// where terms of sort Bool are equal, both are true or neither is.
@@ -94,12 +94,12 @@ pub fn rule_equiv1(
 ) -> Result<(), RuleFails>
     requires premises { All (AreIn table.now) premises.now }
     requires clause { AreIn table.now clause.now }
-    ensures { Judges table.now rules.Equiv1 premises.now clause.now result }
+    ensures { JudgesRule table.now rules.Equiv1 premises.now clause.now result }
 {
     by_scheme(table, Rule::Equiv1, premises, clause)
 }
 
-/// Judges a step of the rule `equiv2`, which opens an equality from right to left.
+/// JudgesRule a step of the rule `equiv2`, which opens an equality from right to left.
 ///
 /// One premise, whose one term is `(= a b)`, for `a` and `b` of sort Bool; the conclusion is `(cl a (not b))`. It is sound, since
 /// where terms of sort Bool are equal, both are true or neither is.
@@ -112,12 +112,12 @@ pub fn rule_equiv2(
 ) -> Result<(), RuleFails>
     requires premises { All (AreIn table.now) premises.now }
     requires clause { AreIn table.now clause.now }
-    ensures { Judges table.now rules.Equiv2 premises.now clause.now result }
+    ensures { JudgesRule table.now rules.Equiv2 premises.now clause.now result }
 {
     by_scheme(table, Rule::Equiv2, premises, clause)
 }
 
-/// Judges a step of the rule `not_equiv1`, by which one of two terms that are not equal is true.
+/// JudgesRule a step of the rule `not_equiv1`, by which one of two terms that are not equal is true.
 ///
 /// One premise, whose one term is `(not (= a b))`, for `a` and `b` of sort Bool; the conclusion is `(cl a b)`. It is sound, since
 /// where terms of sort Bool are not equal, exactly one of them is true.
@@ -130,12 +130,12 @@ pub fn rule_not_equiv1(
 ) -> Result<(), RuleFails>
     requires premises { All (AreIn table.now) premises.now }
     requires clause { AreIn table.now clause.now }
-    ensures { Judges table.now rules.NotEquiv1 premises.now clause.now result }
+    ensures { JudgesRule table.now rules.NotEquiv1 premises.now clause.now result }
 {
     by_scheme(table, Rule::NotEquiv1, premises, clause)
 }
 
-/// Judges a step of the rule `not_equiv2`, by which one of two terms that are not equal is not true.
+/// JudgesRule a step of the rule `not_equiv2`, by which one of two terms that are not equal is not true.
 ///
 /// One premise, whose one term is `(not (= a b))`, for `a` and `b` of sort Bool; the conclusion is `(cl (not a) (not b))`. It is
 /// sound, since where terms of sort Bool are not equal, exactly one of them is true.
@@ -148,7 +148,7 @@ pub fn rule_not_equiv2(
 ) -> Result<(), RuleFails>
     requires premises { All (AreIn table.now) premises.now }
     requires clause { AreIn table.now clause.now }
-    ensures { Judges table.now rules.NotEquiv2 premises.now clause.now result }
+    ensures { JudgesRule table.now rules.NotEquiv2 premises.now clause.now result }
 {
     by_scheme(table, Rule::NotEquiv2, premises, clause)
 }

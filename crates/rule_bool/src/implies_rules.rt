@@ -3,7 +3,7 @@
 ghost use Rattle.std.specs.Prelude.{All};
 ghost use Rattle.spec_proofs.specs.declared.Rule.TheVariants as rules;
 ghost use Rattle.term_core.specs.Tables.{AreIn};
-ghost use Rattle.rule_bool.specs.Schemes.{Judges};
+ghost use Rattle.rule_bool.specs.Schemes.{JudgesRule};
 
 use crate::schemes::by_scheme;
 use spec_proofs::Rule;
@@ -22,12 +22,12 @@ pub fn rule_implies_pos(
 ) -> Result<(), RuleFails>
     requires premises { All (AreIn table.now) premises.now }
     requires clause { AreIn table.now clause.now }
-    ensures { Judges table.now rules.ImpliesPos premises.now clause.now result }
+    ensures { JudgesRule table.now rules.ImpliesPos premises.now clause.now result }
 {
     by_scheme(table, Rule::ImpliesPos, premises, clause)
 }
 
-/// Judges a step of the rule `implies_neg1`, by which an implication is true, or its first argument.
+/// JudgesRule a step of the rule `implies_neg1`, by which an implication is true, or its first argument.
 ///
 /// No premise; the conclusion is `(cl (=> a b) a)`. It is sound, since where its first argument is not true, an implication is.
 ///
@@ -39,12 +39,12 @@ pub fn rule_implies_neg1(
 ) -> Result<(), RuleFails>
     requires premises { All (AreIn table.now) premises.now }
     requires clause { AreIn table.now clause.now }
-    ensures { Judges table.now rules.ImpliesNeg1 premises.now clause.now result }
+    ensures { JudgesRule table.now rules.ImpliesNeg1 premises.now clause.now result }
 {
     by_scheme(table, Rule::ImpliesNeg1, premises, clause)
 }
 
-/// Judges a step of the rule `implies_neg2`, by which an implication is true, or its second argument is not.
+/// JudgesRule a step of the rule `implies_neg2`, by which an implication is true, or its second argument is not.
 ///
 /// No premise; the conclusion is `(cl (=> a b) (not b))`. It is sound, since where its second argument is true, an implication
 /// is.
@@ -57,12 +57,12 @@ pub fn rule_implies_neg2(
 ) -> Result<(), RuleFails>
     requires premises { All (AreIn table.now) premises.now }
     requires clause { AreIn table.now clause.now }
-    ensures { Judges table.now rules.ImpliesNeg2 premises.now clause.now result }
+    ensures { JudgesRule table.now rules.ImpliesNeg2 premises.now clause.now result }
 {
     by_scheme(table, Rule::ImpliesNeg2, premises, clause)
 }
 
-/// Judges a step of the rule `implies`, which opens an implication.
+/// JudgesRule a step of the rule `implies`, which opens an implication.
 ///
 /// One premise, whose one term is `(=> a b)`; the conclusion is `(cl (not a) b)`. It is sound, since where an implication is
 /// true, its first argument is not, or its second is.
@@ -75,12 +75,12 @@ pub fn rule_implies(
 ) -> Result<(), RuleFails>
     requires premises { All (AreIn table.now) premises.now }
     requires clause { AreIn table.now clause.now }
-    ensures { Judges table.now rules.Implies premises.now clause.now result }
+    ensures { JudgesRule table.now rules.Implies premises.now clause.now result }
 {
     by_scheme(table, Rule::Implies, premises, clause)
 }
 
-/// Judges a step of the rule `not_implies1`, which takes the first argument out of the negation of an implication.
+/// JudgesRule a step of the rule `not_implies1`, which takes the first argument out of the negation of an implication.
 ///
 /// One premise, whose one term is `(not (=> a b))`; the conclusion is `(cl a)`. It is sound, since where an implication is not
 /// true, its first argument is.
@@ -93,12 +93,12 @@ pub fn rule_not_implies1(
 ) -> Result<(), RuleFails>
     requires premises { All (AreIn table.now) premises.now }
     requires clause { AreIn table.now clause.now }
-    ensures { Judges table.now rules.NotImplies1 premises.now clause.now result }
+    ensures { JudgesRule table.now rules.NotImplies1 premises.now clause.now result }
 {
     by_scheme(table, Rule::NotImplies1, premises, clause)
 }
 
-/// Judges a step of the rule `not_implies2`, which takes the second argument out of the negation of an implication.
+/// JudgesRule a step of the rule `not_implies2`, which takes the second argument out of the negation of an implication.
 ///
 /// One premise, whose one term is `(not (=> a b))`; the conclusion is `(cl (not b))`. It is sound, since where an implication is
 /// not true, its second argument is not.
@@ -111,7 +111,7 @@ pub fn rule_not_implies2(
 ) -> Result<(), RuleFails>
     requires premises { All (AreIn table.now) premises.now }
     requires clause { AreIn table.now clause.now }
-    ensures { Judges table.now rules.NotImplies2 premises.now clause.now result }
+    ensures { JudgesRule table.now rules.NotImplies2 premises.now clause.now result }
 {
     by_scheme(table, Rule::NotImplies2, premises, clause)
 }

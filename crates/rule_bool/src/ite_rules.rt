@@ -3,7 +3,7 @@
 ghost use Rattle.std.specs.Prelude.{All};
 ghost use Rattle.spec_proofs.specs.declared.Rule.TheVariants as rules;
 ghost use Rattle.term_core.specs.Tables.{AreIn};
-ghost use Rattle.rule_bool.specs.Schemes.{Judges};
+ghost use Rattle.rule_bool.specs.Schemes.{JudgesRule};
 
 use crate::schemes::by_scheme;
 use spec_proofs::Rule;
@@ -22,12 +22,12 @@ pub fn rule_ite_pos1(
 ) -> Result<(), RuleFails>
     requires premises { All (AreIn table.now) premises.now }
     requires clause { AreIn table.now clause.now }
-    ensures { Judges table.now rules.ItePos1 premises.now clause.now result }
+    ensures { JudgesRule table.now rules.ItePos1 premises.now clause.now result }
 {
     by_scheme(table, Rule::ItePos1, premises, clause)
 }
 
-/// Judges a step of the rule `ite_pos2`, which opens a choice where its condition is true.
+/// JudgesRule a step of the rule `ite_pos2`, which opens a choice where its condition is true.
 ///
 /// No premise; the conclusion is `(cl (not (ite c a b)) (not c) a)`, for `a` and `b` of sort Bool. It is sound, since a choice
 /// has the value of its second argument where its first is true.
@@ -40,12 +40,12 @@ pub fn rule_ite_pos2(
 ) -> Result<(), RuleFails>
     requires premises { All (AreIn table.now) premises.now }
     requires clause { AreIn table.now clause.now }
-    ensures { Judges table.now rules.ItePos2 premises.now clause.now result }
+    ensures { JudgesRule table.now rules.ItePos2 premises.now clause.now result }
 {
     by_scheme(table, Rule::ItePos2, premises, clause)
 }
 
-/// Judges a step of the rule `ite_neg1`, which makes a choice where its condition is not true.
+/// JudgesRule a step of the rule `ite_neg1`, which makes a choice where its condition is not true.
 ///
 /// No premise; the conclusion is `(cl (ite c a b) c (not b))`, for `a` and `b` of sort Bool. It is sound, since a choice has the
 /// value of its third argument where its first is not true.
@@ -58,12 +58,12 @@ pub fn rule_ite_neg1(
 ) -> Result<(), RuleFails>
     requires premises { All (AreIn table.now) premises.now }
     requires clause { AreIn table.now clause.now }
-    ensures { Judges table.now rules.IteNeg1 premises.now clause.now result }
+    ensures { JudgesRule table.now rules.IteNeg1 premises.now clause.now result }
 {
     by_scheme(table, Rule::IteNeg1, premises, clause)
 }
 
-/// Judges a step of the rule `ite_neg2`, which makes a choice where its condition is true.
+/// JudgesRule a step of the rule `ite_neg2`, which makes a choice where its condition is true.
 ///
 /// No premise; the conclusion is `(cl (ite c a b) (not c) (not a))`, for `a` and `b` of sort Bool. It is sound, since a choice
 /// has the value of its second argument where its first is true.
@@ -76,12 +76,12 @@ pub fn rule_ite_neg2(
 ) -> Result<(), RuleFails>
     requires premises { All (AreIn table.now) premises.now }
     requires clause { AreIn table.now clause.now }
-    ensures { Judges table.now rules.IteNeg2 premises.now clause.now result }
+    ensures { JudgesRule table.now rules.IteNeg2 premises.now clause.now result }
 {
     by_scheme(table, Rule::IteNeg2, premises, clause)
 }
 
-/// Judges a step of the rule `ite1`, which opens a choice where its condition is not true.
+/// JudgesRule a step of the rule `ite1`, which opens a choice where its condition is not true.
 ///
 /// One premise, whose one term is `(ite c a b)`, for `a` and `b` of sort Bool; the conclusion is `(cl c b)`. It is sound, since a
 /// choice has the value of its third argument where its first is not true.
@@ -90,12 +90,12 @@ pub fn rule_ite_neg2(
 pub fn rule_ite1(table: &TermTable, premises: &[Clause], clause: &[TermId]) -> Result<(), RuleFails>
     requires premises { All (AreIn table.now) premises.now }
     requires clause { AreIn table.now clause.now }
-    ensures { Judges table.now rules.Ite1 premises.now clause.now result }
+    ensures { JudgesRule table.now rules.Ite1 premises.now clause.now result }
 {
     by_scheme(table, Rule::Ite1, premises, clause)
 }
 
-/// Judges a step of the rule `ite2`, which opens a choice where its condition is true.
+/// JudgesRule a step of the rule `ite2`, which opens a choice where its condition is true.
 ///
 /// One premise, whose one term is `(ite c a b)`, for `a` and `b` of sort Bool; the conclusion is `(cl (not c) a)`. It is sound,
 /// since a choice has the value of its second argument where its first is true.
@@ -104,12 +104,12 @@ pub fn rule_ite1(table: &TermTable, premises: &[Clause], clause: &[TermId]) -> R
 pub fn rule_ite2(table: &TermTable, premises: &[Clause], clause: &[TermId]) -> Result<(), RuleFails>
     requires premises { All (AreIn table.now) premises.now }
     requires clause { AreIn table.now clause.now }
-    ensures { Judges table.now rules.Ite2 premises.now clause.now result }
+    ensures { JudgesRule table.now rules.Ite2 premises.now clause.now result }
 {
     by_scheme(table, Rule::Ite2, premises, clause)
 }
 
-/// Judges a step of the rule `not_ite1`, which opens the negation of a choice where its condition is not true.
+/// JudgesRule a step of the rule `not_ite1`, which opens the negation of a choice where its condition is not true.
 ///
 /// One premise, whose one term is `(not (ite c a b))`, for `a` and `b` of sort Bool; the conclusion is `(cl c (not b))`. It is
 /// sound, since a choice has the value of its third argument where its first is not true.
@@ -122,12 +122,12 @@ pub fn rule_not_ite1(
 ) -> Result<(), RuleFails>
     requires premises { All (AreIn table.now) premises.now }
     requires clause { AreIn table.now clause.now }
-    ensures { Judges table.now rules.NotIte1 premises.now clause.now result }
+    ensures { JudgesRule table.now rules.NotIte1 premises.now clause.now result }
 {
     by_scheme(table, Rule::NotIte1, premises, clause)
 }
 
-/// Judges a step of the rule `not_ite2`, which opens the negation of a choice where its condition is true.
+/// JudgesRule a step of the rule `not_ite2`, which opens the negation of a choice where its condition is true.
 ///
 /// One premise, whose one term is `(not (ite c a b))`, for `a` and `b` of sort Bool; the conclusion is `(cl (not c) (not a))`. It
 /// is sound, since a choice has the value of its second argument where its first is true.
@@ -140,7 +140,7 @@ pub fn rule_not_ite2(
 ) -> Result<(), RuleFails>
     requires premises { All (AreIn table.now) premises.now }
     requires clause { AreIn table.now clause.now }
-    ensures { Judges table.now rules.NotIte2 premises.now clause.now result }
+    ensures { JudgesRule table.now rules.NotIte2 premises.now clause.now result }
 {
     by_scheme(table, Rule::NotIte2, premises, clause)
 }

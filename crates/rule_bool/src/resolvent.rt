@@ -4,7 +4,7 @@ ghost use Rattle.std.specs.Prelude.{map, IfOk, All, MatchResult};
 ghost use Rattle.spec_rules.specs.Clauses.{IsResolvent};
 ghost use Rattle.term_core.specs.Tables.{AreIn, clause_at};
 ghost use Rattle.clause_literals.specs.Literals.{lists};
-ghost use Rattle.rule_bool.specs.Resolvents.{MeansEach, Stops};
+ghost use Rattle.rule_bool.specs.Resolvents.{MeansEach, StopsRule};
 
 use crate::rule_stop::RuleStop;
 use clause_literals::{literals_of, resolves};
@@ -51,7 +51,7 @@ pub fn resolution(
     requires clause { AreIn table.now clause.now }
     ensures { MatchResult result
         (λ _. IsResolvent (map (clause_at table.now) premises.now) (clause_at table.now clause.now))
-        (λ stop. Stops stop (IsResolvent (map (clause_at table.now) premises.now) (clause_at table.now clause.now)) ⊥) }
+        (λ stop. StopsRule stop (IsResolvent (map (clause_at table.now) premises.now) (clause_at table.now clause.now)) ⊥) }
 {
     let found = premises_of(alloc, table, premises)?;
     let wanted = literals_of(alloc, table, clause)?;

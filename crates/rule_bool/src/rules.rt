@@ -5,7 +5,7 @@ ghost use Rattle.spec_proofs.specs.declared.Rule.TheVariants as rules;
 ghost use Rattle.spec_rules.specs.Rules.{IsWeakening};
 ghost use Rattle.term_core.specs.Tables.{AreIn, clause_at};
 ghost use Rattle.rule_bool.specs.Premises.{IsDisjunctionAlone, HasNoDisjunctionAlone};
-ghost use Rattle.rule_bool.specs.Schemes.{IsExact, Judges};
+ghost use Rattle.rule_bool.specs.Schemes.{IsExact, JudgesRule};
 
 use crate::within::has_each;
 use term_core::{Clause, Head, Node, RuleFails, TermId, TermTable};
@@ -42,7 +42,7 @@ fn disjunction<'a>(table: &'a TermTable, premises: &[Clause]) -> Option<&'a Node
 pub fn rule_or(table: &TermTable, premises: &[Clause], clause: &[TermId]) -> Result<(), RuleFails>
     requires premises { All (AreIn table.now) premises.now }
     requires clause { AreIn table.now clause.now }
-    ensures { Judges table.now rules.Or premises.now clause.now result }
+    ensures { JudgesRule table.now rules.Or premises.now clause.now result }
 {
     table.ids_are_unique();
     let Some(node) = disjunction(table, premises) else {
@@ -90,12 +90,12 @@ pub fn rule_contraction(
 ) -> Result<(), RuleFails>
     requires premises { All (AreIn table.now) premises.now }
     requires clause { AreIn table.now clause.now }
-    ensures { Judges table.now rules.Contraction premises.now clause.now result }
+    ensures { JudgesRule table.now rules.Contraction premises.now clause.now result }
 {
     keeps_literals(table, premises, clause)
 }
 
-/// Judges a step of the rule `reordering`, which gives the literals in another order.
+/// JudgesRule a step of the rule `reordering`, which gives the literals in another order.
 ///
 /// One premise; the conclusion has each of its literals, as the same terms, and maybe others. It is sound, since where the
 /// premise is true, one of its literals is, and with it the conclusion.
@@ -111,12 +111,12 @@ pub fn rule_reordering(
 ) -> Result<(), RuleFails>
     requires premises { All (AreIn table.now) premises.now }
     requires clause { AreIn table.now clause.now }
-    ensures { Judges table.now rules.Reordering premises.now clause.now result }
+    ensures { JudgesRule table.now rules.Reordering premises.now clause.now result }
 {
     keeps_literals(table, premises, clause)
 }
 
-/// Judges a step of the rule `weakening`, which adds literals.
+/// JudgesRule a step of the rule `weakening`, which adds literals.
 ///
 /// One premise; the conclusion has each of its literals, as the same terms, at any places among others. It is sound, since where
 /// the premise is true, one of its literals is, and with it the conclusion.
@@ -133,7 +133,7 @@ pub fn rule_weakening(
 ) -> Result<(), RuleFails>
     requires premises { All (AreIn table.now) premises.now }
     requires clause { AreIn table.now clause.now }
-    ensures { Judges table.now rules.Weakening premises.now clause.now result }
+    ensures { JudgesRule table.now rules.Weakening premises.now clause.now result }
 {
     keeps_literals(table, premises, clause)
 }

@@ -1,7 +1,7 @@
 //! The schemes of the rules: which clauses a term gives, by its head and its arguments; and which rules are of equality.
 
 ghost use Rattle.std.specs.Prelude.{MatchOption};
-ghost use Rattle.rule_bool.specs.Schemes.{StatesNothing, States, TurnsNothing, Turns, EquatesNothing, Equates};
+ghost use Rattle.rule_bool.specs.Schemes.{StatesNothing, StatesScheme, TurnsNothing, Turns, EquatesNothing, Equates};
 
 use spec_equality::EqualityRule;
 use spec_proofs::{Rest, Rule, Side};
@@ -212,7 +212,7 @@ const NOT_NOT: Scheme = Scheme {
 
 /// Gives the scheme of which a rule states the clauses, without premises; nothing where the rule states none.
 pub fn scheme_of(rule: Rule) -> Option<Scheme>
-    ensures { MatchOption result (StatesNothing rule) (States rule) }
+    ensures { MatchOption result (StatesNothing rule) (StatesScheme rule) }
 {
     match rule {
         Rule::True => Some(TRUE),

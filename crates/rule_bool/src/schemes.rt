@@ -6,7 +6,7 @@ ghost use Rattle.spec_rules.specs.Rules.{IsStated, IsTurned};
 ghost use Rattle.term_core.specs.declared.ids.TermId.{TermId as Number};
 ghost use Rattle.term_core.specs.Tables.{IsIn, AreIn, term_at, clause_at, head_meant};
 ghost use Rattle.clause_literals.specs.Literals.{Tests};
-ghost use Rattle.rule_bool.specs.Schemes.{scheme_seen, IsStating, IsTurning, GivesRest, HasScheme, IsExact, Judges};
+ghost use Rattle.rule_bool.specs.Schemes.{scheme_seen, IsStating, IsTurning, GivesRest, HasScheme, IsExact, JudgesRule};
 
 use crate::rests::has_rest;
 use crate::scheme_table::{Scheme, scheme_of, turned_scheme_of};
@@ -128,7 +128,7 @@ pub(crate) fn by_scheme(
     requires rule { HasScheme rule }
     requires premises { All (AreIn table.now) premises.now }
     requires clause { AreIn table.now clause.now }
-    ensures { Judges table.now rule premises.now clause.now result }
+    ensures { JudgesRule table.now rule premises.now clause.now result }
 {
     if let Some(scheme) = scheme_of(rule) {
         return stated(table, scheme, premises, clause);

@@ -3,7 +3,7 @@
 ghost use Rattle.std.specs.Prelude.{All};
 ghost use Rattle.spec_proofs.specs.declared.Rule.TheVariants as rules;
 ghost use Rattle.term_core.specs.Tables.{AreIn};
-ghost use Rattle.rule_bool.specs.Schemes.{Judges};
+ghost use Rattle.rule_bool.specs.Schemes.{JudgesRule};
 
 use crate::schemes::by_scheme;
 use spec_proofs::Rule;
@@ -17,12 +17,12 @@ use term_core::{Clause, RuleFails, TermId, TermTable};
 pub fn rule_true(table: &TermTable, premises: &[Clause], clause: &[TermId]) -> Result<(), RuleFails>
     requires premises { All (AreIn table.now) premises.now }
     requires clause { AreIn table.now clause.now }
-    ensures { Judges table.now rules.True premises.now clause.now result }
+    ensures { JudgesRule table.now rules.True premises.now clause.now result }
 {
     by_scheme(table, Rule::True, premises, clause)
 }
 
-/// Judges a step of the rule `false`, which states that false is not true.
+/// JudgesRule a step of the rule `false`, which states that false is not true.
 ///
 /// No premise; the conclusion is `(cl (not false))`. It is sound, since `false` is true under no interpretation.
 ///
@@ -34,12 +34,12 @@ pub fn rule_false(
 ) -> Result<(), RuleFails>
     requires premises { All (AreIn table.now) premises.now }
     requires clause { AreIn table.now clause.now }
-    ensures { Judges table.now rules.False premises.now clause.now result }
+    ensures { JudgesRule table.now rules.False premises.now clause.now result }
 {
     by_scheme(table, Rule::False, premises, clause)
 }
 
-/// Judges a step of the rule `not_not`, which takes two of three negations away.
+/// JudgesRule a step of the rule `not_not`, which takes two of three negations away.
 ///
 /// No premise; the conclusion is `(cl (not (not (not a))) a)`. It is sound, since where `(not (not a))` is true, so is `a`.
 ///
@@ -51,7 +51,7 @@ pub fn rule_not_not(
 ) -> Result<(), RuleFails>
     requires premises { All (AreIn table.now) premises.now }
     requires clause { AreIn table.now clause.now }
-    ensures { Judges table.now rules.NotNot premises.now clause.now result }
+    ensures { JudgesRule table.now rules.NotNot premises.now clause.now result }
 {
     by_scheme(table, Rule::NotNot, premises, clause)
 }

@@ -4,8 +4,8 @@ use Rattle.std.specs.Prelude.{MatchBool}
 use Rattle.std.proofs.lemmas.List.{nil_from_length, length-map}
 use Rattle.spec_sorts.specs.Terms.{Truth, Term, sort_of}
 use Rattle.spec_sorts.specs.Literals.{Clause}
-use Rattle.spec_equality.specs.Reasons.{denied, Lead, AreCongruent}
-use Rattle.spec_equality.specs.EqualityRules.{IsTransitive, IsCongruent}
+use Rattle.spec_equality.specs.Reasons.{denied, Lead, HaveJoinedArguments}
+use Rattle.spec_equality.specs.EqualityRules.{IsTransitive, IsCongruenceRule}
 use Rattle.term_core.specs.declared.ids.TermId.{TermId}
 use Rattle.term_core.specs.Tables.{TableView, term_at, clause_at}
 use Rattle.rule_eq.specs.declared.endings.Ending.{Ending}
@@ -38,19 +38,19 @@ module _ (t : TableView) (c : Clause) (e : Ending) where
     not_led empty w = equal_once (λ ls u v. ls ≢ []) c (clause_at t e.literals.now) (term_at t e.one) (term_at t e.other) ends.same (w.0, w.1) (ap (clause_at t) (nil_from_length e.literals.now empty))
 
     -- literals that make the sides congruent, or do not
-    pub congruent : (b : Bool) → MatchBool b (IsLike t e) (IsLike t e → ⊥) → MatchBool b (IsCongruent [] c) (IsCongruent [] c → ⊥)
-    congruent true h = equal_so (λ ls u v. AreCongruent (map denied ls) u v) c (clause_at t e.literals.now) (term_at t e.one) (term_at t e.other) ends.same h
-    congruent false not_so = λ w. not_so (equal_once (λ ls u v. AreCongruent (map denied ls) u v) c (clause_at t e.literals.now) (term_at t e.one) (term_at t e.other) ends.same w)
+    pub congruent : (b : Bool) → MatchBool b (IsLike t e) (IsLike t e → ⊥) → MatchBool b (IsCongruenceRule [] c) (IsCongruenceRule [] c → ⊥)
+    congruent true h = equal_so (λ ls u v. HaveJoinedArguments (map denied ls) u v) c (clause_at t e.literals.now) (term_at t e.one) (term_at t e.other) ends.same h
+    congruent false not_so = λ w. not_so (equal_once (λ ls u v. HaveJoinedArguments (map denied ls) u v) c (clause_at t e.literals.now) (term_at t e.one) (term_at t e.other) ends.same w)
 
     -- the same of formulas
     pub formulas : sort_of (term_at t e.one) ≡ Truth → (b : Bool) → MatchBool b (IsLike t e) (IsLike t e → ⊥) → MatchBool b (EndsInFormulas c) (EndsInFormulas c → ⊥)
     formulas sort true h = (record { literals = clause_at t e.literals.now; one = term_at t e.one; other = term_at t e.other; same = ends.same }, sort, h)
-    formulas sort false not_so = λ w. not_so (equal_once (λ ls u v. AreCongruent (map denied ls) u v) c (clause_at t e.literals.now) (term_at t e.one) (term_at t e.other) ends.same (w.0, w.2))
+    formulas sort false not_so = λ w. not_so (equal_once (λ ls u v. HaveJoinedArguments (map denied ls) u v) c (clause_at t e.literals.now) (term_at t e.one) (term_at t e.other) ends.same (w.0, w.2))
 
     pub not_formulas : sort_of (term_at t e.one) ≢ Truth → EndsInFormulas c → ⊥
     not_formulas other w = other (equal_once (λ ls u v. sort_of u ≡ Truth) c (clause_at t e.literals.now) (term_at t e.one) (term_at t e.other) ends.same (w.0, w.1))
 
   -- literals that make a term and one that is negated congruent, or do not
   pub denies : IsDeniedEnding t c e → (b : Bool) → MatchBool b (IsLike t e) (IsLike t e → ⊥) → MatchBool b (EndsInDenied c) (EndsInDenied c → ⊥)
-  denies ends true h = denied_so (λ ls u v. AreCongruent (map denied ls) u v) c (clause_at t e.literals.now) (term_at t e.one) (term_at t e.other) ends.same h
-  denies ends false not_so = λ w. not_so (denied_once (λ ls u v. AreCongruent (map denied ls) u v) c (clause_at t e.literals.now) (term_at t e.one) (term_at t e.other) ends.same w)
+  denies ends true h = denied_so (λ ls u v. HaveJoinedArguments (map denied ls) u v) c (clause_at t e.literals.now) (term_at t e.one) (term_at t e.other) ends.same h
+  denies ends false not_so = λ w. not_so (denied_once (λ ls u v. HaveJoinedArguments (map denied ls) u v) c (clause_at t e.literals.now) (term_at t e.one) (term_at t e.other) ends.same w)

@@ -2,7 +2,7 @@
 
 ghost use Rattle.std.specs.Prelude.{All};
 ghost use Rattle.term_core.specs.Tables.{AreIn};
-ghost use Rattle.rule_eq.specs.Judging.{Judges};
+ghost use Rattle.rule_eq.specs.Judging.{JudgesEquality};
 
 use crate::choices::{rule_x_ite_else, rule_x_ite_then};
 use crate::identities::{rule_distinct_elim, rule_eq_reflexive, rule_refl};
@@ -25,7 +25,7 @@ pub fn judge_equality(
 ) -> Result<(), RuleFails>
     requires premises { All (AreIn table.now) premises.now }
     requires clause { AreIn table.now clause.now }
-    ensures { Judges table.now rule premises.now clause.now result }
+    ensures { JudgesEquality table.now rule premises.now clause.now result }
 {
     match rule {
         EqualityRule::EqReflexive => rule_eq_reflexive(table, premises, clause),

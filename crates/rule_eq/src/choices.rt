@@ -3,7 +3,7 @@
 ghost use Rattle.std.specs.Prelude.{All, MatchOption};
 ghost use Rattle.spec_equality.specs.declared.EqualityRule.TheVariants as rules;
 ghost use Rattle.term_core.specs.Tables.{IsIn, AreIn, term_at};
-ghost use Rattle.rule_eq.specs.Judging.{IsNoChoice, IsChoice, Judges};
+ghost use Rattle.rule_eq.specs.Judging.{IsNoChoice, IsIteEquality, JudgesEquality};
 
 use crate::sides::{both, denied, is_formula, same_number, sides};
 use term_core::{Clause, Head, RuleFails, TermId, TermTable};
@@ -24,7 +24,7 @@ pub(crate) struct Choice {
 /// Gives the terms of an equality of a choice with a term of another sort than Bool, or nothing where the term is none.
 fn choice_of(table: &TermTable, id: TermId) -> Option<Choice>
     requires { IsIn table.now id }
-    ensures { MatchOption result (IsNoChoice (term_at table.now id)) (IsChoice table.now (term_at table.now id)) }
+    ensures { MatchOption result (IsNoChoice (term_at table.now id)) (IsIteEquality table.now (term_at table.now id)) }
 {
     let Some((one, side)) = sides(table, id) else {
         return None;
@@ -58,7 +58,7 @@ pub fn rule_x_ite_then(
 ) -> Result<(), RuleFails>
     requires premises { All (AreIn table.now) premises.now }
     requires clause { AreIn table.now clause.now }
-    ensures { Judges table.now rules.IteThen premises.now clause.now result }
+    ensures { JudgesEquality table.now rules.IteThen premises.now clause.now result }
 {
     table.ids_are_unique();
     if !premises.is_empty() {
@@ -93,7 +93,7 @@ pub fn rule_x_ite_else(
 ) -> Result<(), RuleFails>
     requires premises { All (AreIn table.now) premises.now }
     requires clause { AreIn table.now clause.now }
-    ensures { Judges table.now rules.IteElse premises.now clause.now result }
+    ensures { JudgesEquality table.now rules.IteElse premises.now clause.now result }
 {
     table.ids_are_unique();
     if !premises.is_empty() {

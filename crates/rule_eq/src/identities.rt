@@ -4,7 +4,7 @@ ghost use Rattle.std.specs.Prelude.{map, All};
 ghost use Rattle.spec_equality.specs.declared.EqualityRule.TheVariants as rules;
 ghost use Rattle.spec_equality.specs.EqualityRules.{IsReflexive};
 ghost use Rattle.term_core.specs.Tables.{AreIn, clause_at};
-ghost use Rattle.rule_eq.specs.Judging.{IsExactly, Judges};
+ghost use Rattle.rule_eq.specs.Judging.{IsExactly, JudgesEquality};
 
 use crate::sides::{same_number, sides};
 use term_core::{Clause, RuleFails, TermId, TermTable};
@@ -42,12 +42,12 @@ pub fn rule_eq_reflexive(
 ) -> Result<(), RuleFails>
     requires premises { All (AreIn table.now) premises.now }
     requires clause { AreIn table.now clause.now }
-    ensures { Judges table.now rules.EqReflexive premises.now clause.now result }
+    ensures { JudgesEquality table.now rules.EqReflexive premises.now clause.now result }
 {
     reflexive(table, premises, clause)
 }
 
-/// Judges a step of the rule `refl`, by which a term is equal to itself.
+/// JudgesEquality a step of the rule `refl`, by which a term is equal to itself.
 ///
 /// No premise; the conclusion is `(cl (= t t))`. It is sound, since each value is the same as itself.
 ///
@@ -55,12 +55,12 @@ pub fn rule_eq_reflexive(
 pub fn rule_refl(table: &TermTable, premises: &[Clause], clause: &[TermId]) -> Result<(), RuleFails>
     requires premises { All (AreIn table.now) premises.now }
     requires clause { AreIn table.now clause.now }
-    ensures { Judges table.now rules.Refl premises.now clause.now result }
+    ensures { JudgesEquality table.now rules.Refl premises.now clause.now result }
 {
     reflexive(table, premises, clause)
 }
 
-/// Judges a step of the rule `distinct_elim`, by which `distinct` is equal to what it means.
+/// JudgesEquality a step of the rule `distinct_elim`, by which `distinct` is equal to what it means.
 ///
 /// No premise; the conclusion is `(cl (= t t))`: a term of `distinct` is read as the negated equalities that it means, so that both
 /// sides are one term. It is sound, since each value is the same as itself.
@@ -73,7 +73,7 @@ pub fn rule_distinct_elim(
 ) -> Result<(), RuleFails>
     requires premises { All (AreIn table.now) premises.now }
     requires clause { AreIn table.now clause.now }
-    ensures { Judges table.now rules.DistinctElim premises.now clause.now result }
+    ensures { JudgesEquality table.now rules.DistinctElim premises.now clause.now result }
 {
     reflexive(table, premises, clause)
 }

@@ -1,7 +1,7 @@
 //! Arguments that reasons join.
 
 ghost use Rattle.std.specs.Prelude.{◌≡◌, ◌≢◌, ◌<◌, ◌≤◌, length, MatchBool, MatchOption};
-ghost use Rattle.spec_equality.specs.Reasons.{AreJoined, AreCongruent};
+ghost use Rattle.spec_equality.specs.Reasons.{AreJoined, HaveJoinedArguments};
 ghost use Rattle.term_core.specs.Tables.{IsIn, AreIn, term_at, clause_at};
 ghost use Rattle.clause_literals.specs.Literals.{Tests};
 ghost use Rattle.rule_eq.specs.Reasoning.{reasons_meant, AreReasonsIn, JoinsAt, HasNoneBetween, HasReasonIn, AreOneOrJoined};
@@ -133,7 +133,7 @@ pub(crate) fn are_congruent(
     requires reasons { AreReasonsIn table.now reasons }
     requires one { IsIn table.now one }
     requires other { IsIn table.now other }
-    ensures { Tests (AreCongruent (reasons_meant table.now reasons.entry) (term_at table.now one)
+    ensures { Tests (HaveJoinedArguments (reasons_meant table.now reasons.entry) (term_at table.now one)
         (term_at table.now other)) result }
 {
     table.ids_are_unique();

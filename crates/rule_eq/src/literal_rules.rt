@@ -4,7 +4,7 @@ ghost use Rattle.std.specs.Prelude.{All};
 ghost use Rattle.spec_equality.specs.declared.EqualityRule.TheVariants as rules;
 ghost use Rattle.term_core.specs.Tables.{AreIn, clause_at};
 ghost use Rattle.clause_literals.specs.Literals.{Tests};
-ghost use Rattle.rule_eq.specs.Judging.{EndsInFormulas, EndsInDenied, Judges};
+ghost use Rattle.rule_eq.specs.Judging.{EndsInFormulas, EndsInDenied, JudgesEquality};
 
 use crate::endings::{are_like, denied_ending, equal_ending};
 use crate::reasons::{Reasons, lead};
@@ -27,7 +27,7 @@ pub fn rule_eq_transitive(
 ) -> Result<(), RuleFails>
     requires premises { All (AreIn table.now) premises.now }
     requires clause { AreIn table.now clause.now }
-    ensures { Judges table.now rules.EqTransitive premises.now clause.now result }
+    ensures { JudgesEquality table.now rules.EqTransitive premises.now clause.now result }
 {
     if !premises.is_empty() {
         return Err(RuleFails);
@@ -62,7 +62,7 @@ pub fn rule_eq_congruent(
 ) -> Result<(), RuleFails>
     requires premises { All (AreIn table.now) premises.now }
     requires clause { AreIn table.now clause.now }
-    ensures { Judges table.now rules.EqCongruent premises.now clause.now result }
+    ensures { JudgesEquality table.now rules.EqCongruent premises.now clause.now result }
 {
     if !premises.is_empty() {
         return Err(RuleFails);
@@ -119,7 +119,7 @@ pub fn rule_eq_congruent_pred(
 ) -> Result<(), RuleFails>
     requires premises { All (AreIn table.now) premises.now }
     requires clause { AreIn table.now clause.now }
-    ensures { Judges table.now rules.EqCongruentPred premises.now clause.now result }
+    ensures { JudgesEquality table.now rules.EqCongruentPred premises.now clause.now result }
 {
     if !premises.is_empty() {
         return Err(RuleFails);

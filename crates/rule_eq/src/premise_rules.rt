@@ -3,7 +3,7 @@
 ghost use Rattle.std.specs.Prelude.{All};
 ghost use Rattle.spec_equality.specs.declared.EqualityRule.TheVariants as rules;
 ghost use Rattle.term_core.specs.Tables.{AreIn};
-ghost use Rattle.rule_eq.specs.Judging.{Judges};
+ghost use Rattle.rule_eq.specs.Judging.{JudgesEquality};
 
 use crate::joined::are_congruent;
 use crate::reasons::{Reasons, lead};
@@ -19,7 +19,7 @@ use term_core::{Clause, RuleFails, TermId, TermTable};
 pub fn rule_symm(table: &TermTable, premises: &[Clause], clause: &[TermId]) -> Result<(), RuleFails>
     requires premises { All (AreIn table.now) premises.now }
     requires clause { AreIn table.now clause.now }
-    ensures { Judges table.now rules.Symm premises.now clause.now result }
+    ensures { JudgesEquality table.now rules.Symm premises.now clause.now result }
 {
     let Some(stated) = premise_alone(premises) else {
         return Err(RuleFails);
@@ -51,7 +51,7 @@ pub fn rule_trans(
 ) -> Result<(), RuleFails>
     requires premises { All (AreIn table.now) premises.now }
     requires clause { AreIn table.now clause.now }
-    ensures { Judges table.now rules.Trans premises.now clause.now result }
+    ensures { JudgesEquality table.now rules.Trans premises.now clause.now result }
 {
     let [id] = clause else {
         return Err(RuleFails);
@@ -81,7 +81,7 @@ pub fn rule_trans(
 pub fn rule_cong(table: &TermTable, premises: &[Clause], clause: &[TermId]) -> Result<(), RuleFails>
     requires premises { All (AreIn table.now) premises.now }
     requires clause { AreIn table.now clause.now }
-    ensures { Judges table.now rules.Cong premises.now clause.now result }
+    ensures { JudgesEquality table.now rules.Cong premises.now clause.now result }
 {
     let [id] = clause else {
         return Err(RuleFails);

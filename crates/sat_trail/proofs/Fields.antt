@@ -6,7 +6,7 @@ use Rattle.std.proofs.lemmas.List.{length_push, length-set, length-map, take-map
 use Rattle.term_core.specs.declared.ids.Lit.{Lit}
 use Rattle.sat_trail.specs.Trails.{IsUnassigned, IsPushed, IsCutTo, IsLeveled, HasSame}
 use Rattle.sat_trail.specs.Values.{HasValues}
-use Rattle.sat_trail.specs.Kept.{by_variable, view_of, AreStarts, AreLevels, IsKept}
+use Rattle.sat_trail.specs.Kept.{by_variable, trail_view, AreStarts, AreLevels, TrailFits}
 use Rattle.sat_trail.specs.declared.trail.SatTrail.TheInside.{Inside}
 use Rattle.sat_trail.proofs.ValueLaws.{no_value, push_values, bounded, apart_from, pushed_map, grown_map, grown_values, term_below}
 use Rattle.sat_trail.proofs.LevelLaws.{starts_fit, starts_more, starts_push, starts_back, levels_implied, levels_decided, levels_cut, leveled_by}
@@ -17,7 +17,7 @@ levels_of t = by_variable t.levels.items 0 t.literals.items
 abbrev reasons_of : Inside → List (Option ℕ)
 reasons_of t = by_variable t.reasons.items None t.literals.items
 
-module _ (t : Inside) (k : IsKept t) where
+module _ (t : Inside) (k : TrailFits t) where
   pub levels_count : length (levels_of t) ≡ length t.literals.items
   levels_count = length-map t.literals.items (λ (l : Lit). get_or t.levels.items l.term.0 0)
 
@@ -25,8 +25,8 @@ module _ (t : Inside) (k : IsKept t) where
   reasons_count = length-map t.literals.items (λ (l : Lit). get_or t.reasons.items l.term.0 None)
 
   -- what callers see of its levels
-  pub is_leveled : IsLeveled (view_of t)
-  is_leveled = leveled_by t.starts.items (levels_of t) (reasons_of t) (length t.literals.items) k.starts_by k.leveled levels_count reasons_count (view_of t) refl refl refl refl
+  pub is_leveled : IsLeveled (trail_view t)
+  is_leveled = leveled_by t.starts.items (levels_of t) (reasons_of t) (length t.literals.items) k.starts_by k.leveled levels_count reasons_count (trail_view t) refl refl refl refl
 
   module _ (l : Lit) (known : l.term.0 < length t.values.items) (o : IsUnassigned t.literals.items l) where
     none : get_or t.values.items l.term.0 None ≡ None
@@ -56,7 +56,7 @@ module _ (t : Inside) (k : IsKept t) where
       seen_reasons : reasons_of u ≡ reasons_of t ++ r ∷ []
       seen_reasons = (λ i. by_variable (reasons i) None (literals i)) ∙ pushed_map t.literals.items l t.reasons.items r None (omega (arith, known, k.reasons_by)) (apart_from t.literals.items t.values.items k.values_by l none)
 
-      pub is_pushed : length u.starts.items ≡ n → IsPushed (view_of t) l r n (view_of u)
+      pub is_pushed : length u.starts.items ≡ n → IsPushed (trail_view t) l r n (trail_view u)
       is_pushed e = record {
         literals = literals;
         levels = seen_levels;
@@ -67,7 +67,7 @@ module _ (t : Inside) (k : IsKept t) where
       }
 
       kept_with : vec_capacity u.literals ≡ vec_capacity t.literals → vec_capacity u.starts ≡ vec_capacity t.starts → AreStarts u.starts.items (length t.literals.items + 1)
-          → AreLevels u.starts.items (levels_of t ++ n ∷ []) (reasons_of t ++ r ∷ []) → IsKept u
+          → AreLevels u.starts.items (levels_of t ++ n ∷ []) (reasons_of t ++ r ∷ []) → TrailFits u
       kept_with room level_room starts leveled = record {
         marked = omega (arith, marked, k.marked, ap length literals, length_push t.literals.items l);
         values_by = subst (λ (xs : List Lit). HasValues xs u.values.items) (sym literals) (subst (HasValues (t.literals.items ++ l ∷ [])) (sym values) pushed);
@@ -83,7 +83,7 @@ module _ (t : Inside) (k : IsKept t) where
           size = ap length values ∙ length-set _ _ _
 
       -- it is implied at the level
-      pub kept_implied : (s : ℕ) → r ≡ Some s → u.starts.items ≡ t.starts.items → n ≡ length t.starts.items → vec_capacity u.literals ≡ vec_capacity t.literals → vec_capacity u.starts ≡ vec_capacity t.starts → IsKept u
+      pub kept_implied : (s : ℕ) → r ≡ Some s → u.starts.items ≡ t.starts.items → n ≡ length t.starts.items → vec_capacity u.literals ≡ vec_capacity t.literals → vec_capacity u.starts ≡ vec_capacity t.starts → TrailFits u
       kept_implied s re se ne room level_room = kept_with room level_room
           (subst (λ (xs : List ℕ). AreStarts xs (length t.literals.items + 1)) (sym se) (starts_more _ _ k.starts_by))
           (subst (λ (xs : List ℕ). AreLevels xs (levels_of t ++ n ∷ []) (reasons_of t ++ r ∷ [])) (sym se)
@@ -92,7 +92,7 @@ module _ (t : Inside) (k : IsKept t) where
           (levels_implied _ _ _ _ k.starts_by k.leveled levels_count reasons_count s))))
 
       -- it is decided, at a new level
-      pub kept_decided : r ≡ None → u.starts.items ≡ t.starts.items ++ length t.literals.items ∷ [] → n ≡ length t.starts.items + 1 → vec_capacity u.literals ≡ vec_capacity t.literals → vec_capacity u.starts ≡ vec_capacity t.starts → IsKept u
+      pub kept_decided : r ≡ None → u.starts.items ≡ t.starts.items ++ length t.literals.items ∷ [] → n ≡ length t.starts.items + 1 → vec_capacity u.literals ≡ vec_capacity t.literals → vec_capacity u.starts ≡ vec_capacity t.starts → TrailFits u
       kept_decided re se ne room level_room = kept_with room level_room
           (subst (λ (xs : List ℕ). AreStarts xs (length t.literals.items + 1)) (sym se) (starts_push _ _ k.starts_by))
           (subst (λ (xs : List ℕ). AreLevels xs (levels_of t ++ n ∷ []) (reasons_of t ++ r ∷ [])) (sym se)
@@ -120,7 +120,7 @@ module _ (t : Inside) (k : IsKept t) where
     cut_reasons : reasons_of u ≡ take at (reasons_of t)
     cut_reasons = (λ i. by_variable (reasons i) None (literals i)) ∙ sym (take-map (λ (l : Lit). get_or t.reasons.items l.term.0 None) at t.literals.items)
 
-    pub is_cut : IsCutTo (view_of t) level (view_of u)
+    pub is_cut : IsCutTo (trail_view t) level (trail_view u)
     is_cut = record {
       kept = at;
       within = there;
@@ -134,7 +134,7 @@ module _ (t : Inside) (k : IsKept t) where
       propagated = marked;
     }
 
-    pub kept_cut : HasValues u.literals.items u.values.items → vec_capacity u.literals ≡ vec_capacity t.literals → vec_capacity u.starts ≡ vec_capacity t.starts → IsKept u
+    pub kept_cut : HasValues u.literals.items u.values.items → vec_capacity u.literals ≡ vec_capacity t.literals → vec_capacity u.starts ≡ vec_capacity t.starts → TrailFits u
     kept_cut values room level_room = record {
       marked = omega (arith, marked, min-le_right t.propagated at, ap length literals, length-take-le at t.literals.items there);
       values_by = values;
@@ -161,10 +161,10 @@ module _ (t : Inside) (k : IsKept t) where
     grown_reasons : reasons_of u ≡ reasons_of t
     grown_reasons = (λ i. by_variable (reasons i) None (literals i)) ∙ grown_map t.literals.items t.reasons.items None None (λ l m. omega (arith, term_below t.literals.items t.values.items k.values_by l m, k.reasons_by))
 
-    pub is_same : HasSame (view_of t) (view_of u)
+    pub is_same : HasSame (trail_view t) (trail_view u)
     is_same = record { literals = literals; levels = grown_levels; reasons = grown_reasons; level = ap length starts }
 
-    pub kept_grown : length t.values.items + 1 ≤ vec_capacity u.literals → length t.values.items + 1 ≤ vec_capacity u.starts → IsKept u
+    pub kept_grown : length t.values.items + 1 ≤ vec_capacity u.literals → length t.values.items + 1 ≤ vec_capacity u.starts → TrailFits u
     kept_grown room level_room = record {
       marked = omega (arith, marked, k.marked, ap length literals);
       values_by = subst (λ (xs : List Lit). HasValues xs u.values.items) (sym literals) (subst (HasValues t.literals.items) (sym values) (grown_values t.literals.items t.values.items k.values_by));

@@ -12,7 +12,7 @@ use Rattle.term_core.specs.declared.ids.TermId.{TermId}
 use Rattle.term_core.specs.declared.ids.Lit.{Lit}
 use Rattle.term_core.proofs.Numbers.{same_id}
 use Rattle.clause_literals.specs.Literals.{lit_complement}
-use Rattle.sat_trail.specs.Trails.{no_lit, AreApart, IsUnassigned, HasValue}
+use Rattle.sat_trail.specs.Trails.{no_lit, VariablesAreApart, IsUnassigned, HasValue}
 use Rattle.sat_trail.specs.Values.{HasValues}
 use Rattle.sat_trail.specs.Kept.{by_variable}
 
@@ -81,7 +81,7 @@ module _ (held : List Lit) (values : List (Option Bool)) (h : HasValues held val
         | inr other ↦ Contains-append_left held (l ∷ []) m (h.only m (sym (get_or-set_other values l.term.0 m.term.0 (Some l.positive) None other) ∙ e))
       ]
 
-      once : AreApart (held ++ l ∷ [])
+      once : VariablesAreApart (held ++ l ∷ [])
       once i j d ij within = elim (cases_lt j (length held)) [
         | inl lj ↦ λ e. h.once i j d ij lj (sym (ap (λ (x : Lit). x.term) (get_or_append_left held (l ∷ []) d i (omega (arith, ij, lj)))) ∙ e ∙ ap (λ (x : Lit). x.term) (get_or_append_left held (l ∷ []) d j lj))
         | inr le ↦

@@ -10,8 +10,8 @@ abbrev pub by_variable : {X : Type 0} → List X → X → List Lit → List X
 by_variable xs d held = map (λ (l : Lit). get_or xs l.term.0 d) held
 
 -- what the fields mean
-abbrev pub view_of : Inside → TrailView
-view_of t = record {
+abbrev pub trail_view : Inside → TrailView
+trail_view t = record {
   literals = t.literals.items;
   levels = by_variable t.levels.items 0 t.literals.items;
   reasons = by_variable t.reasons.items None t.literals.items;
@@ -43,7 +43,7 @@ pub record AreLevels (starts levels : List ℕ) (reasons : List (Option ℕ)) : 
   pub only : (p : ℕ) → p < length reasons → get_or reasons p None ≡ None → (k : ℕ) × (k < length starts) × (get_or starts k 0 ≡ p)
 
 -- The fields fit, and there is room for one literal and one level of each variable.
-pub record IsKept (t : Inside) : Type 0 where
+pub record TrailFits (t : Inside) : Type 0 where
   -- values are those of the literals
   pub values_by : HasValues t.literals.items t.values.items
   -- levels and reasons are there for each variable

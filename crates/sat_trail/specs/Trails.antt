@@ -28,8 +28,8 @@ abbrev pub no_lit : Lit
 no_lit = record { term = record { 0 = 0 }; positive = false }
 
 -- no two of the literals have one variable
-abbrev pub AreApart : List Lit → Type 0
-AreApart literals = AllPairs (λ (l m : Lit). l.term ≡ m.term → ⊥) literals
+abbrev pub VariablesAreApart : List Lit → Type 0
+VariablesAreApart literals = AllPairs (λ (l m : Lit). l.term ≡ m.term → ⊥) literals
 
 -- neither the literal holds nor its complement
 pub record IsUnassigned (held : List Lit) (l : Lit) : Type 0 where

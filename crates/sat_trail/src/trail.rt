@@ -2,7 +2,7 @@
 
 ghost use Rattle.std.specs.Prelude.{◌≡◌, ℕ, ◌+◌, ◌^◌, ◌<◌, ◌≤◌, length, take, All, OnOk, OnErr, None, Some, get_or, vec_capacity};
 ghost use Rattle.clause_literals.specs.Literals.{IsConsistent};
-ghost use Rattle.sat_trail.specs.Trails.{TrailView, empty, no_lit, AreApart, IsUnassigned, HasValue, HasSame, IsPushed, IsCutTo, IsLeveled};
+ghost use Rattle.sat_trail.specs.Trails.{TrailView, empty, no_lit, VariablesAreApart, IsUnassigned, HasValue, HasSame, IsPushed, IsCutTo, IsLeveled};
 ghost use Rattle.sat_trail.specs.Values.{HasValues};
 
 use std::alloc::Global;
@@ -54,11 +54,11 @@ impl Model for SatTrail {
 
     ghost Value = { TrailView };
 
-    ghost use Rattle.sat_trail.specs.Kept.{view_of, IsKept};
+    ghost use Rattle.sat_trail.specs.Kept.{trail_view, TrailFits};
 
-    ghost view = { view_of };
+    ghost view = { trail_view };
 
-    ghost invariant = { IsKept };
+    ghost invariant = { TrailFits };
 }
 
 impl SatTrail {
@@ -230,7 +230,7 @@ impl SatTrail {
     /// at most as many literals as variables, and how the levels go.
     pub fn is_sound(&self)
         ensures known { All (λ l. l.term.0 < self.now.vars) self.now.literals }
-        ensures once { AreApart self.now.literals }
+        ensures once { VariablesAreApart self.now.literals }
         ensures consistent { IsConsistent self.now.literals }
         ensures within { length self.now.literals ≤ self.now.vars }
         ensures small { self.now.vars < 2 ^ 63 }

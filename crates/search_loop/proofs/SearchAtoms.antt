@@ -14,9 +14,9 @@ use Rattle.spec_derivations.proofs.OrderedTerms.{whole_closed, searched_whole, w
 use Rattle.term_core.specs.declared.ids.Lit.{Lit}
 use Rattle.term_core.specs.Tables.{TableView, IsIn, AreDifferent, term_at, literal_at, positive_literal}
 use Rattle.clause_literals.specs.Literals.{lit_complement, IsConsistent}
-use Rattle.clause_literals.specs.Statuses.{IsSettled}
+use Rattle.clause_literals.specs.Statuses.{PropagatesNothing}
 use Rattle.clause_literals.proofs.TableLiterals.{literals_apart}
-use Rattle.clause_store.specs.Propagating.{IsQuiet}
+use Rattle.clause_store.specs.Propagating.{IsPropagated}
 
 -- a clause of what a term means is one of those that a search begins with
 among_whole : (p : Problem) (u : Term) (c : Clause) → Contains (whole_terms p) u → Contains (whole_clauses_of u) c → Contains (whole_clauses p) c
@@ -93,7 +93,7 @@ fact_alone _ u i = absurd (none u i)
 -- clauses that are quiet, and have those that a search begins with
 module _ (t : TableView) (differ : AreDifferent t.terms) (problem : Problem) (clauses : List (List Lit)) (clauses_in : (d : List Lit) (l : Lit) → Contains clauses d → Contains d l → IsIn t l.term)
     (base : (c : Clause) → Contains (whole_clauses problem) c → (d : List Lit) × Contains clauses d × (map (literal_at t) d ≡ literals_of c))
-    (front : List Lit) (consistent : IsConsistent front) (quiet : IsQuiet clauses front) where
+    (front : List Lit) (consistent : IsConsistent front) (quiet : IsPropagated clauses front) where
   -- a literal that means this one holds
   abbrev Holds : Literal → Type 0
   Holds z = (l : Lit) × Contains front l × IsIn t l.term × (literal_at t l ≡ z)
@@ -115,7 +115,7 @@ module _ (t : TableView) (differ : AreDifferent t.terms) (problem : Problem) (cl
       | inr k ↦ inr (subst (Contains front) (literals_apart t differ k.0 (lit_complement l) k.2 (clauses_in d l there i) k.3) k.1)
     ]
 
-    go : IsSettled front d → Contains front one.0
+    go : PropagatesNothing front d → Contains front one.0
     go (inl s) = elim (each s.literal s.there) [
       | inl e ↦ subst (Contains front) e s.holds
       | inr fails ↦ absurd (consistent s.literal s.holds fails)

@@ -21,7 +21,7 @@ use Rattle.term_core.specs.declared.ids.Lit.{Lit}
 use Rattle.term_core.specs.Tables.{TableView, IsIn, AreDifferent, term_at, literal_at, clause_at}
 use Rattle.term_core.proofs.TermsExtend.{clause_at-kept}
 use Rattle.term_core.proofs.Numbers.{same_numbers}
-use Rattle.clause_literals.specs.Literals.{AreOf}
+use Rattle.clause_literals.specs.Literals.{AreLiteralsIn}
 use Rattle.proof_log.specs.declared.premises.StepId.{StepId}
 use Rattle.proof_log.specs.Logs.{Logged, assumed, stepped, named, no_logged, logged_at, inference_of, derivation_in}
 use Rattle.proof_log.specs.Theories.{IsTermIn}
@@ -34,9 +34,9 @@ use Rattle.clausify.specs.HavingClauses.{HasClauses}
 use Rattle.term_clauses.specs.Growth.{AssumesOneOf, Grows, AreAllMade}
 use Rattle.clausify.specs.SearchTerms.{AreSearchTerms}
 use Rattle.conflict_learn.proofs.Meanings.{bare_in}
-use Rattle.clause_store.specs.Stores.{StoreView, no_step, empty, AreKnown, IsAdded}
+use Rattle.clause_store.specs.Stores.{StoreView, no_step, empty, LiteralsAreBelow, IsAdded}
 use Rattle.search_loop.specs.declared.search.Search.{Search}
-use Rattle.search_loop.specs.Search.{images, Derives, AreAtomsAmong, AreCovered, IsStoreOf}
+use Rattle.search_loop.specs.Search.{images, DerivesClauses, AreAtomsAmong, AreCovered, IsStoreOf}
 use Rattle.search_loop.specs.Rounds.{ComesFrom, HasDerived, IsSearch}
 use Rattle.search_loop.proofs.SearchLogs.{steps_start}
 use Rattle.search_loop.proofs.SearchStored.{derives_with}
@@ -53,10 +53,10 @@ store_more t log steps s a b lt h y = record {
 }
 
 -- the terms of the clauses are variables, where there is one for each term of the table
-pub store_known : (t : TableView) (log : List Logged) (s : StoreView) (vars : ℕ) → Derives t log s → vars ≡ length t.terms → AreKnown s vars
+pub store_known : (t : TableView) (log : List Logged) (s : StoreView) (vars : ℕ) → DerivesClauses t log s → vars ≡ length t.terms → LiteralsAreBelow s vars
 store_known t log s vars h e k d lt j x small =
     let same : get_or s.clauses k [] ≡ get_or s.clauses k d = get_or_default s.clauses k [] d lt in
-    let there = subst (AreOf t) same (h.same k lt).there j x small in
+    let there = subst (AreLiteralsIn t) same (h.same k lt).there j x small in
     omega (arith, there, e)
 
 -- what is assumed is one of the terms

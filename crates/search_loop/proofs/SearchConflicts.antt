@@ -17,13 +17,13 @@ use Rattle.term_core.specs.declared.ids.TermId.{TermId}
 use Rattle.term_core.specs.declared.ids.Lit.{Lit}
 use Rattle.term_core.specs.Tables.{TableView, IsIn, AreDifferent, term_at, literal_at}
 use Rattle.clause_literals.specs.Literals.{lit_complement, IsConsistent}
-use Rattle.sat_trail.specs.Trails.{no_lit, AreApart, IsLeveled}
+use Rattle.sat_trail.specs.Trails.{no_lit, VariablesAreApart, IsLeveled}
 use Rattle.proof_log.specs.declared.premises.StepId.{StepId}
 use Rattle.conflict_learn.specs.Conflicts.{IsFalseAt, IsConflictLevel}
 use Rattle.conflict_learn.specs.Learned.{HasOneAt}
 use Rattle.conflict_learn.proofs.Places.{early_place}
 use Rattle.search_loop.specs.declared.search.Search.{Search}
-use Rattle.search_loop.specs.Search.{images, IsReady, conflict_of}
+use Rattle.search_loop.specs.Search.{images, SearchFits, conflict_of}
 use Rattle.search_loop.specs.Rounds.{HasDerived}
 use Rattle.search_loop.proofs.SearchValues.{one_of_two}
 use Rattle.search_loop.proofs.SearchLevels.{decision_of, open_before, not_before, false_before}
@@ -31,7 +31,7 @@ use Rattle.search_loop.proofs.SearchReady.{atom_at, atom_in, clauses_in, held_in
 use Rattle.search_loop.proofs.SearchNew.{new_at}
 use Rattle.search_loop.proofs.SearchAtoms.{is_atom}
 
-module _ (t : TableView) (differ : AreDifferent t.terms) (x : Search) (r : IsReady t x) (once : AreApart x.trail.literals) (leveled : IsLeveled x.trail) (consistent : IsConsistent x.trail.literals)
+module _ (t : TableView) (differ : AreDifferent t.terms) (x : Search) (r : SearchFits t x) (once : VariablesAreApart x.trail.literals) (leveled : IsLeveled x.trail) (consistent : IsConsistent x.trail.literals)
     (problem : Problem) (d : Derivation) (learned : List (List Literal)) (h : HasDerived problem d (images t x.store.clauses) learned) where
   -- each clause that a search begins with, and what was learned, is a clause of the store
   from_store : (c : List Literal) → Contains (images t x.store.clauses) c → (e : List Lit) × Contains x.store.clauses e × (map (literal_at t) e ≡ c)

@@ -7,10 +7,10 @@ use Rattle.std.proofs.lemmas.List.Elements.{Contains-push_cases}
 use Rattle.std.proofs.Math.Seq.{get_or-append_seam, take-append_seam}
 use Rattle.term_core.specs.declared.ids.TermId.{TermId}
 use Rattle.term_core.specs.declared.ids.Lit.{Lit}
-use Rattle.clause_literals.specs.Statuses.{IsSettled}
+use Rattle.clause_literals.specs.Statuses.{PropagatesNothing}
 use Rattle.sat_trail.specs.Trails.{TrailView, no_lit, HasSame, empty as no_trail, IsPushed, IsCutTo}
 use Rattle.clause_store.specs.Stores.{StoreView}
-use Rattle.clause_store.specs.Propagating.{Adds, IsQuiet}
+use Rattle.clause_store.specs.Propagating.{AddsImplied, IsPropagated}
 use Rattle.conflict_learn.proofs.Following.{no_reason}
 use Rattle.search_loop.specs.Search.{AreDecided}
 
@@ -37,10 +37,10 @@ module _ (atoms : List TermId) (clauses : List (List Lit)) (a b : TrailView) (pa
       ap (λ (xs : List (Option ℕ)). get_or xs p None) reasons ∙ ap (λ (n : ℕ). get_or (a.reasons ++ why) n None) (sym is) ∙ get_or-append-add a.reasons why (p - length a.literals) None
 
   -- the decisions are those that were there, and those of later places
-  decided_with : ((p : ℕ) → length a.literals ≤ p → p < length b.literals → get_or why (p - length a.literals) None ≡ None → IsQuiet clauses (take p b.literals) × Contains atoms (get_or b.literals p no_lit).term) → AreDecided atoms clauses b
+  decided_with : ((p : ℕ) → length a.literals ≤ p → p < length b.literals → get_or why (p - length a.literals) None ≡ None → IsPropagated clauses (take p b.literals) × Contains atoms (get_or b.literals p no_lit).term) → AreDecided atoms clauses b
   decided_with each = record {
     quiet = λ p lt none. elim (cases_lt p (length a.literals)) [
-      | inl early ↦ subst (IsQuiet clauses) (front p early) (h.quiet p early (reason p early ∙ none))
+      | inl early ↦ subst (IsPropagated clauses) (front p early) (h.quiet p early (reason p early ∙ none))
       | inr from ↦ (each p from lt (sym (late p from) ∙ none)).0
     ];
     of_atoms = λ p lt none. elim (cases_lt p (length a.literals)) [
@@ -50,33 +50,33 @@ module _ (atoms : List TermId) (clauses : List (List Lit)) (a b : TrailView) (pa
   }
 
 -- propagation decides nothing
-pub decided_propagated : (atoms : List TermId) (s : StoreView) (a b : TrailView) → length a.reasons ≡ length a.literals → Adds s a b → AreDecided atoms s.clauses a → AreDecided atoms s.clauses b
+pub decided_propagated : (atoms : List TermId) (s : StoreView) (a b : TrailView) → length a.reasons ≡ length a.literals → AddsImplied s a b → AreDecided atoms s.clauses a → AreDecided atoms s.clauses b
 decided_propagated atoms s a b paired x h = decided_with atoms s.clauses a b paired h x.more x.why x.literals x.reasons (λ p from lt none.
     let k = p - length a.literals in
     let small : k < length x.more = omega (arith, from, lt, ap length x.literals, length-append a.literals x.more) in
     absurd (no_reason (get_or x.why k None) _ none (x.implied k small).reason_is))
 
 -- a literal is decided where nothing follows
-pub decided_more : (atoms : List TermId) (clauses : List (List Lit)) (a b : TrailView) (l : Lit) (n : ℕ) → length a.reasons ≡ length a.literals → IsPushed a l None n b → IsQuiet clauses a.literals → Contains atoms l.term → AreDecided atoms clauses a → AreDecided atoms clauses b
+pub decided_more : (atoms : List TermId) (clauses : List (List Lit)) (a b : TrailView) (l : Lit) (n : ℕ) → length a.reasons ≡ length a.literals → IsPushed a l None n b → IsPropagated clauses a.literals → Contains atoms l.term → AreDecided atoms clauses a → AreDecided atoms clauses b
 decided_more atoms clauses a b l n paired x quiet mentioned h = decided_with atoms clauses a b paired h (l ∷ []) (None ∷ []) x.literals x.reasons (λ p from lt none.
     let is : p ≡ length a.literals = omega (arith, from, lt, ap length x.literals, length-append a.literals (l ∷ [])) in
     let front : a.literals ≡ take p b.literals = sym (take-append_seam a.literals (l ∷ [])) ∙ (λ i. take (sym is i) (sym x.literals i)) in
     let last : l ≡ get_or b.literals p no_lit = sym (get_or-append_seam a.literals l [] no_lit) ∙ (λ i. get_or (sym x.literals i) (sym is i) no_lit) in
-    (subst (IsQuiet clauses) front quiet, subst (λ (m : Lit). Contains atoms m.term) last mentioned))
+    (subst (IsPropagated clauses) front quiet, subst (λ (m : Lit). Contains atoms m.term) last mentioned))
 
 -- what is quiet is so with a clause more that is settled
-quiet_more : (clauses : List (List Lit)) (c held : List Lit) → IsQuiet clauses held → IsSettled held c → IsQuiet (clauses ++ c ∷ []) held
-quiet_more clauses c held quiet s d i = elim (Contains-push_cases clauses c d i) [ inl was ↦ quiet d was | inr is ↦ subst (λ (x : List Lit). IsSettled held x) is s ]
+quiet_more : (clauses : List (List Lit)) (c held : List Lit) → IsPropagated clauses held → PropagatesNothing held c → IsPropagated (clauses ++ c ∷ []) held
+quiet_more clauses c held quiet s d i = elim (Contains-push_cases clauses c d i) [ inl was ↦ quiet d was | inr is ↦ subst (λ (x : List Lit). PropagatesNothing held x) is s ]
 
 -- a clause is learned, and the literals of higher levels go
 pub decided_learned : (atoms : List TermId) (clauses : List (List Lit)) (c : List Lit) (a b : TrailView) (n : ℕ) → length a.levels ≡ length a.literals
-    → ((p : ℕ) → p < length a.literals → get_or a.reasons p None ≡ None → get_or a.levels p 0 ≤ n → IsSettled (take p a.literals) c)
+    → ((p : ℕ) → p < length a.literals → get_or a.reasons p None ≡ None → get_or a.levels p 0 ≤ n → PropagatesNothing (take p a.literals) c)
     → IsCutTo a n b → AreDecided atoms clauses a → AreDecided atoms (clauses ++ c ∷ []) b
 decided_learned atoms clauses c a b n paired settled x h = record {
   quiet = λ p lt none.
       let small = early p lt in
       let was = reason p small ∙ none in
-      subst (IsQuiet (clauses ++ c ∷ [])) (front p small)
+      subst (IsPropagated (clauses ++ c ∷ [])) (front p small)
       (quiet_more clauses c (take p a.literals) (h.quiet p (inside p small) was) (settled p (inside p small) was (x.below p small)));
   of_atoms = λ p lt none.
       let small = early p lt in

@@ -19,11 +19,11 @@ use Rattle.term_clauses.proofs.Speaking.{problem_kept}
 use Rattle.clausify.specs.SearchTerms.{AreSearchTerms}
 use Rattle.sat_budget.specs.declared.limits.Limits.{Limits}
 use Rattle.proof_log.specs.Logs.{Logged, inference_of, derivation_in, IsLogOf}
-use Rattle.proof_log.specs.Theories.{IsTermIn, IsAtomIn, Derives}
+use Rattle.proof_log.specs.Theories.{IsTermIn, IsAtomIn, DerivesLemmas}
 use Rattle.proof_log.proofs.Tables.{grown_same}
 use Rattle.search_loop.specs.declared.search.Search.{Search}
-use Rattle.search_loop.specs.Search.{images, AreAllOf, AreAtomsOf, IsReady}
-use Rattle.search_loop.specs.Rounds.{HasDerived, IsSearch, Begins, Continues}
+use Rattle.search_loop.specs.Search.{images, AreAllOf, AreAtomsOf, SearchFits}
+use Rattle.search_loop.specs.Rounds.{HasDerived, IsSearch, BeginsSearch, Continues}
 use Rattle.search_loop.proofs.SearchLists.{of_kept, images_kept}
 use Rattle.search_loop.proofs.SearchLogs.{derived_lemmas}
 use Rattle.search_loop.proofs.SearchReady.{clauses_in}
@@ -97,8 +97,8 @@ module _ (t u : TableView) (g : Extends t u) (declared : declared_in u ≡ decla
       }
 
   -- with lemmas in the log, and so many literals held by the theory
-  module _ (x : Search) (n : ℕ) (log more : List Logged) (last : log ≡ x.log ++ more) (right : IsLogOf u log) (same : derivation_in u x.log ≡ derivation_in t x.log) (r : IsReady t x) where
-    pub ready_grown : IsReady u (record x { log = log; fed = n })
+  module _ (x : Search) (n : ℕ) (log more : List Logged) (last : log ≡ x.log ++ more) (right : IsLogOf u log) (same : derivation_in u x.log ≡ derivation_in t x.log) (r : SearchFits t x) where
+    pub ready_grown : SearchFits u (record x { log = log; fed = n })
     ready_grown = record {
       right = right;
       derives = derives_on t u g x.log log more last x.store r.right r.derives;
@@ -147,14 +147,14 @@ module _ (t u : TableView) (g : Extends t u) (declared : declared_in u ≡ decla
     continues_grown lemmas = record { table = g; declared = declared; limits = (refl, refl); vars = refl; terms = refl; search = search_grown lemmas }
 
   -- with terms alone
-  module _ (x : Search) (right : IsLogOf u x.log) (same : derivation_in u x.log ≡ derivation_in t x.log) (r : IsReady t x) where
-    pub ready_wider : IsReady u x
+  module _ (x : Search) (right : IsLogOf u x.log) (same : derivation_in u x.log ≡ derivation_in t x.log) (r : SearchFits t x) where
+    pub ready_wider : SearchFits u x
     ready_wider = ready_grown x x.fed x.log [] (sym (append-nil x.log)) right same r
 
     pub continues_wider : Continues t u x x
     continues_wider = continues_grown x x.fed x.log [] (sym (append-nil x.log)) right same r (λ k e lt. absurd (omega (arith, lt)))
 
-    pub begins_wider : (problem : Problem) (limits : Limits) → Begins t problem limits x → Begins u problem limits x
+    pub begins_wider : (problem : Problem) (limits : Limits) → BeginsSearch t problem limits x → BeginsSearch u problem limits x
     begins_wider problem limits b = record {
       ready = ready_wider;
       empty = b.empty;
@@ -166,14 +166,14 @@ module _ (t u : TableView) (g : Extends t u) (declared : declared_in u ≡ decla
     }
 
 -- where lemmas over its terms came into the log, a search goes on, and begins still
-module _ (t u : TableView) (x : Search) (r : IsReady t x) (log : List Logged) (came : Derives (clause_at t x.terms.items) (record { table = t; log = x.log }) (record { table = u; log = log })) where
+module _ (t u : TableView) (x : Search) (r : SearchFits t x) (log : List Logged) (came : DerivesLemmas (clause_at t x.terms.items) (record { table = t; log = x.log }) (record { table = u; log = log })) where
   same_before : derivation_in u x.log ≡ derivation_in t x.log
   same_before = grown_same t u x.log r.right came.table
 
   pub continues_derived : Continues t u x (record x { log = log })
   continues_derived = continues_grown t u came.table came.declared x x.fed log came.more came.log came.right same_before r came.lemmas
 
-  pub begins_derived : (problem : Problem) (limits : Limits) → Begins t problem limits x → Begins u problem limits (record x { log = log })
+  pub begins_derived : (problem : Problem) (limits : Limits) → BeginsSearch t problem limits x → BeginsSearch u problem limits (record x { log = log })
   begins_derived problem limits b = record {
     ready = ready_grown t u came.table came.declared x x.fed log came.more came.log came.right same_before r;
     empty = b.empty;

@@ -20,12 +20,12 @@ use Rattle.clause_store.specs.Stores.{StoreView, HasSeen, IsAdded}
 use Rattle.clause_store.specs.Propagating.{AreImplied}
 use Rattle.search_loop.specs.declared.search.Search.{Search}
 use Rattle.search_loop.specs.Waiting.{AreOfAtoms}
-use Rattle.search_loop.specs.Search.{images, AreCovered, IsReady}
-use Rattle.search_loop.specs.Rounds.{HasDerived, IsSearch, Begins, Continues}
+use Rattle.search_loop.specs.Search.{images, AreCovered, SearchFits}
+use Rattle.search_loop.specs.Rounds.{HasDerived, IsSearch, BeginsSearch, Continues}
 use Rattle.search_loop.proofs.SearchStored.{derives_with}
 use Rattle.search_loop.proofs.SearchLogs.{derived_stored}
 
-module _ (t : TableView) (x : Search) (r : IsReady t x) (step : StepId) (held : List Lit) (clash : IsClash t x.log held step) (of_atoms : AreOfAtoms x.atoms.items held)
+module _ (t : TableView) (x : Search) (r : SearchFits t x) (step : StepId) (held : List Lit) (clash : IsClash t x.log held step) (of_atoms : AreOfAtoms x.atoms.items held)
     (s : StoreView) (a : IsAdded t x.log step x.store s) where
   -- the clause is over the atoms
   atom_of : (m : Lit) → Contains a.clause m → Contains x.atoms.items m.term
@@ -47,7 +47,7 @@ module _ (t : TableView) (x : Search) (r : IsReady t x) (step : StepId) (held : 
       All-contains (λ (id : TermId). id.0 < x.trail.vars) x.terms.items m.term r.variables (r.atoms_are.chosen.among m.term (atom_of m (Contains-get_or a.clause k e lt)))
 
   -- what the search has fits together
-  pub ready_kept : x.trail.literals ≡ [] → HasSeen s x.trail → AreImplied s x.trail → IsReady t (record x { store = s })
+  pub ready_kept : x.trail.literals ≡ [] → HasSeen s x.trail → AreImplied s x.trail → SearchFits t (record x { store = s })
   ready_kept empty seen implied = record {
     right = r.right;
     derives = derives_with t x.log step x.store s r.derives a clash.in_log;
@@ -86,7 +86,7 @@ module _ (t : TableView) (x : Search) (r : IsReady t x) (step : StepId) (held : 
   continues_kept = record { table = Extends-self t; declared = refl; limits = (refl, refl); vars = refl; terms = refl; search = search_kept }
 
   -- and begins still
-  pub begins_kept : HasSeen s x.trail → AreImplied s x.trail → (problem : Problem) (limits : Limits) → Begins t problem limits x → Begins t problem limits (record x { store = s })
+  pub begins_kept : HasSeen s x.trail → AreImplied s x.trail → (problem : Problem) (limits : Limits) → BeginsSearch t problem limits x → BeginsSearch t problem limits (record x { store = s })
   begins_kept seen implied problem limits b = record {
     ready = ready_kept b.empty seen implied;
     empty = b.empty;

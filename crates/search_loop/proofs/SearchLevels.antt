@@ -5,14 +5,14 @@ use Rattle.std.proofs.lemmas.Bool.{cases_lt}
 use Rattle.std.proofs.lemmas.List.{get_or_default}
 use Rattle.term_core.specs.declared.ids.Lit.{Lit}
 use Rattle.clause_literals.specs.Literals.{lit_complement, IsConsistent}
-use Rattle.clause_literals.specs.Statuses.{IsSettled}
-use Rattle.sat_trail.specs.Trails.{TrailView, no_lit, AreApart, IsLeveled}
+use Rattle.clause_literals.specs.Statuses.{PropagatesNothing}
+use Rattle.sat_trail.specs.Trails.{TrailView, no_lit, VariablesAreApart, IsLeveled}
 use Rattle.conflict_learn.specs.Conflicts.{IsFalseAt}
 use Rattle.conflict_learn.specs.Learned.{HasOneAt}
 use Rattle.conflict_learn.proofs.Places.{early_place, same_place, one_level}
 use Rattle.search_loop.proofs.SearchLists.{in_front}
 
-module _ (v : TrailView) (once : AreApart v.literals) (leveled : IsLeveled v) where
+module _ (v : TrailView) (once : VariablesAreApart v.literals) (leveled : IsLeveled v) where
   -- the decision of a level above 0
   pub decision_of : (n : ℕ) → 0 < n → n ≤ v.level → (p : ℕ) × (p < length v.literals) × (get_or v.reasons p None ≡ None) × (get_or v.levels p 0 ≡ n)
   decision_of n above le =
@@ -65,7 +65,7 @@ module _ (v : TrailView) (once : AreApart v.literals) (leveled : IsLeveled v) wh
     false_before m n f lt = in_front v.literals f.place p (lit_complement m) (lower_before f.place f.within (omega (arith, lt, f.level))) f.within (omega (arith, within)) f.there
 
     -- a clause with one literal of a level is settled before each decision of the levels below, up to that of the others
-    pub settled_before : (clause : List Lit) (n level : ℕ) → HasOneAt v clause n level → get_or v.levels p 0 ≤ level → IsSettled (take p v.literals) clause
+    pub settled_before : (clause : List Lit) (n level : ℕ) → HasOneAt v clause n level → get_or v.levels p 0 ≤ level → PropagatesNothing (take p v.literals) clause
     settled_before clause n level h le = elim h.reached [
       | inl zero ↦ let up = leveled.decided p within none in absurd (omega (arith, zero, le, up))
       | inr x ↦

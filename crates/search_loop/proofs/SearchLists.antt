@@ -6,7 +6,7 @@ use Rattle.spec_sorts.specs.Literals.{Clause, Literal}
 use Rattle.term_core.specs.declared.ids.Lit.{Lit}
 use Rattle.term_core.specs.Tables.{TableView, AreDifferent, Extends, literal_at}
 use Rattle.term_core.proofs.TermsExtend.{IsIn-kept, literal_at-kept}
-use Rattle.clause_literals.specs.Literals.{AreOf, Means}
+use Rattle.clause_literals.specs.Literals.{AreLiteralsIn, LiteralsMean}
 use Rattle.clause_literals.proofs.TableLiterals.{literals_apart}
 use Rattle.sat_trail.specs.Trails.{no_lit}
 use Rattle.search_loop.specs.Search.{images, AreAllOf}
@@ -17,7 +17,7 @@ in_front xs k p l lt within le e = (k, omega (arith, lt, length-take-le p xs le)
 
 module _ (t : TableView) (differ : AreDifferent t.terms) where
   -- lists of one meaning are one
-  images_one : (a b : List Lit) → AreOf t a → AreOf t b → map (literal_at t) a ≡ map (literal_at t) b → a ≡ b
+  images_one : (a b : List Lit) → AreLiteralsIn t a → AreLiteralsIn t b → map (literal_at t) a ≡ map (literal_at t) b → a ≡ b
   images_one [] [] there other e = refl
   images_one [] (m ∷ ms) there other e = absurd (omega (arith, ap length e))
   images_one (l ∷ ls) [] there other e = absurd (omega (arith, ap length e))
@@ -27,15 +27,15 @@ module _ (t : TableView) (differ : AreDifferent t.terms) where
       λ i. first i ∷ rest i
 
   -- so are two that mean one clause
-  pub means_one : (a b : List Lit) (c : Clause) → Means t a c → Means t b c → a ≡ b
+  pub means_one : (a b : List Lit) (c : Clause) → LiteralsMean t a c → LiteralsMean t b c → a ≡ b
   means_one a b c m n = images_one a b m.there n.there (m.same ∙ sym n.same)
 
 -- over a table that has all that another had
 module _ (t u : TableView) (g : Extends t u) where
-  pub of_kept : (c : List Lit) → AreOf t c → AreOf u c
+  pub of_kept : (c : List Lit) → AreLiteralsIn t c → AreLiteralsIn u c
   of_kept c h = λ k d lt. IsIn-kept t u g (get_or c k d).term (h k d lt)
 
-  pub lits_kept : (c : List Lit) → AreOf t c → map (literal_at u) c ≡ map (literal_at t) c
+  pub lits_kept : (c : List Lit) → AreLiteralsIn t c → map (literal_at u) c ≡ map (literal_at t) c
   lits_kept [] h = refl
   lits_kept (l ∷ ls) h =
       let first = literal_at-kept t u g l (h 0 l (omega arith)) in

@@ -13,16 +13,16 @@ use Rattle.term_core.specs.Tables.{TableView, Extends, clause_at}
 use Rattle.term_core.proofs.TermsExtend.{clause_at-kept}
 use Rattle.sat_budget.specs.Budgets.{BudgetView, Spends}
 use Rattle.proof_log.specs.Logs.{Logged, inference_of, derivation_in}
-use Rattle.proof_log.specs.Theories.{TheoryView, IsTermIn, IsOver, terms_watched, literals_held, Derives, Checks}
+use Rattle.proof_log.specs.Theories.{TheoryView, IsTermIn, IsTheoryOver, terms_watched, literals_held, DerivesLemmas, Checks}
 use Rattle.proof_log.specs.declared.theory.Verdict.{Verdict}
 use Rattle.proof_log.specs.declared.theory.Verdict.TheVariants.{Fine, Clash}
 use Rattle.sat_trail.specs.Trails.{TrailView}
 use Rattle.clause_store.specs.Stores.{StoreView, HasSeen, HasSameClauses}
-use Rattle.clause_store.specs.Propagating.{Adds, AreImplied, IsQuiet}
+use Rattle.clause_store.specs.Propagating.{AddsImplied, AreImplied, IsPropagated}
 use Rattle.search_loop.specs.declared.search.Search.{Search}
-use Rattle.search_loop.specs.Search.{IsReady}
+use Rattle.search_loop.specs.Search.{SearchFits}
 use Rattle.search_loop.specs.Rounds.{Continues}
-use Rattle.search_loop.specs.Asking.{KeepsUp, IsAsked, state, HasLooked, HasStopped, Looks}
+use Rattle.search_loop.specs.Asking.{KeepsUp, IsAsked, state, HasLooked, HasStopped, LookFinds}
 use Rattle.search_loop.proofs.SearchLists.{lits_kept}
 use Rattle.search_loop.proofs.SearchReady.{ready_propagated, atom_in, all_of_atoms}
 use Rattle.search_loop.proofs.SearchRounds.{propagated, continues_same, continues_on}
@@ -30,12 +30,12 @@ use Rattle.search_loop.proofs.SearchSpends.{spends_nothing, ready_spent, continu
 use Rattle.search_loop.proofs.SearchGrown.{ready_grown, continues_grown}
 use Rattle.search_loop.proofs.SearchTheories.{fed, keeps_propagated, keeps_fed}
 
-module _ (t : TableView) (x : Search) (r : IsReady t x) (v : TheoryView) (asked : IsAsked v x) (leveled : length x.trail.levels ≡ length x.trail.literals)
-    (s : StoreView) (w : TrailView) (same : HasSameClauses x.store s) (seen : HasSeen s w) (implied : AreImplied x.store w) (adds : Adds x.store x.trail w) where
+module _ (t : TableView) (x : Search) (r : SearchFits t x) (v : TheoryView) (asked : IsAsked v x) (leveled : length x.trail.levels ≡ length x.trail.literals)
+    (s : StoreView) (w : TrailView) (same : HasSameClauses x.store s) (seen : HasSeen s w) (implied : AreImplied x.store w) (adds : AddsImplied x.store x.trail w) where
   abbrev after : Search
   after = propagated x s w x.decider
 
-  pub ready_after : IsReady t after
+  pub ready_after : SearchFits t after
   ready_after = ready_propagated t x after r refl refl refl refl refl same seen implied adds
 
   keeps_after : KeepsUp v w
@@ -63,7 +63,7 @@ module _ (t : TableView) (x : Search) (r : IsReady t x) (v : TheoryView) (asked 
   pub watches_held : (l : Lit) → Contains w.literals l → Contains v.watched l.term
   watches_held l i = subst (λ (ids : List TermId). Contains ids l.term) (sym asked.terms) (r.atoms_are.chosen.among l.term (all_of_atoms t after ready_after l i))
 
-  pub is_over : IsOver t (fed v w.literals)
+  pub is_over : IsTheoryOver t (fed v w.literals)
   is_over = record {
     terms = subst (All (IsTermIn t)) (sym asked.terms) r.atoms_are.there;
     closed = subst (λ (ids : List TermId). IsClosed (clause_at t ids)) (sym asked.terms) r.atoms_are.closed;
@@ -81,7 +81,7 @@ module _ (t : TableView) (x : Search) (r : IsReady t x) (v : TheoryView) (asked 
   }
 
   -- and checks it
-  module _ (u : TableView) (log : List Logged) (b : BudgetView) (spends : Spends x.budget b) (d : Derives (terms_watched t (fed v w.literals)) (record { table = t; log = x.log }) (record { table = u; log = log })) (kept : derivation_in u x.log ≡ derivation_in t x.log) where
+  module _ (u : TableView) (log : List Logged) (b : BudgetView) (spends : Spends x.budget b) (d : DerivesLemmas (terms_watched t (fed v w.literals)) (record { table = t; log = x.log }) (record { table = u; log = log })) (kept : derivation_in u x.log ≡ derivation_in t x.log) where
     abbrev checked : Search
     checked = record after { log = log; fed = length w.literals }
 
@@ -104,12 +104,12 @@ module _ (t : TableView) (x : Search) (r : IsReady t x) (v : TheoryView) (asked 
 
   -- so what the theory answers is what the look does
   module _ (u : TableView) (log : List Logged) (b : BudgetView) (spends : Spends x.budget b) (kept : Extends t u → derivation_in u x.log ≡ derivation_in t x.log)
-      (agrees : List Term → List Literal → Type 0) (refuses : Type 0) (quiet : IsQuiet x.store.clauses w.literals) (n : ℕ) (all : n ≡ length w.literals) (v2 : TheoryView) (held : v2 ≡ fed v w.literals) where
+      (agrees : List Term → List Literal → Type 0) (refuses : Type 0) (quiet : IsPropagated x.store.clauses w.literals) (n : ℕ) (all : n ≡ length w.literals) (v2 : TheoryView) (held : v2 ≡ fed v w.literals) where
     abbrev Checked : Verdict → Type 0
     Checked verdict = Checks (agrees (terms_watched t (fed v w.literals)) (literals_held t (fed v w.literals))) refuses (fed v w.literals) (record { table = t; log = x.log }) (Ok verdict) (record { table = u; log = log })
 
     abbrev Looked : Verdict → Type 0
-    Looked verdict = Looks (state t x) (state u (record after { log = log; fed = n; budget = b })) v2 (agrees (terms_watched u v2) (literals_held u v2)) verdict
+    Looked verdict = LookFinds (state t x) (state u (record after { log = log; fed = n; budget = b })) v2 (agrees (terms_watched u v2) (literals_held u v2)) verdict
 
     terms_same : Extends t u → terms_watched u (fed v w.literals) ≡ terms_watched t (fed v w.literals)
     terms_same g = clause_at-kept t u g v.watched (λ k e lt. (is_over.terms k e lt).0)
@@ -118,14 +118,14 @@ module _ (t : TableView) (x : Search) (r : IsReady t x) (v : TheoryView) (asked 
     literals_same g = lits_kept t u g w.literals (λ k e lt. (is_over.atoms k e lt).0.0)
 
     -- over the theory as it is now
-    over_now : (verdict : Verdict) → Looks (state t x) (state u (record after { log = log; fed = length w.literals; budget = b })) (fed v w.literals) (agrees (terms_watched u (fed v w.literals)) (literals_held u (fed v w.literals))) verdict → Looked verdict
-    over_now verdict h = subst (λ (k : ℕ). Looks (state t x) (state u (record after { log = log; fed = k; budget = b })) v2 (agrees (terms_watched u v2) (literals_held u v2)) verdict) (sym all)
-        (subst (λ (z : TheoryView). Looks (state t x) (state u (record after { log = log; fed = length w.literals; budget = b })) z (agrees (terms_watched u z) (literals_held u z)) verdict) (sym held) h)
+    over_now : (verdict : Verdict) → LookFinds (state t x) (state u (record after { log = log; fed = length w.literals; budget = b })) (fed v w.literals) (agrees (terms_watched u (fed v w.literals)) (literals_held u (fed v w.literals))) verdict → Looked verdict
+    over_now verdict h = subst (λ (k : ℕ). LookFinds (state t x) (state u (record after { log = log; fed = k; budget = b })) v2 (agrees (terms_watched u v2) (literals_held u v2)) verdict) (sym all)
+        (subst (λ (z : TheoryView). LookFinds (state t x) (state u (record after { log = log; fed = length w.literals; budget = b })) z (agrees (terms_watched u z) (literals_held u z)) verdict) (sym held) h)
 
     pub looks : (verdict : Verdict) → Checked verdict → Looked verdict
     looks Fine h = over_now Fine (
       looked_checked u log b spends h.1 (kept h.1.table),
-      subst (λ (cs : List (List Lit)). IsQuiet cs w.literals) (sym same.clauses) quiet,
+      subst (λ (cs : List (List Lit)). IsPropagated cs w.literals) (sym same.clauses) quiet,
       refl,
       subst (λ (ls : List Literal). agrees (terms_watched u (fed v w.literals)) ls) (sym (literals_same h.1.table))
           (subst (λ (ts : List Term). agrees ts (literals_held t (fed v w.literals))) (sym (terms_same h.1.table)) h.0),

@@ -16,10 +16,10 @@ use Rattle.term_core.specs.declared.ids.Lit.{Lit}
 use Rattle.term_core.specs.Tables.{TableView, AreDifferent, Extends, IsIn, term_at, clause_at}
 use Rattle.term_core.proofs.TermsExtend.{term_at-kept, clause_at-kept}
 use Rattle.term_clauses.specs.SpokenTerms.{no_id, AreRising}
-use Rattle.sat_trail.specs.Trails.{no_lit, AreApart}
+use Rattle.sat_trail.specs.Trails.{no_lit, VariablesAreApart}
 use Rattle.proof_log.specs.Theories.{TheoryView, IsTermIn}
 use Rattle.search_loop.specs.declared.search.Search.{Search}
-use Rattle.search_loop.specs.Search.{IsReady}
+use Rattle.search_loop.specs.Search.{SearchFits}
 use Rattle.search_loop.specs.Asking.{IsAsked}
 use Rattle.search_loop.specs.Paying.{counted_among, counted_held, atoms_of, paid}
 use Rattle.search_loop.proofs.SearchReady.{all_of_atoms}
@@ -92,7 +92,7 @@ fewer us vs once among =
 
 module _ (t : TableView) (differ : AreDifferent t.terms) where
   -- the atoms of literals of different variables are different
-  atoms_once : (ls : List Lit) → AreApart ls → ((l : Lit) → Contains ls l → IsIn t l.term) → AreOnce (map (λ (l : Lit). term_at t l.term) ls)
+  atoms_once : (ls : List Lit) → VariablesAreApart ls → ((l : Lit) → Contains ls l → IsIn t l.term) → AreOnce (map (λ (l : Lit). term_at t l.term) ls)
   atoms_once ls apart there i j d before within e =
       let at : Lit → Term = λ (l : Lit). term_at t l.term in
       let jl : j < length ls = omega (arith, within, length-map ls at) in
@@ -113,7 +113,7 @@ module _ (t : TableView) (differ : AreDifferent t.terms) where
       omega (arith, rising i j before jl, differ (get_or ids i no_id).0 (get_or ids j no_id).0 (there i no_id il) (there j no_id jl) same)
 
   -- no more atoms are held than there are
-  pub held_few : (ids : List TermId) → All (IsIn t) ids → (ls : List Lit) → AreApart ls → ((l : Lit) → Contains ls l → Contains ids l.term) → counted_held t ls ≤ counted_among t ids
+  pub held_few : (ids : List TermId) → All (IsIn t) ids → (ls : List Lit) → VariablesAreApart ls → ((l : Lit) → Contains ls l → Contains ids l.term) → counted_held t ls ≤ counted_among t ids
   held_few ids there ls apart among =
       let at : Lit → Term = λ (l : Lit). term_at t l.term in
       let once = AllPairs-filter (λ (u v : Term). u ≢ v) is_arithmetic (map at ls) (atoms_once ls apart (λ l c. All-contains (IsIn t) ids l.term there (among l c))) in
@@ -123,7 +123,7 @@ module _ (t : TableView) (differ : AreDifferent t.terms) where
       in_filter is_arithmetic (clause_at t ids) u (subst (Contains (clause_at t ids)) from.2 (to_image (term_at t) ids from.0.term (among from.0 from.1))) passes)
 
 -- the first of literals of different variables
-apart_front : (k : ℕ) (ls : List Lit) → k ≤ length ls → AreApart ls → AreApart (take k ls)
+apart_front : (k : ℕ) (ls : List Lit) → k ≤ length ls → VariablesAreApart ls → VariablesAreApart (take k ls)
 apart_front k ls le apart i j d before within e =
     let jk : j < k = omega (arith, within, length-take-le k ls le) in
     let ik : i < k = omega (arith, before, jk) in
@@ -150,11 +150,11 @@ paid_most a l later before after n m k le e most few is = rw is (omega (arith, l
 -- of searches
 
 -- literals of terms among those of a search that are held no more than it has atoms
-module _ (t : TableView) (x : Search) (r : IsReady t x) where
+module _ (t : TableView) (x : Search) (r : SearchFits t x) where
   terms_there : All (IsIn t) x.terms.items
   terms_there = All-weaker (IsTermIn t) (IsIn t) (λ id k. k.0) x.terms.items r.atoms_are.there
 
-  pub few_held : AreDifferent t.terms → (ls : List Lit) → AreApart ls → ((l : Lit) → Contains ls l → Contains x.terms.items l.term) → counted_held t ls ≤ atoms_of t x
+  pub few_held : AreDifferent t.terms → (ls : List Lit) → VariablesAreApart ls → ((l : Lit) → Contains ls l → Contains x.terms.items l.term) → counted_held t ls ≤ atoms_of t x
   few_held differ ls apart among = held_few t differ x.terms.items terms_there ls apart among
 
   -- the search that goes on has as many atoms
@@ -166,7 +166,7 @@ module _ (t : TableView) (x : Search) (r : IsReady t x) where
   held_stay u more ls among = held_kept t u more ls (λ l c. All-contains (IsIn t) x.terms.items l.term terms_there (among l c))
 
 -- the literals that a theory holds which keeps up
-module _ (t : TableView) (x : Search) (r : IsReady t x) (v : TheoryView) (asked : IsAsked v x) where
+module _ (t : TableView) (x : Search) (r : SearchFits t x) (v : TheoryView) (asked : IsAsked v x) where
   pub held_among : (l : Lit) → Contains v.held l → Contains x.terms.items l.term
   held_among l c =
       let each : All (λ (m : Lit). Contains x.terms.items m.term) x.trail.literals = λ k d lt.
@@ -174,8 +174,8 @@ module _ (t : TableView) (x : Search) (r : IsReady t x) (v : TheoryView) (asked 
       let front = All-take (λ (m : Lit). Contains x.terms.items m.term) (length v.held) x.trail.literals each in
       All-contains (λ (m : Lit). Contains x.terms.items m.term) (take (length v.held) x.trail.literals) l front (subst (λ (ls : List Lit). Contains ls l) asked.keeps.front c)
 
-  held_apart : AreApart x.trail.literals → AreApart v.held
-  held_apart apart = subst AreApart (sym asked.keeps.front) (apart_front (length v.held) x.trail.literals asked.keeps.within apart)
+  held_apart : VariablesAreApart x.trail.literals → VariablesAreApart v.held
+  held_apart apart = subst VariablesAreApart (sym asked.keeps.front) (apart_front (length v.held) x.trail.literals asked.keeps.within apart)
 
-  pub few_asked : AreDifferent t.terms → AreApart x.trail.literals → counted_held t v.held ≤ atoms_of t x
+  pub few_asked : AreDifferent t.terms → VariablesAreApart x.trail.literals → counted_held t v.held ≤ atoms_of t x
   few_asked differ apart = few_held t x r differ v.held (held_apart apart) held_among

@@ -7,22 +7,22 @@ use Rattle.spec_proofs.specs.declared.Rule.TheVariants.{Resolution}
 use Rattle.term_core.specs.declared.ids.TermId.{TermId}
 use Rattle.term_core.specs.declared.ids.Lit.{Lit}
 use Rattle.term_core.specs.Tables.{TableView, IsIn, AreDifferent, Extends, clause_at}
-use Rattle.clause_literals.specs.Literals.{AreOf, Means}
+use Rattle.clause_literals.specs.Literals.{AreLiteralsIn, LiteralsMean}
 use Rattle.clause_literals.proofs.LiteralLists.{decide}
 use Rattle.proof_log.specs.declared.premises.StepId.{StepId}
 use Rattle.proof_log.specs.Logs.{Logged, stepped, named, IsLogOf}
 use Rattle.proof_log.specs.Theories.{IsAtomIn}
 use Rattle.sat_budget.specs.Budgets.{BudgetView}
-use Rattle.sat_trail.specs.Trails.{TrailView, no_lit, AreApart, IsLeveled, IsPushed, IsCutTo}
+use Rattle.sat_trail.specs.Trails.{TrailView, no_lit, VariablesAreApart, IsLeveled, IsPushed, IsCutTo}
 use Rattle.clause_store.specs.Stores.{HasSeen, HasSameClauses, IsAdded}
-use Rattle.clause_store.specs.Propagating.{Adds, AreImplied, IsQuiet}
+use Rattle.clause_store.specs.Propagating.{AddsImplied, AreImplied, IsPropagated}
 use Rattle.conflict_learn.specs.Conflicts.{IsFalseAt}
 use Rattle.conflict_learn.specs.Learned.{IsLearned}
 use Rattle.conflict_learn.specs.declared.learned.Learned.{Learned}
 use Rattle.conflict_learn.proofs.Places.{place_of}
 use Rattle.search_loop.specs.declared.search.Search.{Search}
 use Rattle.search_loop.specs.Waiting.{AreOfAtoms, AreWaiting}
-use Rattle.search_loop.specs.Search.{AreAllOf, Derives, AreDecided, AreAtomsOf, AreCovered, IsReady, conflict_of}
+use Rattle.search_loop.specs.Search.{AreAllOf, DerivesClauses, AreDecided, AreAtomsOf, AreCovered, SearchFits, conflict_of}
 use Rattle.search_loop.specs.Rounds.{IsNoted}
 use Rattle.search_loop.proofs.SearchLists.{means_one, of_kept}
 use Rattle.search_loop.proofs.SearchLevels.{settled_before}
@@ -35,11 +35,11 @@ abbrev pub Ids : Type 0
 Ids = Vec TermId Global
 
 -- propagation went on
-pub ready_propagated : (t : TableView) (x y : Search) → IsReady t x → y.log ≡ x.log → y.budget ≡ x.budget → y.decider ≡ x.decider → y.terms ≡ x.terms → y.atoms ≡ x.atoms → HasSameClauses x.store y.store → HasSeen y.store y.trail
-    → AreImplied x.store y.trail → Adds x.store x.trail y.trail → IsReady t y
+pub ready_propagated : (t : TableView) (x y : Search) → SearchFits t x → y.log ≡ x.log → y.budget ≡ x.budget → y.decider ≡ x.decider → y.terms ≡ x.terms → y.atoms ≡ x.atoms → HasSameClauses x.store y.store → HasSeen y.store y.trail
+    → AreImplied x.store y.trail → AddsImplied x.store x.trail y.trail → SearchFits t y
 ready_propagated t x y r log budget decider terms atoms same seen implied adds = record {
   right = subst (IsLogOf t) (sym log) r.right;
-  derives = subst (λ (l : List Logged). Derives t l y.store) (sym log) (derives_same x.store y.store same t x.log r.derives);
+  derives = subst (λ (l : List Logged). DerivesClauses t l y.store) (sym log) (derives_same x.store y.store same t x.log r.derives);
   known = subst (λ (cs : List (List Lit)). All (All (λ (l : Lit). l.term.0 < y.trail.vars)) cs) (sym same.clauses)
       (subst (λ (n : ℕ). All (All (λ (l : Lit). l.term.0 < n)) x.store.clauses) (sym adds.vars) r.known);
   seen = seen;
@@ -58,7 +58,7 @@ ready_propagated t x y r log budget decider terms atoms same seen implied adds =
 }
 
 -- variables were taken from the order that have a value
-pub ready_waiting : (t : TableView) (x : Search) (ws : List Bool) → IsReady t x → AreWaiting x.atoms.items x.trail.literals ws → length ws ≡ length x.decider → IsReady t (record x { decider = ws })
+pub ready_waiting : (t : TableView) (x : Search) (ws : List Bool) → SearchFits t x → AreWaiting x.atoms.items x.trail.literals ws → length ws ≡ length x.decider → SearchFits t (record x { decider = ws })
 ready_waiting t x ws r waiting size = record {
   right = r.right;
   derives = r.derives;
@@ -75,8 +75,8 @@ ready_waiting t x ws r waiting size = record {
 }
 
 -- a literal was decided
-pub ready_decided : (t : TableView) (x : Search) (v : TrailView) (ws : List Bool) (l : Lit) (n : ℕ) → IsReady t x → IsPushed x.trail l None n v → HasSeen x.store v → AreImplied x.store v
-    → IsQuiet x.store.clauses x.trail.literals → Contains x.atoms.items l.term → AreWaiting x.atoms.items (x.trail.literals ++ l ∷ []) ws → length ws ≡ length x.decider → IsReady t (record x { trail = v; decider = ws })
+pub ready_decided : (t : TableView) (x : Search) (v : TrailView) (ws : List Bool) (l : Lit) (n : ℕ) → SearchFits t x → IsPushed x.trail l None n v → HasSeen x.store v → AreImplied x.store v
+    → IsPropagated x.store.clauses x.trail.literals → Contains x.atoms.items l.term → AreWaiting x.atoms.items (x.trail.literals ++ l ∷ []) ws → length ws ≡ length x.decider → SearchFits t (record x { trail = v; decider = ws })
 ready_decided t x v ws l n r pushed seen implied quiet of_atoms waiting size = record {
   right = r.right;
   derives = r.derives;
@@ -93,7 +93,7 @@ ready_decided t x v ws l n r pushed seen implied quiet of_atoms waiting size = r
 }
 
 -- the literal of a place on the trail is of an atom
-pub atom_at : (t : TableView) (x : Search) → IsReady t x → (p : ℕ) → p < length x.trail.literals → Contains x.atoms.items (get_or x.trail.literals p no_lit).term
+pub atom_at : (t : TableView) (x : Search) → SearchFits t x → (p : ℕ) → p < length x.trail.literals → Contains x.atoms.items (get_or x.trail.literals p no_lit).term
 atom_at t x r p lt = by (get_or x.trail.reasons p None) refl
   where
     by : (o : Option ℕ) → get_or x.trail.reasons p None ≡ o → Contains x.atoms.items (get_or x.trail.literals p no_lit).term
@@ -101,23 +101,23 @@ atom_at t x r p lt = by (get_or x.trail.reasons p None) refl
     by (Some n) e = let i = r.implied.implied p n lt e in r.covered (get_or x.store.clauses i.number []) (get_or x.trail.literals p no_lit) (Contains-get_or x.store.clauses i.number [] i.there) i.has_it
 
 -- so is each literal that holds
-pub all_of_atoms : (t : TableView) (x : Search) → IsReady t x → AreOfAtoms x.atoms.items x.trail.literals
+pub all_of_atoms : (t : TableView) (x : Search) → SearchFits t x → AreOfAtoms x.atoms.items x.trail.literals
 all_of_atoms t x r l i = let p = place_of x.trail.literals l i in subst (λ (m : Lit). Contains x.atoms.items m.term) p.2 (atom_at t x r p.0 p.1)
 
 -- atoms are formulas of the table and no negations
-pub atom_in : (t : TableView) (x : Search) → IsReady t x → (id : TermId) → Contains x.atoms.items id → IsAtomIn t id
+pub atom_in : (t : TableView) (x : Search) → SearchFits t x → (id : TermId) → Contains x.atoms.items id → IsAtomIn t id
 atom_in t x r id c = All-contains (IsAtomIn t) x.atoms.items id r.atoms_are.chosen.only c
 
 -- what the clauses are over is of the table
-pub clauses_in : (t : TableView) (x : Search) → IsReady t x → (c : List Lit) (l : Lit) → Contains x.store.clauses c → Contains c l → IsIn t l.term
+pub clauses_in : (t : TableView) (x : Search) → SearchFits t x → (c : List Lit) (l : Lit) → Contains x.store.clauses c → Contains c l → IsIn t l.term
 clauses_in t x r c l i j = (atom_in t x r l.term (r.covered c l i j)).0.0
 
 -- and so is what holds
-pub held_in : (t : TableView) (x : Search) → IsReady t x → (l : Lit) → Contains x.trail.literals l → IsIn t l.term
+pub held_in : (t : TableView) (x : Search) → SearchFits t x → (l : Lit) → Contains x.trail.literals l → IsIn t l.term
 held_in t x r l i = (atom_in t x r l.term (all_of_atoms t x r l i)).0.0
 
 -- what is learned from a conflict
-module _ (t u : TableView) (x : Search) (r : IsReady t x) (clash : StepId) (log : List Logged) (d : Learned) (l : IsLearned (conflict_of t x clash) u log d) where
+module _ (t u : TableView) (x : Search) (r : SearchFits t x) (clash : StepId) (log : List Logged) (d : Learned) (l : IsLearned (conflict_of t x clash) u log d) where
   -- its literals are false, each since a level above 0
   pub false_at : (m : Lit) → Contains d.clause m → (n : ℕ) × IsFalseAt x.trail m n × (0 < n)
   false_at m i = elim (decide m l.one.one) [
@@ -132,13 +132,13 @@ module _ (t u : TableView) (x : Search) (r : IsReady t x) (clash : StepId) (log 
       subst (λ (k : Lit). Contains x.atoms.items k.term) f.there (atom_at t x r f.place f.within)
 
 -- it comes into the store
-module _ (t u : TableView) (g : Extends t u) (differ : AreDifferent u.terms) (x y : Search) (r : IsReady t x) (clash : StepId) (d : Learned) (l : IsLearned (conflict_of t x clash) u y.log d)
+module _ (t u : TableView) (g : Extends t u) (differ : AreDifferent u.terms) (x y : Search) (r : SearchFits t x) (clash : StepId) (d : Learned) (l : IsLearned (conflict_of t x clash) u y.log d)
     (noted : IsNoted d.clause x.budget y.budget) (a : IsAdded u y.log d.step x.store y.store) where
   -- the store has it as it was learned
   pub clause_is : a.clause ≡ d.clause
   clause_is =
       let x_is = last_is x.log y.log (stepped Resolution l.logged.premises [] l.logged.terms) l.logged.last d.step l.logged.number in
-      means_one u differ a.clause d.clause (clause_at u l.logged.terms) (subst (λ (z : Logged). Means u a.clause (clause_at u (named z))) x_is a.means) l.logged.means
+      means_one u differ a.clause d.clause (clause_at u l.logged.terms) (subst (λ (z : Logged). LiteralsMean u a.clause (clause_at u (named z))) x_is a.means) l.logged.means
 
   known_of : ((l : Lit) → Contains x.trail.literals l → l.term.0 < x.trail.vars) → All (λ (m : Lit). m.term.0 < x.trail.vars) d.clause
   known_of held k e lt =
@@ -155,8 +155,8 @@ module _ (t u : TableView) (g : Extends t u) (differ : AreDifferent u.terms) (x 
   ]
 
   -- at its level, or back at a lower one
-  pub ready_learned : (n : ℕ) → n ≤ d.level → IsCutTo x.trail n y.trail → AreApart x.trail.literals → IsLeveled x.trail → ((l : Lit) → Contains x.trail.literals l → l.term.0 < x.trail.vars) → HasSeen y.store y.trail → AreImplied y.store y.trail
-      → y.terms ≡ x.terms → y.atoms ≡ x.atoms → AreAtomsOf u x.terms.items x.atoms.items → AreWaiting x.atoms.items y.trail.literals y.decider → length y.decider ≡ length x.decider → IsReady u y
+  pub ready_learned : (n : ℕ) → n ≤ d.level → IsCutTo x.trail n y.trail → VariablesAreApart x.trail.literals → IsLeveled x.trail → ((l : Lit) → Contains x.trail.literals l → l.term.0 < x.trail.vars) → HasSeen y.store y.trail → AreImplied y.store y.trail
+      → y.terms ≡ x.terms → y.atoms ≡ x.atoms → AreAtomsOf u x.terms.items x.atoms.items → AreWaiting x.atoms.items y.trail.literals y.decider → length y.decider ≡ length x.decider → SearchFits u y
   ready_learned n low cut once leveled held seen implied terms atoms atoms_are waiting size = record {
     right = l.logged.right;
     derives = derives_with u y.log d.step x.store y.store
@@ -176,5 +176,5 @@ module _ (t u : TableView) (g : Extends t u) (differ : AreDifferent u.terms) (x 
     waiting = subst (λ (ids : Ids). AreWaiting ids.items y.trail.literals y.decider) (sym atoms) waiting;
     sized = size ∙ r.sized ∙ sym cut.vars;
     learned = subst (λ (b : BudgetView). AreAllOf u b.learned) (sym noted)
-        (All-push (AreOf u) x.budget.learned d.clause (λ k e lt. of_kept t u g (get_or x.budget.learned k e) (r.learned k e lt)) l.logged.means.there);
+        (All-push (AreLiteralsIn u) x.budget.learned d.clause (λ k e lt. of_kept t u g (get_or x.budget.learned k e) (r.learned k e lt)) l.logged.means.there);
   }

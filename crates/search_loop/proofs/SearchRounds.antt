@@ -9,16 +9,16 @@ use Rattle.proof_log.specs.Logs.{Logged, derivation_in}
 use Rattle.sat_budget.specs.Budgets.{BudgetView}
 use Rattle.sat_trail.specs.Trails.{TrailView, IsPushed}
 use Rattle.clause_store.specs.Stores.{StoreView, HasSameClauses}
-use Rattle.clause_store.specs.Propagating.{Adds}
+use Rattle.clause_store.specs.Propagating.{AddsImplied}
 use Rattle.search_loop.specs.declared.search.Search.{Search}
 use Rattle.search_loop.specs.declared.cdcl.Answer.{Answer}
 use Rattle.search_loop.specs.declared.cdcl.Answer.TheVariants.{Unsat, Unknown}
 use Rattle.search_loop.specs.declared.cdcl.End.{End}
 use Rattle.search_loop.specs.declared.cdcl.End.TheVariants.{Rests, Refuted, Stopped}
-use Rattle.search_loop.specs.Asking.{state, Settles, Ends}
+use Rattle.search_loop.specs.Asking.{state, Settles, EndsSearch}
 use Rattle.proof_log.specs.Theories.{TheoryView}
 use Rattle.search_loop.specs.Search.{images}
-use Rattle.search_loop.specs.Rounds.{HasDerived, Continues, Shows}
+use Rattle.search_loop.specs.Rounds.{HasDerived, Continues, ShowsAnswer}
 use Rattle.search_loop.proofs.SearchReady.{Ids}
 
 -- the log, the clauses and what was learned are the same
@@ -58,7 +58,7 @@ continues_on s t u a b c h k = record {
 abbrev pub propagated : Search → StoreView → TrailView → List Bool → Search
 propagated x s v ws = record x { store = s; trail = v; decider = ws }
 
-module _ (t u : TableView) (a x : Search) (s : StoreView) (v : TrailView) (h : Continues t u a x) (same : HasSameClauses x.store s) (adds : Adds x.store x.trail v) where
+module _ (t u : TableView) (a x : Search) (s : StoreView) (v : TrailView) (h : Continues t u a x) (same : HasSameClauses x.store s) (adds : AddsImplied x.store x.trail v) where
   pub propagated_on : (ws : List Bool) → Continues t u a (propagated x s v ws)
   propagated_on ws = continues_on t u u a x (propagated x s v ws) h (continues_same u x (propagated x s v ws) refl same.clauses refl adds.vars refl)
 
@@ -66,11 +66,11 @@ module _ (t u : TableView) (a x : Search) (s : StoreView) (v : TrailView) (h : C
   decided_on l r n w ws p = continues_on t u u a (propagated x s v ws) (propagated x s w ws) (propagated_on ws) (continues_same u (propagated x s v ws) (propagated x s w ws) refl refl refl p.vars refl)
 
 -- what an answer shows later on, it shows of the beginning
-pub shows_on : (s t u : TableView) (a b c : Search) (x : Answer) → Continues s t a b → Shows t u b c x → Shows s u a c x
+pub shows_on : (s t u : TableView) (a b c : Search) (x : Answer) → Continues s t a b → ShowsAnswer t u b c x → ShowsAnswer s u a c x
 shows_on s t u a b c x h shows problem z = shows problem (h.search problem z)
 
 -- so it is with what comes of a conflict that ends the search
-pub ends_on : (s t u : TableView) (a b c : Search) (v : TheoryView) (rested : Type 0) (end : End) → Continues s t a b → Settles (state t b) (state u c) v (Some end) → Ends (state s a) (state u c) rested end
+pub ends_on : (s t u : TableView) (a b c : Search) (v : TheoryView) (rested : Type 0) (end : End) → Continues s t a b → Settles (state t b) (state u c) v (Some end) → EndsSearch (state s a) (state u c) rested end
 ends_on s t u a b c v rested Rests h settles = absurd settles
 ends_on s t u a b c v rested (Refuted step) h settles = shows_on s t u a b c (Unsat step) h settles
 ends_on s t u a b c v rested (Stopped reason) h settles = shows_on s t u a b c (Unknown reason) h settles

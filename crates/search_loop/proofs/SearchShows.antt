@@ -15,22 +15,22 @@ use Rattle.spec_derivations.specs.Spent.{IsConflict, IsAtomOf, IsOverAtoms, IsLe
 use Rattle.term_core.specs.declared.ids.TermId.{TermId}
 use Rattle.term_core.specs.declared.ids.Lit.{Lit}
 use Rattle.term_core.specs.Tables.{TableView, declared_in, AreDifferent, term_at, literal_at, clause_at, Extends}
-use Rattle.clause_literals.specs.Literals.{IsConsistent, AreOf}
+use Rattle.clause_literals.specs.Literals.{IsConsistent, AreLiteralsIn}
 use Rattle.proof_log.specs.declared.premises.StepId.{StepId}
 use Rattle.proof_log.specs.Logs.{Logged, stepped, numbers_of, inference_of, derivation_in, IsLogOf}
 use Rattle.term_clauses.proofs.Parts.{formula_kept}
 use Rattle.term_clauses.proofs.Speaking.{problem_kept}
 use Rattle.clausify.specs.SearchTerms.{AreSearchTerms}
 use Rattle.sat_budget.specs.declared.limits.Reason.TheVariants.{Conflicts}
-use Rattle.sat_trail.specs.Trails.{AreApart, IsLeveled}
+use Rattle.sat_trail.specs.Trails.{VariablesAreApart, IsLeveled}
 use Rattle.clause_store.specs.Stores.{IsAdded}
 use Rattle.conflict_learn.specs.Learned.{IsLogged, IsLearned}
 use Rattle.conflict_learn.specs.declared.learned.Learned.{Learned}
 use Rattle.search_loop.specs.declared.search.Search.{Search}
 use Rattle.search_loop.specs.declared.cdcl.Answer.{Answer}
 use Rattle.search_loop.specs.declared.cdcl.Answer.TheVariants.{Unsat, Unknown}
-use Rattle.search_loop.specs.Search.{images, IsReady, conflict_of}
-use Rattle.search_loop.specs.Rounds.{HasDerived, HasSteps, IsSearch, HasEvidence, HasLogged, IsLearning, IsNoted, Shows}
+use Rattle.search_loop.specs.Search.{images, SearchFits, conflict_of}
+use Rattle.search_loop.specs.Rounds.{HasDerived, HasSteps, IsSearch, HasEvidence, HasLogged, IsLearning, IsNoted, ShowsAnswer}
 use Rattle.search_loop.proofs.SearchLists.{lits_kept, images_kept}
 use Rattle.search_loop.proofs.SearchReady.{Ids, atom_in, clauses_in, false_at, atom_of, clause_is}
 use Rattle.search_loop.proofs.SearchLogs.{all_back, steps_more, among_more, last_derived, last_concludes, derived_kept, derived_more}
@@ -63,7 +63,7 @@ module _ (t u : TableView) (log new : List Logged) (same : derivation_in u log �
   derivation_is = ap (derivation_in u) last ∙ map-append (inference_of u) log (stepped Resolution ps [] ids ∷ []) ∙ ap (λ (d : Derivation). d ++ by_rule Resolution (numbers_of ps) no_texts (clause_at u ids) ∷ []) same
 
 -- where the clause has no literals, it refutes the terms
-pub unsat_shows : (t : TableView) (x y : Search) (clash id : StepId) → y.budget ≡ x.budget → IsLogged (conflict_of t x clash) t y.log [] id → Shows t t x y (Unsat id)
+pub unsat_shows : (t : TableView) (x y : Search) (clash id : StepId) → y.budget ≡ x.budget → IsLogged (conflict_of t x clash) t y.log [] id → ShowsAnswer t t x y (Unsat id)
 unsat_shows t x y clash id budget l problem s =
     let c : Clause = clause_at t l.terms in
     let ps = numbers_of l.premises in
@@ -96,9 +96,9 @@ unsat_shows t x y clash id budget l problem s =
 
 -- what is learned from a conflict
 module _ (t u : TableView) (g : Extends t u) (differ : AreDifferent t.terms) (declared : declared_in u ≡ declared_in t)
-    (x : Search) (r : IsReady t x) (once : AreApart x.trail.literals) (leveled : IsLeveled x.trail) (consistent : IsConsistent x.trail.literals) (same : derivation_in u x.log ≡ derivation_in t x.log)
+    (x : Search) (r : SearchFits t x) (once : VariablesAreApart x.trail.literals) (leveled : IsLeveled x.trail) (consistent : IsConsistent x.trail.literals) (same : derivation_in u x.log ≡ derivation_in t x.log)
     (clash : StepId) (log : List Logged) (d : Learned) (l : IsLearned (conflict_of t x clash) u log d) where
-  clause_in : AreOf t d.clause
+  clause_in : AreLiteralsIn t d.clause
   clause_in k e lt = (atom_in t x r (get_or d.clause k e).term (atom_of t u x r clash log d l (get_or d.clause k e) (Contains-get_or d.clause k e lt))).0.0
 
   abbrev clause : Clause
@@ -156,7 +156,7 @@ module _ (t u : TableView) (g : Extends t u) (differ : AreDifferent t.terms) (de
         }
 
   -- which shows that the budget is spent at a further conflict
-  pub forgone_shows : IsLogOf u x.log → (n : ℕ) → length x.budget.learned ≡ x.budget.limit → n ≡ x.budget.limit → Shows t u x x (Unknown (Conflicts n))
+  pub forgone_shows : IsLogOf u x.log → (n : ℕ) → length x.budget.learned ≡ x.budget.limit → n ≡ x.budget.limit → ShowsAnswer t u x x (Unknown (Conflicts n))
   forgone_shows kept n full carries problem s =
       let on = (continues_wider t u g declared x kept same r).search problem s in
       unknown_shows u problem x n kept on full carries
@@ -165,16 +165,16 @@ module _ (t u : TableView) (g : Extends t u) (differ : AreDifferent t.terms) (de
 
 -- where it came into the store, what is in hand is still that of a search for the terms
 module _ (t u : TableView) (g : Extends t u) (differ : AreDifferent t.terms) (differ_then : AreDifferent u.terms) (declared : declared_in u ≡ declared_in t)
-    (x y : Search) (r : IsReady t x) (once : AreApart x.trail.literals) (leveled : IsLeveled x.trail) (consistent : IsConsistent x.trail.literals) (same : derivation_in u x.log ≡ derivation_in t x.log)
+    (x y : Search) (r : SearchFits t x) (once : VariablesAreApart x.trail.literals) (leveled : IsLeveled x.trail) (consistent : IsConsistent x.trail.literals) (same : derivation_in u x.log ≡ derivation_in t x.log)
     (clash : StepId) (d : Learned) (l : IsLearned (conflict_of t x clash) u y.log d) (noted : IsNoted d.clause x.budget y.budget) (a : IsAdded u y.log d.step x.store y.store) (terms : y.terms ≡ x.terms) where
   abbrev learned_clause : Clause
   learned_clause = clause_at u l.logged.terms
 
-  stored_in : All (AreOf t) x.store.clauses
+  stored_in : All (AreLiteralsIn t) x.store.clauses
   stored_in k e lt j z small = clauses_in t x r (get_or x.store.clauses k e) (get_or (get_or x.store.clauses k e) j z) (Contains-get_or x.store.clauses k e lt) (Contains-get_or (get_or x.store.clauses k e) j z small)
 
   -- a list with the clause last
-  last_image : (old new : List (List Lit)) → All (AreOf t) old → new ≡ old ++ d.clause ∷ [] → images u new ≡ images t old ++ literals_of (clause_at u l.logged.terms) ∷ []
+  last_image : (old new : List (List Lit)) → All (AreLiteralsIn t) old → new ≡ old ++ d.clause ∷ [] → images u new ≡ images t old ++ literals_of (clause_at u l.logged.terms) ∷ []
   last_image old new there is = ap (images u) is ∙ map-append (map (literal_at u)) old (d.clause ∷ []) ∙ (λ i. images_kept t u g old there i ++ l.logged.means.same i ∷ [])
 
   pub search_learned : (problem : Problem) → IsSearch t problem x → IsSearch u problem y

@@ -12,7 +12,7 @@ use Rattle.sat_budget.specs.Budgets.{BudgetView, Spends}
 use Rattle.proof_log.specs.Logs.{derivation_in}
 use Rattle.proof_log.specs.Theories.{CameTo}
 use Rattle.search_loop.specs.declared.search.Search.{Search}
-use Rattle.search_loop.specs.Search.{images, AreAllOf, IsReady}
+use Rattle.search_loop.specs.Search.{images, AreAllOf, SearchFits}
 use Rattle.search_loop.specs.Rounds.{HasDerived, Continues}
 
 -- where none were made
@@ -21,7 +21,7 @@ spends_nothing b = ([], ap (λ (xs : List (ℕ × ℕ)). record b { exchanges = 
 
 module _ (t : TableView) (x : Search) (b : BudgetView) (spends : Spends x.budget b) where
   -- it fits together
-  pub ready_spent : IsReady t x → IsReady t (record x { budget = b })
+  pub ready_spent : SearchFits t x → SearchFits t (record x { budget = b })
   ready_spent r = record {
     right = r.right;
     derives = r.derives;

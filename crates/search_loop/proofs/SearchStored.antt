@@ -10,23 +10,23 @@ use Rattle.term_core.specs.declared.ids.Lit.{Lit}
 use Rattle.term_core.specs.Tables.{TableView, AreIn, Extends, clause_at}
 use Rattle.term_core.proofs.TermsExtend.{clause_at-kept}
 use Rattle.clause_literals.specs.Statuses.{IsFalsified}
-use Rattle.clause_literals.specs.Literals.{Means}
+use Rattle.clause_literals.specs.Literals.{LiteralsMean}
 use Rattle.proof_log.specs.declared.premises.StepId.{StepId}
 use Rattle.proof_log.specs.Logs.{Logged, named, logged_at, no_logged, IsLogOf}
 use Rattle.clause_store.specs.Stores.{StoreView, no_step, HasSameClauses, IsAdded}
 use Rattle.clause_store.specs.Propagating.{AreImplied, IsClash}
 use Rattle.sat_trail.specs.Trails.{TrailView, no_lit}
-use Rattle.search_loop.specs.Search.{Derives}
+use Rattle.search_loop.specs.Search.{DerivesClauses}
 use Rattle.search_loop.proofs.SearchLists.{of_kept, lits_kept}
 
 -- the clauses are the same
 module _ (a b : StoreView) (e : HasSameClauses a b) where
-  pub derives_same : (t : TableView) (log : List Logged) → Derives t log a → Derives t log b
+  pub derives_same : (t : TableView) (log : List Logged) → DerivesClauses t log a → DerivesClauses t log b
   derives_same t log h = record {
     paired = ap length e.steps ∙ h.paired ∙ sym (ap length e.clauses);
     there = λ k lt. subst (λ (ss : List StepId). (get_or ss k no_step).0 < length log) (sym e.steps) (h.there k (omega (arith, lt, ap length e.clauses)));
-    same = λ k lt. subst (λ (ss : List StepId). Means t (get_or b.clauses k []) (clause_at t (named (logged_at log (get_or ss k no_step))))) (sym e.steps)
-        (subst (λ (cs : List (List Lit)). Means t (get_or cs k []) (clause_at t (named (logged_at log (get_or a.steps k no_step))))) (sym e.clauses) (h.same k (omega (arith, lt, ap length e.clauses))));
+    same = λ k lt. subst (λ (ss : List StepId). LiteralsMean t (get_or b.clauses k []) (clause_at t (named (logged_at log (get_or ss k no_step))))) (sym e.steps)
+        (subst (λ (cs : List (List Lit)). LiteralsMean t (get_or cs k []) (clause_at t (named (logged_at log (get_or a.steps k no_step))))) (sym e.clauses) (h.same k (omega (arith, lt, ap length e.clauses))));
   }
 
   pub implied_same : (v : TrailView) → AreImplied a v → AreImplied b v
@@ -52,14 +52,14 @@ module _ (a b : StoreView) (e : HasSameClauses a b) where
   }
 
 -- what a list of terms means, over a table that grew
-pub means_kept : (t u : TableView) → Extends t u → (c : List Lit) (ids : List TermId) → AreIn t ids → Means t c (clause_at t ids) → Means u c (clause_at u ids)
+pub means_kept : (t u : TableView) → Extends t u → (c : List Lit) (ids : List TermId) → AreIn t ids → LiteralsMean t c (clause_at t ids) → LiteralsMean u c (clause_at u ids)
 means_kept t u g c ids there m = record {
   same = lits_kept t u g c m.there ∙ m.same ∙ ap literals_of (sym (clause_at-kept t u g ids there));
   there = of_kept t u g c m.there;
 }
 
 -- a clause more
-module _ (t : TableView) (log : List Logged) (id : StepId) (a b : StoreView) (h : Derives t log a) (y : IsAdded t log id a b) (in_log : id.0 < length log) where
+module _ (t : TableView) (log : List Logged) (id : StepId) (a b : StoreView) (h : DerivesClauses t log a) (y : IsAdded t log id a b) (in_log : id.0 < length log) where
   is_last : (k : ℕ) → length a.clauses ≤ k → k < length b.clauses → k ≡ length a.clauses
   is_last k from lt = omega (arith, from, lt, ap length y.clauses, length-append a.clauses (y.clause ∷ []))
 
@@ -75,7 +75,7 @@ module _ (t : TableView) (log : List Logged) (id : StepId) (a b : StoreView) (h 
   last_clause : (k : ℕ) → k ≡ length a.clauses → y.clause ≡ get_or b.clauses k []
   last_clause k e = sym (get_or-append_seam a.clauses y.clause [] []) ∙ (λ i. get_or (sym y.clauses i) (sym e i) [])
 
-  pub derives_with : Derives t log b
+  pub derives_with : DerivesClauses t log b
   derives_with = record {
     paired = omega (arith, ap length y.steps, ap length y.clauses, h.paired, length-append a.steps (id ∷ []), length-append a.clauses (y.clause ∷ []));
     there = λ k lt. elim (cases_lt k (length a.clauses)) [
@@ -84,16 +84,16 @@ module _ (t : TableView) (log : List Logged) (id : StepId) (a b : StoreView) (h 
     ];
     same = λ k lt. elim (cases_lt k (length a.clauses)) [
       | inl early ↦
-          subst (λ (z : StepId). Means t (get_or b.clauses k []) (clause_at t (named (logged_at log z)))) (step k early)
-          (subst (λ (c : List Lit). Means t c (clause_at t (named (logged_at log (get_or a.steps k no_step))))) (clause k early) (h.same k early))
+          subst (λ (z : StepId). LiteralsMean t (get_or b.clauses k []) (clause_at t (named (logged_at log z)))) (step k early)
+          (subst (λ (c : List Lit). LiteralsMean t c (clause_at t (named (logged_at log (get_or a.steps k no_step))))) (clause k early) (h.same k early))
       | inr from ↦
-          subst (λ (z : StepId). Means t (get_or b.clauses k []) (clause_at t (named (logged_at log z)))) (last_step k (is_last k from lt))
-          (subst (λ (c : List Lit). Means t c (clause_at t (named (logged_at log id)))) (last_clause k (is_last k from lt)) y.means)
+          subst (λ (z : StepId). LiteralsMean t (get_or b.clauses k []) (clause_at t (named (logged_at log z)))) (last_step k (is_last k from lt))
+          (subst (λ (c : List Lit). LiteralsMean t c (clause_at t (named (logged_at log id)))) (last_clause k (is_last k from lt)) y.means)
     ];
   }
 
 -- steps more, over a table that grew
-pub derives_on : (t u : TableView) (g : Extends t u) (log new more : List Logged) → new ≡ log ++ more → (a : StoreView) → IsLogOf t log → Derives t log a → Derives u new a
+pub derives_on : (t u : TableView) (g : Extends t u) (log new more : List Logged) → new ≡ log ++ more → (a : StoreView) → IsLogOf t log → DerivesClauses t log a → DerivesClauses u new a
 derives_on t u g log new more last a right h = record {
   paired = h.paired;
   there = λ k lt. let was = h.there k lt in omega (arith, was, ap length last, length-append log more);
@@ -101,7 +101,7 @@ derives_on t u g log new more last a right h = record {
       let s = get_or a.steps k no_step in
       let small = h.there k lt in
       let early : logged_at new s ≡ logged_at log s = ap (λ (xs : List Logged). get_or xs s.0 no_logged) last ∙ get_or_append_left log more no_logged s.0 small in
-      subst (λ (l : Logged). Means u (get_or a.clauses k []) (clause_at u (named l))) (sym early)
+      subst (λ (l : Logged). LiteralsMean u (get_or a.clauses k []) (clause_at u (named l))) (sym early)
       (means_kept t u g (get_or a.clauses k []) (named (logged_at log s)) (λ j e lt_j. (right.formulas s.0 no_logged small j e lt_j).0) (h.same k lt));
 }
 

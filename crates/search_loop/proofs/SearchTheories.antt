@@ -8,13 +8,13 @@ use Rattle.std.proofs.Math.Seq.{get_or-append_seam, take-length}
 use Rattle.term_core.specs.declared.ids.TermId.{TermId}
 use Rattle.term_core.specs.declared.ids.Lit.{Lit}
 use Rattle.proof_log.specs.Theories.{Mark, no_mark, TheoryView, mark_now, with_mark, at_mark, gone_back}
-use Rattle.sat_trail.specs.Trails.{TrailView, no_lit, AreApart, IsPushed, IsCutTo, IsLeveled}
+use Rattle.sat_trail.specs.Trails.{TrailView, no_lit, VariablesAreApart, IsPushed, IsCutTo, IsLeveled}
 use Rattle.clause_store.specs.Stores.{StoreView}
-use Rattle.clause_store.specs.Propagating.{Adds}
+use Rattle.clause_store.specs.Propagating.{AddsImplied}
 use Rattle.conflict_learn.proofs.Following.{no_reason}
 use Rattle.conflict_learn.proofs.Places.{early_place}
 use Rattle.term_clauses.specs.SpokenTerms.{no_id}
-use Rattle.search_loop.specs.Asking.{AreRising, KeepsUp}
+use Rattle.search_loop.specs.Asking.{MarksRise, KeepsUp}
 
 -- at the beginning
 pub keeps_begun : (v : TheoryView) (a : TrailView) → v.held ≡ [] → v.marks ≡ [] → a.literals ≡ [] → a.level ≡ 0 → KeepsUp v a
@@ -28,7 +28,7 @@ keeps_begun v a held marks literals level = record {
 }
 
 -- literals are implied
-module _ (v : TheoryView) (s : StoreView) (a b : TrailView) (levels : length a.levels ≡ length a.literals) (reasons : length a.reasons ≡ length a.literals) (x : Adds s a b) (h : KeepsUp v a) where
+module _ (v : TheoryView) (s : StoreView) (a b : TrailView) (levels : length a.levels ≡ length a.literals) (reasons : length a.reasons ≡ length a.literals) (x : AddsImplied s a b) (h : KeepsUp v a) where
   -- no decision came
   early : (p : ℕ) → p < length b.literals → get_or b.reasons p None ≡ None → p < length a.literals
   early p lt none = elim (cases_lt p (length a.literals)) [
@@ -123,7 +123,7 @@ module _ (v : TheoryView) (a : TrailView) (h : KeepsUp v a) (leveled : IsLeveled
   watched_at : (k : ℕ) → k < a.level → (mark k).watched ≡ length v.watched
   watched_at k lt = h.watched k no_mark (omega (arith, lt, h.marked))
 
-  pub rising : AreRising v
+  pub rising : MarksRise v
   rising j lt =
       let one : j < a.level = omega (arith, lt, h.marked) in
       let two : suc j < a.level = omega (arith, lt, h.marked) in
@@ -200,7 +200,7 @@ gone_is zero v lt = absurd (omega (arith, lt))
 gone_is (suc n) v lt = refl
 
 -- one mark more
-pub back_more : (v : TheoryView) (n : ℕ) → AreRising v → n + 1 ≤ length v.marks → gone_back 1 (gone_back n v) ≡ gone_back (n + 1) v
+pub back_more : (v : TheoryView) (n : ℕ) → MarksRise v → n + 1 ≤ length v.marks → gone_back 1 (gone_back n v) ≡ gone_back (n + 1) v
 back_more v zero rising le = refl
 back_more v (suc n) rising le = together
   where
@@ -248,7 +248,7 @@ marks_left v zero le = omega arith
 marks_left v (suc n) le = length-take-le (length v.marks - suc n) v.marks (omega arith)
 
 -- a literal of a place is none of those before it
-pub new_at : (ls : List Lit) → AreApart ls → (k : ℕ) → k < length ls → Contains (take k ls) (get_or ls k no_lit) → ⊥
+pub new_at : (ls : List Lit) → VariablesAreApart ls → (k : ℕ) → k < length ls → Contains (take k ls) (get_or ls k no_lit) → ⊥
 new_at ls once k lt i =
     let e = early_place ls k (get_or ls k no_lit) (omega (arith, lt)) i in
     once e.0 k no_lit e.1 lt (ap (λ (l : Lit). l.term) e.3)

@@ -9,11 +9,11 @@ use Rattle.spec_text.proofs.Members.{none}
 use Rattle.term_core.specs.declared.ids.TermId.{TermId}
 use Rattle.term_core.specs.declared.ids.Lit.{Lit}
 use Rattle.clause_literals.specs.Literals.{lit_complement}
-use Rattle.clause_literals.specs.Statuses.{IsSatisfied, IsSettled}
+use Rattle.clause_literals.specs.Statuses.{IsSatisfied, PropagatesNothing}
 use Rattle.sat_trail.specs.Trails.{TrailView, no_lit, HasValue, IsCutTo}
-use Rattle.clause_store.specs.Propagating.{IsQuiet}
+use Rattle.clause_store.specs.Propagating.{IsPropagated}
 use Rattle.conflict_learn.proofs.Places.{early_place}
-use Rattle.variable_order.specs.Orders.{IsIn, IsEmpty, IsTaken}
+use Rattle.variable_order.specs.Orders.{IsIn, IsEmpty, IsRemoved}
 use Rattle.term_clauses.specs.SpokenTerms.{no_id}
 use Rattle.search_loop.specs.Waiting.{IsAssigned, AreAssigned, AreWaiting, one_if, count}
 use Rattle.search_loop.specs.Search.{AreSatisfied, AreCovered}
@@ -45,7 +45,7 @@ module _ (waiting : List Bool) (v : TermId) (lt : v.0 < length waiting) where
   ]
 
 -- one waits no more
-module _ (waiting new : List Bool) (v : TermId) (t : IsTaken waiting v new) where
+module _ (waiting new : List Bool) (v : TermId) (t : IsRemoved waiting v new) where
   in_before : (u : TermId) → IsIn new u → IsIn waiting u
   in_before u i = elim (cases_eq u.0 v.0) [
     | inl e ↦ ap (λ n. get_or waiting n false) e ∙ t.was_in
@@ -91,10 +91,10 @@ pub all_assigned : (atoms : List TermId) (held : List Lit) (waiting : List Bool)
 all_assigned atoms held waiting h empty v m = elim (h.each v m) [ inl i ↦ absurd (empty v i) | inr a ↦ a ]
 
 -- and of each clause over atoms a literal holds, as propagation is quiet
-pub satisfied_by : (atoms : List TermId) (clauses : List (List Lit)) (held : List Lit) → AreCovered atoms clauses → IsQuiet clauses held → AreAssigned atoms held → AreSatisfied clauses held
+pub satisfied_by : (atoms : List TermId) (clauses : List (List Lit)) (held : List Lit) → AreCovered atoms clauses → IsPropagated clauses held → AreAssigned atoms held → AreSatisfied clauses held
 satisfied_by atoms clauses held covered quiet all c i = go (quiet c i)
   where
-    go : IsSettled held c → IsSatisfied held c
+    go : PropagatesNothing held c → IsSatisfied held c
     go (inl s) = s
     go (inr u) =
         let a = all u.one.term (covered c u.one i u.has_one) in

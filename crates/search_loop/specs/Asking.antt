@@ -9,14 +9,14 @@ use Rattle.proof_log.specs.Logs.{IsLogOf}
 use Rattle.proof_log.specs.Clashes.{IsClash}
 use Rattle.proof_log.specs.Theories.{Mark, no_mark, TheoryView}
 use Rattle.sat_trail.specs.Trails.{TrailView}
-use Rattle.clause_store.specs.Propagating.{IsQuiet}
+use Rattle.clause_store.specs.Propagating.{IsPropagated}
 use Rattle.search_loop.specs.declared.search.Search.{Search}
 use Rattle.search_loop.specs.declared.cdcl.End.{End}
 use Rattle.search_loop.specs.declared.cdcl.End.TheVariants.{Rests, Refuted, Stopped}
 use Rattle.search_loop.specs.declared.cdcl.Answer.TheVariants.{Unsat, Unknown}
 use Rattle.search_loop.specs.Waiting.{AreAssigned}
-use Rattle.search_loop.specs.Search.{AreSatisfied, IsReady}
-use Rattle.search_loop.specs.Rounds.{Continues, HasLearned, Shows}
+use Rattle.search_loop.specs.Search.{AreSatisfied, SearchFits}
+use Rattle.search_loop.specs.Rounds.{Continues, HasLearned, ShowsAnswer}
 
 -- A theory holds the oldest literals of a trail, and has a mark for each level, set before the level's decision.
 pub record KeepsUp (v : TheoryView) (trail : TrailView) : Type 0 where
@@ -33,8 +33,8 @@ pub record KeepsUp (v : TheoryView) (trail : TrailView) : Type 0 where
   pub watched : All (λ (m : Mark). m.watched ≡ length v.watched) v.marks
 
 -- no mark of a theory was set at more than a later one
-abbrev pub AreRising : TheoryView → Type 0
-AreRising v = (j : ℕ) → suc j < length v.marks → ((get_or v.marks j no_mark).held ≤ (get_or v.marks (suc j) no_mark).held) × ((get_or v.marks j no_mark).watched ≤ (get_or v.marks (suc j) no_mark).watched)
+abbrev pub MarksRise : TheoryView → Type 0
+MarksRise v = (j : ℕ) → suc j < length v.marks → ((get_or v.marks j no_mark).held ≤ (get_or v.marks (suc j) no_mark).held) × ((get_or v.marks j no_mark).watched ≤ (get_or v.marks (suc j) no_mark).watched)
 
 -- A theory is asked by a search: it keeps up with its trail, and watches its terms.
 pub record IsAsked (v : TheoryView) (x : Search) : Type 0 where
@@ -48,7 +48,7 @@ pub record IsAsked (v : TheoryView) (x : Search) : Type 0 where
 -- A search rests: each atom has a value, of each clause a literal holds, and the theory agrees to what the trail holds.
 pub record HasRested (t : TableView) (x : Search) (v : TheoryView) (agreed : Type 0) : Type 0 where
   -- it fits together
-  pub ready : IsReady t x
+  pub ready : SearchFits t x
   -- the theory holds what the trail does
   pub held : v.held ≡ x.trail.literals
   -- and watches the search's terms
@@ -61,20 +61,20 @@ pub record HasRested (t : TableView) (x : Search) (v : TheoryView) (agreed : Typ
   pub agrees : agreed
 
 -- A search over a table.
-pub record State : Type 0 where
+pub record SearchState : Type 0 where
   -- the table
   pub table : TableView
   -- the search
   pub search : Search
 
 -- a table, and a search over it
-abbrev pub state : TableView → Search → State
+abbrev pub state : TableView → Search → SearchState
 state t x = record { table = t; search = x }
 
 -- Propagation went on, and the theory was asked.
-pub record HasLooked (old new : State) (v : TheoryView) : Type 0 where
+pub record HasLooked (old new : SearchState) (v : TheoryView) : Type 0 where
   -- it fits together
-  pub ready : IsReady new.table new.search
+  pub ready : SearchFits new.table new.search
   -- the search is for the same terms
   pub continues : Continues old.table new.table old.search new.search
   -- the theory keeps up
@@ -85,19 +85,19 @@ pub record HasLooked (old new : State) (v : TheoryView) : Type 0 where
   pub literals : length old.search.trail.literals ≤ length new.search.trail.literals
 
 -- what a look finds: nothing follows, and the theory holds all that holds and agrees; or the clause of a step is false
-abbrev pub Looks : (old new : State) → TheoryView → (agrees : Type 0) → Verdict → Type 0
-Looks old new v agrees Fine = HasLooked old new v × IsQuiet new.search.store.clauses new.search.trail.literals × (v.held ≡ new.search.trail.literals) × agrees
-Looks old new v agrees (Clash step) = HasLooked old new v × IsClash new.table new.search.log new.search.trail.literals step
+abbrev pub LookFinds : (old new : SearchState) → TheoryView → (agrees : Type 0) → Verdict → Type 0
+LookFinds old new v agrees Fine = HasLooked old new v × IsPropagated new.search.store.clauses new.search.trail.literals × (v.held ≡ new.search.trail.literals) × agrees
+LookFinds old new v agrees (Clash step) = HasLooked old new v × IsClash new.table new.search.log new.search.trail.literals step
 
 -- what comes of a conflict: an answer is shown; or a clause is learned, for which the budget had room, and the theory keeps up
-abbrev pub Settles : (old new : State) → TheoryView → Option End → Type 0
+abbrev pub Settles : (old new : SearchState) → TheoryView → Option End → Type 0
 Settles old new v (Some Rests) = ⊥
-Settles old new v (Some (Refuted step)) = Shows old.table new.table old.search new.search (Unsat step)
-Settles old new v (Some (Stopped reason)) = Shows old.table new.table old.search new.search (Unknown reason)
+Settles old new v (Some (Refuted step)) = ShowsAnswer old.table new.table old.search new.search (Unsat step)
+Settles old new v (Some (Stopped reason)) = ShowsAnswer old.table new.table old.search new.search (Unknown reason)
 Settles old new v None = HasLearned old.table new.table old.search new.search × IsAsked v new.search × (length old.search.budget.learned < old.search.budget.limit)
 
 -- A search stopped in a theory's check: it is for the same terms, and what it has derived stands.
-pub record HasStopped (old new : State) (v : TheoryView) : Type 0 where
+pub record HasStopped (old new : SearchState) (v : TheoryView) : Type 0 where
   -- each step of the log is right
   pub right : IsLogOf new.table new.search.log
   -- the search is for the same terms
@@ -110,7 +110,7 @@ abbrev pub OnStop : Type 0 → Stop → Type 0
 OnStop P stop = StopsBy (λ s. P) (λ n. P) stop
 
 -- how a search ends: it rests, and is one for the same terms; or it shows of them what an answer does
-abbrev pub Ends : (old new : State) → (rested : Type 0) → End → Type 0
-Ends old new rested Rests = rested × Continues old.table new.table old.search new.search
-Ends old new rested (Refuted step) = Shows old.table new.table old.search new.search (Unsat step)
-Ends old new rested (Stopped reason) = Shows old.table new.table old.search new.search (Unknown reason)
+abbrev pub EndsSearch : (old new : SearchState) → (rested : Type 0) → End → Type 0
+EndsSearch old new rested Rests = rested × Continues old.table new.table old.search new.search
+EndsSearch old new rested (Refuted step) = ShowsAnswer old.table new.table old.search new.search (Unsat step)
+EndsSearch old new rested (Stopped reason) = ShowsAnswer old.table new.table old.search new.search (Unknown reason)

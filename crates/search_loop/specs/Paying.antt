@@ -6,7 +6,7 @@ use Rattle.term_core.specs.declared.ids.TermId.{TermId}
 use Rattle.term_core.specs.declared.ids.Lit.{Lit}
 use Rattle.term_core.specs.Tables.{TableView, term_at, clause_at}
 use Rattle.search_loop.specs.declared.search.Search.{Search}
-use Rattle.search_loop.specs.Asking.{State}
+use Rattle.search_loop.specs.Asking.{SearchState}
 
 -- how many of these terms are atoms of linear arithmetic
 abbrev pub counted_among : TableView → List TermId → ℕ
@@ -33,7 +33,7 @@ abbrev pub IsPaid : (ℕ → Type 0) → ℕ → Type 0
 IsPaid came most = (n : ℕ) × (n ≤ most) × came n
 
 -- where literals came to be held, as many more are paid as atoms came, and those held are no more than the search's
-abbrev pub Looked : State → (before after : List Lit) → ℕ → (ℕ → Type 0) → Type 0
+abbrev pub Looked : SearchState → (before after : List Lit) → ℕ → (ℕ → Type 0) → Type 0
 Looked s before after n came =
     (m : ℕ) × (m + counted_held s.table before ≡ n + counted_held s.table after)
     × (counted_held s.table after ≤ atoms_of s.table s.search) × came m

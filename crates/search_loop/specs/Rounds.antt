@@ -29,7 +29,7 @@ use Rattle.conflict_learn.specs.declared.learned.Learned.{Learned}
 use Rattle.search_loop.specs.declared.search.Search.{Search}
 use Rattle.search_loop.specs.declared.cdcl.Answer.{Answer}
 use Rattle.search_loop.specs.declared.cdcl.Answer.TheVariants.{Sat, Unsat, Unknown}
-use Rattle.search_loop.specs.Search.{images, IsReady}
+use Rattle.search_loop.specs.Search.{images, SearchFits}
 use Rattle.search_loop.specs.Stops.{IsStrained, ArePivotsSpent}
 use Rattle.search_model.specs.Models.{IsModel}
 
@@ -127,9 +127,9 @@ abbrev pub KeepsLimits : BudgetView → BudgetView → Type 0
 KeepsLimits old new = (new.limit ≡ old.limit) × (new.pivots ≡ old.pivots)
 
 -- A search that is asked a problem begins, under these limits.
-pub record Begins (t : TableView) (p : Problem) (limits : Limits) (x : Search) : Type 0 where
+pub record BeginsSearch (t : TableView) (p : Problem) (limits : Limits) (x : Search) : Type 0 where
   -- it fits together
-  pub ready : IsReady t x
+  pub ready : SearchFits t x
   -- it has no literals yet
   pub empty : x.trail.literals ≡ []
   pub level : x.trail.level ≡ 0
@@ -180,8 +180,8 @@ abbrev pub IsStep : Conflict → TableView → List Logged → Type 0
 IsStep c u log = (d : Learned) × IsLearned c u log d
 
 -- the log grew by the step of a clause without literals
-abbrev pub IsRefuted : Conflict → List Logged → StepId → Type 0
-IsRefuted c log id = IsLogged c c.table log [] id
+abbrev pub LogsEmptyClause : Conflict → List Logged → StepId → Type 0
+LogsEmptyClause c log id = IsLogged c c.table log [] id
 
 -- A search went on: what it has is of the same problem, over a table that has all that it had.
 pub record Continues (t u : TableView) (old new : Search) : Type 0 where
@@ -205,13 +205,13 @@ HasKept t step old new = (new ≡ record old { store = new.store }) × IsAdded t
 -- A clause was learned, and the search goes on.
 pub record HasLearned (t u : TableView) (old new : Search) : Type 0 where
   -- it fits together
-  pub ready : IsReady u new
+  pub ready : SearchFits u new
   -- it is asked the same
   pub continues : Continues t u old new
   -- a clause more is learned
   pub learned : length new.budget.learned ≡ length old.budget.learned + 1
 
 -- the answer shows what it should of the problem that the search is asked
-abbrev pub Shows : TableView → TableView → Search → Search → Answer → Type 0
-Shows t u old new a = (p : Problem) → IsSearch t p old
+abbrev pub ShowsAnswer : TableView → TableView → Search → Search → Answer → Type 0
+ShowsAnswer t u old new a = (p : Problem) → IsSearch t p old
     → HasEvidence u p new.log new.budget a × IsLearning u p new.log a new.budget.learned

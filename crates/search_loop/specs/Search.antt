@@ -7,13 +7,13 @@ use Rattle.term_core.specs.declared.ids.Lit.{Lit}
 use Rattle.term_core.specs.Tables.{TableView, clause_at, literal_at}
 use Rattle.clause_literals.specs.Statuses.{IsSatisfied}
 use Rattle.term_clauses.specs.SpokenTerms.{AreRising}
-use Rattle.clause_literals.specs.Literals.{AreOf, Means}
+use Rattle.clause_literals.specs.Literals.{AreLiteralsIn, LiteralsMean}
 use Rattle.proof_log.specs.declared.premises.StepId.{StepId}
 use Rattle.proof_log.specs.Logs.{Logged, named, logged_at, IsLogOf}
 use Rattle.proof_log.specs.Theories.{IsTermIn, IsAtomIn}
 use Rattle.sat_trail.specs.Trails.{TrailView, no_lit, HasSame, empty as no_trail}
-use Rattle.clause_store.specs.Stores.{StoreView, no_step, AreKnown, HasSeen}
-use Rattle.clause_store.specs.Propagating.{AreImplied, IsQuiet}
+use Rattle.clause_store.specs.Stores.{StoreView, no_step, LiteralsAreBelow, HasSeen}
+use Rattle.clause_store.specs.Propagating.{AreImplied, IsPropagated}
 use Rattle.conflict_learn.specs.Conflicts.{Conflict}
 use Rattle.search_loop.specs.declared.search.Search.{Search}
 use Rattle.search_loop.specs.Waiting.{AreWaiting}
@@ -24,27 +24,27 @@ images t cs = map (map (literal_at t)) cs
 
 -- each literal's term is one of the table's
 abbrev pub AreAllOf : TableView → List (List Lit) → Type 0
-AreAllOf t cs = All (AreOf t) cs
+AreAllOf t cs = All (AreLiteralsIn t) cs
 
 -- of each clause a literal holds
 abbrev pub AreSatisfied : List (List Lit) → List Lit → Type 0
 AreSatisfied clauses held = (c : List Lit) → Contains clauses c → IsSatisfied held c
 
 -- Each clause has the literals of its step's.
-pub record Derives (t : TableView) (log : List Logged) (s : StoreView) : Type 0 where
+pub record DerivesClauses (t : TableView) (log : List Logged) (s : StoreView) : Type 0 where
   -- there are as many steps
   pub paired : length s.steps ≡ length s.clauses
   -- each is one of the log's
   pub there : (k : ℕ) → k < length s.clauses → (get_or s.steps k no_step).0 < length log
   -- its clause has these literals
-  pub same : (k : ℕ) → k < length s.clauses → Means t (get_or s.clauses k []) (clause_at t (named (logged_at log (get_or s.steps k no_step))))
+  pub same : (k : ℕ) → k < length s.clauses → LiteralsMean t (get_or s.clauses k []) (clause_at t (named (logged_at log (get_or s.steps k no_step))))
 
 -- The store has the clauses of these steps.
 pub record IsStoreOf (t : TableView) (log : List Logged) (steps : List StepId) (s : StoreView) : Type 0 where
   -- the steps are these
   pub by : s.steps ≡ steps
   -- its clauses are theirs
-  pub derives : Derives t log s
+  pub derives : DerivesClauses t log s
 
 -- The trail has a variable for each term of the table, and no literal.
 pub record IsBegun (t : TableView) (v : TrailView) : Type 0 where
@@ -58,7 +58,7 @@ pub record IsBegun (t : TableView) (v : TrailView) : Type 0 where
 -- Where a literal was decided, propagation was quiet, and it is one of an atom.
 pub record AreDecided (atoms : List TermId) (clauses : List (List Lit)) (v : TrailView) : Type 0 where
   -- nothing followed from the clauses before it
-  pub quiet : (p : ℕ) → p < length v.literals → get_or v.reasons p None ≡ None → IsQuiet clauses (take p v.literals)
+  pub quiet : (p : ℕ) → p < length v.literals → get_or v.reasons p None ≡ None → IsPropagated clauses (take p v.literals)
   -- its term is one of the atoms
   pub of_atoms : (p : ℕ) → p < length v.literals → get_or v.reasons p None ≡ None → Contains atoms (get_or v.literals p no_lit).term
 
@@ -87,13 +87,13 @@ abbrev pub AreCovered : List TermId → List (List Lit) → Type 0
 AreCovered atoms clauses = (c : List Lit) (l : Lit) → Contains clauses c → Contains c l → Contains atoms l.term
 
 -- What a search has fits together over a table, whatever its terms are.
-pub record IsReady (t : TableView) (x : Search) : Type 0 where
+pub record SearchFits (t : TableView) (x : Search) : Type 0 where
   -- each step of the log is right
   pub right : IsLogOf t x.log
   -- each clause has the literals of its step's
-  pub derives : Derives t x.log x.store
+  pub derives : DerivesClauses t x.log x.store
   -- the trail has a variable for each term of the clauses
-  pub known : AreKnown x.store x.trail.vars
+  pub known : LiteralsAreBelow x.store x.trail.vars
   -- what the trail has marked as propagated, the store has seen
   pub seen : HasSeen x.store x.trail
   -- each reason is that of a clause whose others were false

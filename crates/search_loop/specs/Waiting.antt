@@ -29,9 +29,9 @@ pub record IsOpen (trail : TrailView) (l : Lit) : Type 0 where
   pub unassigned : IsUnassigned trail.literals l
 
 -- the literal is one of the variable, without a value; there is none where a literal of the variable holds
-abbrev pub IsChoice : List Lit → TermId → Option Lit → Type 0
-IsChoice held v None = IsAssigned held v
-IsChoice held v (Some l) = (l.term ≡ v) × IsUnassigned held l
+abbrev pub IsDecision : List Lit → TermId → Option Lit → Type 0
+IsDecision held v None = IsAssigned held v
+IsDecision held v (Some l) = (l.term ≡ v) × IsUnassigned held l
 
 -- each of the atoms has a value
 abbrev pub AreAssigned : List TermId → List Lit → Type 0

@@ -3,11 +3,11 @@
 ghost use Rattle.std.specs.Prelude.{◌≡◌, IfOk, IfErr};
 ghost use Rattle.search_loop.specs.Answered.{AreAnswered};
 ghost use Rattle.term_core.specs.Tables.{declared_in, Extends, clause_at};
-ghost use Rattle.proof_log.specs.Logs.{IsLogOf, AreOf, AreFormulasIn};
+ghost use Rattle.proof_log.specs.Logs.{IsLogOf, AreStepsOf, AreFormulasIn};
 ghost use Rattle.term_clauses.specs.SpokenTerms.{problem_in};
-ghost use Rattle.clausify.specs.Overflows.{OnWide, IsOrderOverflow};
+ghost use Rattle.clausify.specs.Overflows.{OnClauseOverflow, IsOrderOverflow};
 ghost use Rattle.search_loop.specs.Search.{IsStoreOf, IsBegun};
-ghost use Rattle.search_loop.specs.Rounds.{Begins};
+ghost use Rattle.search_loop.specs.Rounds.{BeginsSearch};
 
 use crate::atoms::atoms_of;
 use crate::decider::Decider;
@@ -33,7 +33,7 @@ fn store_of(
     steps: &[StepId],
 ) -> Result<ClauseStore, NoMemory>
     requires log { IsLogOf table.now log.now }
-    requires steps { AreOf log.now steps.now }
+    requires steps { AreStepsOf log.now steps.now }
     ensures { IfOk result (IsStoreOf table.now log.now steps.now) }
 {
     let mut store = ClauseStore::new(alloc);
@@ -72,8 +72,8 @@ pub fn begin(
     requires answered_beside { AreAnswered (clause_at table.old beside.now) }
     ensures grown { Extends table.old table.new }
     ensures declared { declared_in table.new ≡ declared_in table.old }
-    ensures begins { IfOk result (Begins table.new (problem_in table.old roots.now beside.now) limits.now) }
-    ensures wide { IfErr result (OnWide (IsOrderOverflow (problem_in table.old roots.now beside.now))) }
+    ensures begins { IfOk result (BeginsSearch table.new (problem_in table.old roots.now beside.now) limits.now) }
+    ensures wide { IfErr result (OnClauseOverflow (IsOrderOverflow (problem_in table.old roots.now beside.now))) }
 {
     whole_clauses_are_over_whole_terms();
     whole_terms_are_known();

@@ -7,9 +7,9 @@ ghost use Rattle.term_core.specs.Tables.{declared_in, Extends};
 ghost use Rattle.sat_budget.specs.Budgets.{StopsBy, AreSpent};
 ghost use Rattle.proof_log.specs.Logs.{IsLogOf};
 ghost use Rattle.proof_log.specs.Theories.{terms_watched, literals_held, CameTo};
-ghost use Rattle.search_loop.specs.Search.{IsReady};
+ghost use Rattle.search_loop.specs.Search.{SearchFits};
 ghost use Rattle.search_loop.specs.Rounds.{KeepsLimits};
-ghost use Rattle.search_loop.specs.Asking.{IsAsked, HasRested, HasStopped, OnStop, state, Ends};
+ghost use Rattle.search_loop.specs.Asking.{IsAsked, HasRested, HasStopped, OnStop, state, EndsSearch};
 ghost use Rattle.search_loop.specs.Paying.{atoms_of, most, IsPaid};
 ghost use Rattle.search_loop.specs.declared.cdcl.End.TheVariants.{Rests};
 
@@ -50,7 +50,7 @@ impl Search {
     ///
     /// `Memory` comes where memory ran out, here or in the theory. The other stops are those of the theory's check.
     pub fn run<T: Theory>(&mut self, table: &mut TermTable, theory: &mut T) -> Result<End, Stop>
-        requires ready { IsReady table.old self.old }
+        requires ready { SearchFits table.old self.old }
         requires asked { IsAsked (T.view theory.old) self.old }
         requires with { T.goes_with theory.old table.old }
         ensures grown { Extends table.old table.new }
@@ -58,7 +58,7 @@ impl Search {
         ensures right { IfOk result (λ _. IsLogOf table.new self.new.log) }
         ensures limits { IfOk result (λ _. KeepsLimits self.old.budget self.new.budget) }
         ensures with { IfOk result (λ _. T.goes_with theory.new table.new) }
-        ensures ends { IfOk result (Ends (state table.old self.old) (state table.new self.new)
+        ensures ends { IfOk result (EndsSearch (state table.old self.old) (state table.new self.new)
             (HasRested table.new self.new (T.view theory.new) (T.agrees theory.new
             (terms_watched table.new (T.view theory.new)) (literals_held table.new (T.view theory.new))))) }
         ensures came { (ts : List Term) → T.came_by theory.old table.old ts

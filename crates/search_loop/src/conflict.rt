@@ -6,8 +6,8 @@ ghost use Rattle.term_core.specs.Tables.{declared_in, Extends};
 ghost use Rattle.proof_log.specs.Logs.{IsLogOf};
 ghost use Rattle.proof_log.specs.Clashes.{IsClash};
 ghost use Rattle.conflict_learn.specs.Conflicts.{IsOfZero, IsAboveZero};
-ghost use Rattle.search_loop.specs.Search.{IsReady, conflict_of};
-ghost use Rattle.search_loop.specs.Rounds.{KeepsLimits, IsNoted, IsStep, IsRefuted, HasLearned, Shows};
+ghost use Rattle.search_loop.specs.Search.{SearchFits, conflict_of};
+ghost use Rattle.search_loop.specs.Rounds.{KeepsLimits, IsNoted, IsStep, LogsEmptyClause, HasLearned, ShowsAnswer};
 ghost use Rattle.search_loop.specs.Asking.{IsAsked, state, Settles};
 ghost use Rattle.search_loop.specs.declared.cdcl.Answer.TheVariants.{Unsat, Unknown};
 ghost use Rattle.sat_budget.specs.declared.limits.Reason.TheVariants.{Conflicts};
@@ -43,7 +43,7 @@ impl Search {
         theory: &mut T,
         clash: StepId,
     ) -> Result<Option<End>, NoMemory>
-        requires ready { IsReady table.old self.old }
+        requires ready { SearchFits table.old self.old }
         requires asked { IsAsked (T.view theory.old) self.old }
         requires with { T.goes_with theory.old table.old }
         requires clash { IsClash table.old self.old.log self.old.trail.literals clash }
@@ -75,13 +75,13 @@ impl Search {
     /// Gives the step that shows that the terms cannot all be true, where a clause is false since level 0. It is resolved from what the
     /// conflict rests on.
     fn refuted(&mut self, table: &TermTable, clash: StepId) -> Result<StepId, NoMemory>
-        requires ready { IsReady table.now self.old }
+        requires ready { SearchFits table.now self.old }
         requires clash { IsClash table.now self.old.log self.old.trail.literals clash }
         requires of_zero { IsOfZero (conflict_of table.now self.old clash) }
         ensures right { IfOk result (λ _. IsLogOf table.now self.new.log) }
         ensures budget { self.new.budget ≡ self.old.budget }
-        ensures step { IfOk result (IsRefuted (conflict_of table.now self.old clash) self.new.log) }
-        ensures shows { IfOk result (λ step. Shows table.now table.now self.old self.new (Unsat step)) }
+        ensures step { IfOk result (LogsEmptyClause (conflict_of table.now self.old clash) self.new.log) }
+        ensures shows { IfOk result (λ step. ShowsAnswer table.now table.now self.old self.new (Unsat step)) }
     {
         table.ids_are_unique();
         let step = refute(self.alloc, table, &self.trail, &mut self.log, clash)?;
@@ -91,7 +91,7 @@ impl Search {
     /// Shows that one clause more could be learned, from a conflict above level 0 where the budget is spent. It learns it, and takes its
     /// step from the log again.
     fn forgo(&mut self, table: &mut TermTable, clash: StepId) -> Result<(), NoMemory>
-        requires ready { IsReady table.old self.old }
+        requires ready { SearchFits table.old self.old }
         requires clash { IsClash table.old self.old.log self.old.trail.literals clash }
         requires above { IsAboveZero (conflict_of table.old self.old clash) }
         ensures grown { Extends table.old table.new }
@@ -100,7 +100,7 @@ impl Search {
         ensures right { OnOk result (IsLogOf table.new self.new.log) }
         ensures shows { OnOk result ((n : ℕ) → length self.old.budget.learned ≡ self.old.budget.limit
             → n ≡ self.old.budget.limit
-            → Shows table.old table.new self.old self.new (Unknown (Conflicts n))) }
+            → ShowsAnswer table.old table.new self.old self.new (Unknown (Conflicts n))) }
     {
         logs_stand_in_grown_tables();
         table.ids_are_unique();
@@ -121,7 +121,7 @@ impl Search {
         theory: &mut T,
         clash: StepId,
     ) -> Result<(), NoMemory>
-        requires ready { IsReady table.old self.old }
+        requires ready { SearchFits table.old self.old }
         requires asked { IsAsked (T.view theory.old) self.old }
         requires with { T.goes_with theory.old table.old }
         requires clash { IsClash table.old self.old.log self.old.trail.literals clash }

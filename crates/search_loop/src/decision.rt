@@ -2,7 +2,7 @@
 
 ghost use Rattle.std.specs.Prelude.{◌≡◌, ◌<◌, length, List, IfSome};
 ghost use Rattle.term_core.specs.declared.ids.TermId.{TermId as Number};
-ghost use Rattle.search_loop.specs.Waiting.{AreWaiting, IsChoice, IsOpen, Chooses};
+ghost use Rattle.search_loop.specs.Waiting.{AreWaiting, IsDecision, IsOpen, Chooses};
 
 use sat_trail::SatTrail;
 use term_core::{Lit, TermId};
@@ -12,7 +12,7 @@ use variable_order::VariableOrder;
 fn choice_of(phases: &[bool], trail: &SatTrail, v: TermId) -> Option<Lit>
     requires phase { v.0 < length phases.now }
     requires known { v.0 < trail.now.vars }
-    ensures { IsChoice trail.now.literals v result }
+    ensures { IsDecision trail.now.literals v result }
 {
     let l = Lit {
         term: v,

@@ -6,7 +6,7 @@ ghost use Rattle.term_core.specs.declared.ids.Lit.{Lit as Literal};
 ghost use Rattle.term_core.specs.Tables.{TableView};
 ghost use Rattle.proof_log.specs.Theories.{gone_back};
 ghost use Rattle.sat_trail.specs.Trails.{IsCutTo};
-ghost use Rattle.search_loop.specs.Asking.{AreRising, KeepsUp};
+ghost use Rattle.search_loop.specs.Asking.{MarksRise, KeepsUp};
 ghost use Rattle.search_loop.specs.Paying.{counted_held};
 
 use proof_log::Theory;
@@ -36,7 +36,7 @@ pub(crate) fn feed<T: Theory>(theory: &mut T, trail: &SatTrail, from: u64)
 /// Lets a theory go back over so many marks. It takes no memory.
 fn back<T: Theory>(theory: &mut T, marks: u64)
     requires there { marks ≤ length (T.view theory.old).marks }
-    requires rising { AreRising (T.view theory.old) }
+    requires rising { MarksRise (T.view theory.old) }
     ensures back { T.view theory.new ≡ gone_back marks (T.view theory.old) }
     ensures with { (t : TableView) → T.goes_with theory.old t → T.goes_with theory.new t }
     ensures came { (t : TableView) (ts : List Term) (n : ℕ) (es : List (ℕ × ℕ)) → T.came_by theory.old t ts n es

@@ -5,8 +5,8 @@ ghost use Rattle.spec_sorts.specs.Terms.{Term};
 ghost use Rattle.term_core.specs.Tables.{declared_in, Extends};
 ghost use Rattle.sat_budget.specs.Budgets.{StopsBy, AreSpent};
 ghost use Rattle.proof_log.specs.Theories.{terms_watched, literals_held, CameTo, paid_after};
-ghost use Rattle.search_loop.specs.Search.{IsReady};
-ghost use Rattle.search_loop.specs.Asking.{IsAsked, HasStopped, OnStop, state, Looks};
+ghost use Rattle.search_loop.specs.Search.{SearchFits};
+ghost use Rattle.search_loop.specs.Asking.{IsAsked, HasStopped, OnStop, state, LookFinds};
 ghost use Rattle.search_loop.specs.Paying.{IsPaid, Looked};
 
 use crate::feeding::feed;
@@ -29,13 +29,13 @@ impl Search {
         table: &mut TermTable,
         theory: &mut T,
     ) -> Result<Verdict, Stop>
-        requires ready { IsReady table.old self.old }
+        requires ready { SearchFits table.old self.old }
         requires asked { IsAsked (T.view theory.old) self.old }
         requires with { T.goes_with theory.old table.old }
         ensures grown { Extends table.old table.new }
         ensures declared { declared_in table.new ≡ declared_in table.old }
         ensures with { IfOk result (λ _. T.goes_with theory.new table.new) }
-        ensures looks { IfOk result (Looks (state table.old self.old) (state table.new self.new) (T.view theory.new)
+        ensures looks { IfOk result (LookFinds (state table.old self.old) (state table.new self.new) (T.view theory.new)
             (T.agrees theory.new (terms_watched table.new (T.view theory.new)) (literals_held table.new (T.view theory.new)))) }
         ensures learned { self.new.budget.learned ≡ self.old.budget.learned }
         ensures came { (ts : List Term) (n : ℕ) → T.came_by theory.old table.old ts n self.old.budget.exchanges

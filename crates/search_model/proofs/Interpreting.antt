@@ -16,7 +16,7 @@ use Rattle.term_core.specs.Symbols.{no_symbol, names_of}
 use Rattle.term_core.specs.declared.ids.TermId.{TermId}
 use Rattle.term_core.specs.declared.ids.Lit.{Lit}
 use Rattle.term_core.specs.Tables.{TableView, clause_at}
-use Rattle.term_walks.specs.Valuations.{Stands, tables_meant, no_table}
+use Rattle.term_walks.specs.Valuations.{HasSymbolTables, tables_meant, no_table}
 use Rattle.spec_valuations.specs.Tables.{table_of, IsModelBy}
 use Rattle.search_model.specs.Models.{values_of, IsModelOf}
 
@@ -44,7 +44,7 @@ found (s ∷ ss) n k lt e = go (bytes_eq s.name n) (bytes_eq-Decides s.name n) (
 abbrev interpreted : TableView → Interp → Interpretation
 interpreted t interp = record { table = λ n. slice_index_or (tables_meant t.sorts interp) (number_of t.symbols n) no_table }
 
-pub interpretation : (t : TableView) (interp : Interp) → HaveNoTwice (names_of t.symbols) → (i : Interpretation) × Stands t interp i
+pub interpretation : (t : TableView) (interp : Interp) → HaveNoTwice (names_of t.symbols) → (i : Interpretation) × HasSymbolTables t interp i
 interpretation t interp apart = (
   interpreted t interp,
   λ s lt.
@@ -59,7 +59,7 @@ interpretation t interp apart = (
 
 -- an interpretation with these tables is one by the values of the listed terms
 pub models_by : (t : TableView) (held : List Lit) (terms : List TermId) (classes : List ℕ) (numbers : List Fraction) (interp : Interp) → IsModelOf t held terms classes numbers interp
-    → (i : Interpretation) → Stands t interp i → IsModelBy i (values_of t held terms classes numbers) t.symbols (clause_at t terms)
+    → (i : Interpretation) → HasSymbolTables t interp i → IsModelBy i (values_of t held terms classes numbers) t.symbols (clause_at t terms)
 models_by t held terms classes numbers interp model i stands s c =
     subst (λ (x : Symbol). i.table x.name ≡ table_of (values_of t held terms classes numbers) x (clause_at t terms)) (sym (get_or_default t.symbols c.0 s no_symbol c.1) ∙ c.2)
     (stands (record { 0 = c.0 }) c.1 ∙ model.each c.0 c.1)

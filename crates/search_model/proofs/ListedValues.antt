@@ -15,14 +15,14 @@ use Rattle.term_core.specs.declared.ids.TermId.{TermId}
 use Rattle.term_core.specs.Tables.{TableView, term_at, IsIn, AreIn, clause_at, AreDifferent}
 use Rattle.term_walks.specs.declared.values.Value.{Value as CodeValue}
 use Rattle.term_walks.specs.Valuations.{value_meant, IsNamed}
-use Rattle.search_model.specs.Models.{no_id, number_in, AreRising}
+use Rattle.search_model.specs.Models.{no_id, number_in, AreIncreasing}
 use Rattle.search_model.specs.Made.{no_value, value_at_id, IsValueOf}
 
 -- what is found for a term where the terms that it may be stand beside what they have
 module _ {A : Type 0} (no : A) (found_in : List Term → List A → Term → A)
     (step : (u : Term) (us : List Term) (x : A) (xs : List A) (w : Term) → found_in (u ∷ us) (x ∷ xs) w ≡ cond (same_term u w) x (found_in us xs w)) where
   -- of a listed term it is what stands at its place
-  at_place : (t : TableView) (ids : List TermId) (xs : List A) (k : ℕ) → AreDifferent t.terms → AreIn t ids → AreRising ids → length xs ≡ length ids → k < length ids
+  at_place : (t : TableView) (ids : List TermId) (xs : List A) (k : ℕ) → AreDifferent t.terms → AreIn t ids → AreIncreasing ids → length xs ≡ length ids → k < length ids
       → found_in (clause_at t ids) xs (term_at t (get_or ids k no_id)) ≡ get_or xs k no
   at_place t [] xs k different there rising long lt = absurd (omega (arith, lt))
   at_place t (id ∷ ids) [] k different there rising long lt = absurd (omega (arith, long))
@@ -49,12 +49,12 @@ module _ {A : Type 0} (no : A) (found_in : List Term → List A → Term → A)
       go false e rest = rest
 
 -- the class of a listed term is the one at its place
-pub class_at : (t : TableView) (ids : List TermId) (classes : List ℕ) (k : ℕ) → AreDifferent t.terms → AreIn t ids → AreRising ids → length classes ≡ length ids → k < length ids
+pub class_at : (t : TableView) (ids : List TermId) (classes : List ℕ) (k : ℕ) → AreDifferent t.terms → AreIn t ids → AreIncreasing ids → length classes ≡ length ids → k < length ids
     → class_in (clause_at t ids) classes (term_at t (get_or ids k no_id)) ≡ get_or classes k 0
 class_at = at_place 0 class_in (λ u us x xs w. refl)
 
 -- so is its number
-pub number_at : (t : TableView) (ids : List TermId) (numbers : List Fraction) (k : ℕ) → AreDifferent t.terms → AreIn t ids → AreRising ids → length numbers ≡ length ids → k < length ids
+pub number_at : (t : TableView) (ids : List TermId) (numbers : List Fraction) (k : ℕ) → AreDifferent t.terms → AreIn t ids → AreIncreasing ids → length numbers ≡ length ids → k < length ids
     → number_in (clause_at t ids) numbers (term_at t (get_or ids k no_id)) ≡ get_or numbers k zero_fraction
 number_at = at_place zero_fraction number_in (λ u us x xs w. refl)
 

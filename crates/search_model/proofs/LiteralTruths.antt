@@ -17,7 +17,7 @@ use Rattle.spec_rules.specs.Truths.{Truths, literal_true}
 use Rattle.term_core.specs.declared.ids.TermId.{TermId}
 use Rattle.term_core.specs.declared.ids.Lit.{Lit}
 use Rattle.term_core.specs.Tables.{TableView, term_at, IsIn, literal_at, AreDifferent}
-use Rattle.clause_literals.specs.Literals.{IsConsistent, AreOf}
+use Rattle.clause_literals.specs.Literals.{IsConsistent, AreLiteralsIn}
 use Rattle.clause_literals.proofs.TableLiterals.{literals_apart}
 use Rattle.sat_trail.specs.Trails.{HasValue}
 use Rattle.search_model.specs.Models.{affirms, truths_of}
@@ -51,7 +51,7 @@ literal_before t id l different come_first id_in l_in means =
     let same : r.0 ≡ l.term.0 = different r.0 l.term.0 (omega (arith, r.1, id_in)) l_in (r.2 ∙ sym (ap (λ (x : Literal). x.atom) means)) in
     omega (arith, r.1, same)
 
-module _ (t : TableView) (held : List Lit) (different : AreDifferent t.terms) (there : AreOf t held) (consistent : IsConsistent held) where
+module _ (t : TableView) (held : List Lit) (different : AreDifferent t.terms) (there : AreLiteralsIn t held) (consistent : IsConsistent held) where
   -- the truths of what holds
   abbrev v : Truths
   v = truths_of t held

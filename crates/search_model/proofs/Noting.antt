@@ -3,7 +3,7 @@ use Rattle.std.proofs.Common.{◌≡◌, true, List, [], ◌∷◌, ◌++◌, ge
 use Rattle.std.proofs.lemmas.List.Elements.{All-contains, Contains-get_or}
 use Rattle.spec_text.proofs.Members.{to_image}
 use Rattle.spec_sorts.specs.Terms.{Sort, Symbol, Head, Apply, Term, Terms, app, nil, terms_of, list_of, sort_of}
-use Rattle.spec_sorts.specs.Values.{Row}
+use Rattle.spec_sorts.specs.Values.{TableRow}
 use Rattle.spec_sorts.specs.Subsets.{arguments_of}
 use Rattle.spec_sorts.proofs.General.{list_of-terms_of}
 use Rattle.spec_sorts.proofs.SameTerms.{one_sorts}
@@ -13,7 +13,7 @@ use Rattle.term_core.specs.declared.ids.SymbolId.{SymbolId}
 use Rattle.term_core.specs.declared.nodes.Head.TheVariants as heads
 use Rattle.term_core.specs.NameLists.{HaveNoTwice}
 use Rattle.term_core.specs.Symbols.{names_of, IsSymbol}
-use Rattle.term_core.specs.Tables.{TableView, term_at, IsIn, clause_at, head_meant, takes, HasHead, Shape, Fits, shape_term, AreDifferent}
+use Rattle.term_core.specs.Tables.{TableView, term_at, IsIn, clause_at, head_meant, takes, HasHead, Shape, ShapeFits, shape_term, AreDifferent}
 use Rattle.term_walks.specs.declared.values.Value.{Value as CodeValue}
 use Rattle.term_walks.specs.declared.values.Table.{Table as CodeTable}
 use Rattle.term_walks.specs.Valuations.{no_table, value_meant, values_meant, IsTableNamed}
@@ -40,7 +40,7 @@ pub record IsApplication (t : TableView) (ids : List TermId) (id : TermId) (s : 
   -- and written so
   pub means : term_at t id ≡ shape_term t s
   -- what it names is there
-  pub fits : Fits t s
+  pub fits : ShapeFits t s
   -- the symbol is its head
   pub head : s.head ≡ heads.Apply k
 
@@ -85,7 +85,7 @@ module _ (t : TableView) (different : AreDifferent t.terms) (apart : HaveNoTwice
     row_noted some new_is =
         let p = some_parameters t f.parameters s.arguments some parameters_are in
         let x = get_or (meant t.sorts tables) k.0 no_table in
-        let r : Row = record { arguments = values_meant t.sorts (map (value_at_id vs) s.arguments); value = value_meant t.sorts (value_at_id vs id) } in
+        let r : TableRow = record { arguments = values_meant t.sorts (map (value_at_id vs) s.arguments); value = value_meant t.sorts (value_at_id vs id) } in
         let arguments : values_meant t.sorts (map (value_at_id vs) s.arguments) ≡ values_by v ts =
         arguments_valued t v ids vs values different s.arguments argument_valued ∙ ap (map v) (sym (list_of-terms_of (clause_at t s.arguments))) in
         tables_put t v done u is_there tables old k.0 ts new (with_row x r) apart symbol_there term_is new_is

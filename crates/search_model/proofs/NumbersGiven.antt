@@ -5,7 +5,7 @@ use Rattle.std.proofs.lemmas.Bool.{false≢true}
 use Rattle.spec_text.proofs.Members.{first, later, none, cases}
 use Rattle.spec_numbers.specs.Fractions.{Fraction}
 use Rattle.spec_sorts.specs.Terms.{Sort, Truth, Number, Declared, Symbol, Apply, Term, Terms, app, list_of, sort_of, same_term}
-use Rattle.spec_sorts.specs.Values.{Row, Table, first_fit, Interpretation}
+use Rattle.spec_sorts.specs.Values.{TableRow, Table, first_fit, Interpretation}
 use Rattle.spec_sorts.proofs.SameTerms.{terms_decide}
 use Rattle.spec_arithmetic.specs.Numbers.{number_at}
 use Rattle.spec_rules.specs.Truths.{term_true_by}
@@ -15,7 +15,7 @@ use Rattle.term_core.specs.declared.ids.TermId.{TermId}
 use Rattle.term_core.specs.declared.ids.Lit.{Lit}
 use Rattle.term_core.specs.Tables.{TableView, clause_at}
 use Rattle.term_walks.specs.declared.values.Interp.{Interp}
-use Rattle.term_walks.specs.Valuations.{Stands}
+use Rattle.term_walks.specs.Valuations.{HasSymbolTables}
 use Rattle.search_model.specs.Models.{truths_of, number_in, TakeNumbersOf, IsModelOf}
 use Rattle.search_model.proofs.SymbolRows.{arguments_back}
 use Rattle.search_model.proofs.Interpreting.{models_by}
@@ -56,8 +56,8 @@ module _ (v w : Valuation) where
     tables_agree terms h = go s.parameters (rows_agree terms h)
       where
         go : (ps : List Sort) → rows_of v s terms ≡ rows_of w s terms → table_by v s ps terms ≡ table_by w s ps terms
-        go [] e = ap (λ (rs : List Row). let x : Table = record { rows = []; default = first_fit rs (default_value s.result) [] } in x) e
-        go (p ∷ ps) e = ap (λ (rs : List Row). let x : Table = record { rows = rs; default = default_value s.result } in x) e
+        go [] e = ap (λ (rs : List TableRow). let x : Table = record { rows = []; default = first_fit rs (default_value s.result) [] } in x) e
+        go (p ∷ ps) e = ap (λ (rs : List TableRow). let x : Table = record { rows = rs; default = default_value s.result } in x) e
 
 -- a listed term has the number that its function gives it
 number_listed : (number : Term → Fraction) (ts : List Term) (u : Term) → Contains ts u → number_in ts (map number ts) u ≡ number u
@@ -86,7 +86,7 @@ module _ (terms : List Term) (truths : Term → Bool) (class : Term → ℕ) (nu
 
 -- so a model with the first has the tables of the second
 pub models_by_numbers : (t : TableView) (held : List Lit) (terms : List TermId) (classes : List ℕ) (number : Term → Fraction) (interp : Interp) → TakeNumbersOf number (clause_at t terms)
-    → IsModelOf t held terms classes (map number (clause_at t terms)) interp → (i : Interpretation) → Stands t interp i
+    → IsModelOf t held terms classes (map number (clause_at t terms)) interp → (i : Interpretation) → HasSymbolTables t interp i
     → IsModelBy i (value_by (term_true_by (truths_of t held)) (number_at number) (class_in (clause_at t terms) classes)) t.symbols (clause_at t terms)
 models_by_numbers t held terms classes number interp taken model i stands s c =
     let listed = clause_at t terms in

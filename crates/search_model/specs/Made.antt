@@ -2,7 +2,7 @@
 use Rattle.std.specs.Prelude.{◌≡◌, ◌≢◌, ◌<◌, ◌++◌, ◌∷◌, ℕ, false, List, [], length, get_or, map, slice_set, All, Option, Some, None}
 use Rattle.spec_text.specs.Bytes.{Name}
 use Rattle.spec_sorts.specs.Terms.{Term, Symbol}
-use Rattle.spec_sorts.specs.Values.{Value, Row, Table}
+use Rattle.spec_sorts.specs.Values.{Value, TableRow, Table}
 use Rattle.spec_sorts.specs.Subsets.{AreAmong, IsClosed}
 use Rattle.spec_valuations.specs.Tables.{Valuation, default_value, table_of}
 use Rattle.term_core.specs.declared.ids.TermId.{TermId}
@@ -47,7 +47,7 @@ abbrev pub meant : List Name → List CodeTable → List Table
 meant sorts tables = map (table_meant sorts) tables
 
 -- the table with a row more
-abbrev pub with_row : Table → Row → Table
+abbrev pub with_row : Table → TableRow → Table
 with_row x r = record { rows = x.rows ++ r ∷ []; default = x.default }
 
 -- the table with another default
@@ -55,7 +55,7 @@ abbrev pub with_default : Table → Value → Table
 with_default x d = record { rows = x.rows; default = d }
 
 -- the tables with a row more in one of them
-abbrev pub row_put : List Table → ℕ → Row → List Table
+abbrev pub row_put : List Table → ℕ → TableRow → List Table
 row_put tables k r = slice_set tables k (with_row (get_or tables k no_table) r)
 
 -- the tables with another default in one of them

@@ -14,7 +14,7 @@ use Rattle.term_core.specs.declared.ids.Lit.{Lit}
 use Rattle.term_core.specs.Symbols.{no_symbol}
 use Rattle.term_core.specs.Tables.{TableView, term_at, clause_at}
 use Rattle.term_walks.specs.declared.values.Interp.{Interp}
-use Rattle.term_walks.specs.Valuations.{no_table, tables_meant, Stands, IsTableNamed}
+use Rattle.term_walks.specs.Valuations.{no_table, tables_meant, HasSymbolTables, IsTableNamed}
 
 -- the literal is the term as it stands
 abbrev pub affirms : TableView → Lit → Term → Bool
@@ -47,8 +47,8 @@ abbrev pub no_id : TermId
 no_id = record { 0 = 0 }
 
 -- a later number is greater
-abbrev pub AreRising : List TermId → Type 0
-AreRising ids = (i j : ℕ) → i < j → j < length ids → (get_or ids i no_id).0 < (get_or ids j no_id).0
+abbrev pub AreIncreasing : List TermId → Type 0
+AreIncreasing ids = (i j : ℕ) → i < j → j < length ids → (get_or ids i no_id).0 < (get_or ids j no_id).0
 
 -- Each symbol has a row for each listed term with it as head, and for all other arguments false, 0 or the first element. A constant that is listed has its value alone.
 pub record IsModelOf (t : TableView) (held : List Lit) (terms : List TermId) (classes : List ℕ) (numbers : List Fraction) (interp : Interp) : Type 0 where
@@ -66,8 +66,8 @@ pub record IsModel (t : TableView) (terms : List Term) (interp : Interp) : Type 
   -- elements are of sorts of the table
   pub named : All (IsTableNamed t.sorts) interp.tables.items
   -- an interpretation has these tables
-  pub interpretation : (i : Interpretation) × Stands t interp i
+  pub interpretation : (i : Interpretation) × HasSymbolTables t interp i
   -- each that has them gives each symbol a table of its own sorts
-  pub interprets : (i : Interpretation) → Stands t interp i → Interprets i t.symbols
+  pub interprets : (i : Interpretation) → HasSymbolTables t interp i → Interprets i t.symbols
   -- and the terms are true under it
-  pub holds : (i : Interpretation) → Stands t interp i → All (λ u. value_at i [] u ≡ truth true) terms
+  pub holds : (i : Interpretation) → HasSymbolTables t interp i → All (λ u. value_at i [] u ≡ truth true) terms

@@ -13,7 +13,7 @@ ghost use Rattle.term_core.specs.NameLists.{HaveNoTwice};
 ghost use Rattle.term_core.specs.Symbols.{names_of};
 ghost use Rattle.term_core.specs.Tables.{TableView, clause_at};
 ghost use Rattle.term_walks.specs.declared.values.Interp.{Interp};
-ghost use Rattle.term_walks.specs.Valuations.{Stands};
+ghost use Rattle.term_walks.specs.Valuations.{HasSymbolTables};
 ghost use Rattle.search_model.specs.Models.{truths_of, values_of, TakeNumbersOf, IsModelOf};
 
 /// States that the tables of a search's model are those of an interpretation, where no name of a symbol stands twice.
@@ -21,10 +21,10 @@ ghost use Rattle.search_model.specs.Models.{truths_of, values_of, TakeNumbersOf,
 pub fn made_models_stand()
     ensures stands { (t : TableView) (held : List Lit) (terms : List TermId) (classes : List ℕ)
         (numbers : List Fraction) (interp : Interp) → HaveNoTwice (names_of t.symbols)
-        → IsModelOf t held terms classes numbers interp → (i : Interpretation) × Stands t interp i }
+        → IsModelOf t held terms classes numbers interp → (i : Interpretation) × HasSymbolTables t interp i }
     ensures models { (t : TableView) (held : List Lit) (terms : List TermId) (classes : List ℕ)
         (numbers : List Fraction) (interp : Interp) → IsModelOf t held terms classes numbers interp
-        → (i : Interpretation) → Stands t interp i
+        → (i : Interpretation) → HasSymbolTables t interp i
         → IsModelBy i (values_of t held terms classes numbers) t.symbols (clause_at t terms) }
 {}
 
@@ -34,7 +34,7 @@ pub fn made_models_are_those_of_numbers()
     ensures { (t : TableView) (held : List Lit) (terms : List TermId) (classes : List ℕ) (number : Term → Fraction)
         (interp : Interp) → TakeNumbersOf number (clause_at t terms)
         → IsModelOf t held terms classes (map number (clause_at t terms)) interp
-        → (i : Interpretation) → Stands t interp i
+        → (i : Interpretation) → HasSymbolTables t interp i
         → IsModelBy i (values_at_rest (record {
           truths = truths_of t held;
           class = class_in (clause_at t terms) classes;

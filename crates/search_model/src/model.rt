@@ -4,8 +4,8 @@ ghost use Rattle.std.specs.Prelude.{◌≡◌, ◌<◌, length, map, All, IfOk};
 ghost use Rattle.spec_sorts.specs.Subsets.{IsClosed};
 ghost use Rattle.ratio128.specs.Meant.{fraction};
 ghost use Rattle.term_core.specs.Tables.{AreIn, clause_at};
-ghost use Rattle.clause_literals.specs.Literals.{AreOf};
-ghost use Rattle.search_model.specs.Models.{AreRising, IsModelOf};
+ghost use Rattle.clause_literals.specs.Literals.{AreLiteralsIn};
+ghost use Rattle.search_model.specs.Models.{AreIncreasing, IsModelOf};
 
 use crate::rows::{blank_tables, note};
 use crate::values::listed_values;
@@ -38,12 +38,12 @@ pub fn model_of(
     trail: &SatTrail,
 ) -> Result<Interp, NoMemory>
     requires terms { AreIn table.now terms.now }
-    requires rising { AreRising terms.now }
+    requires rising { AreIncreasing terms.now }
     requires closed { IsClosed (clause_at table.now terms.now) }
     requires classes { length classes.now ≡ length terms.now }
     requires numbers { length numbers.now ≡ length terms.now }
     requires known { All (λ id. id.0 < trail.now.vars) terms.now }
-    requires literals { AreOf table.now trail.now.literals }
+    requires literals { AreLiteralsIn table.now trail.now.literals }
     ensures { IfOk result (λ interp. IsModelOf table.now trail.now.literals terms.now classes.now
         (map fraction numbers.now) interp) }
 {

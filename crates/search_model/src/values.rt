@@ -7,9 +7,9 @@ ghost use Rattle.spec_rules.specs.Truths.{term_true_by};
 ghost use Rattle.spec_valuations.specs.Classes.{value_in};
 ghost use Rattle.ratio128.specs.Meant.{fraction};
 ghost use Rattle.term_core.specs.Tables.{term_at, IsIn, AreIn, clause_at};
-ghost use Rattle.clause_literals.specs.Literals.{AreOf};
+ghost use Rattle.clause_literals.specs.Literals.{AreLiteralsIn};
 ghost use Rattle.term_walks.specs.Valuations.{value_meant, IsNamed};
-ghost use Rattle.search_model.specs.Models.{truths_of, values_of, AreRising};
+ghost use Rattle.search_model.specs.Models.{truths_of, values_of, AreIncreasing};
 ghost use Rattle.search_model.specs.Made.{value_at_id, HasValues};
 
 use ratio128::Ratio;
@@ -23,7 +23,7 @@ use world_io::NoMemory;
 fn truth_of(table: &TermTable, id: TermId, trail: &SatTrail) -> bool
     requires there { IsIn table.now id }
     requires known { id.0 < trail.now.vars }
-    requires literals { AreOf table.now trail.now.literals }
+    requires literals { AreLiteralsIn table.now trail.now.literals }
     ensures { result ≡ term_true_by (truths_of table.now trail.now.literals) (term_at table.now id) }
 {
     table.ids_are_unique();
@@ -37,7 +37,7 @@ fn truth_of(table: &TermTable, id: TermId, trail: &SatTrail) -> bool
 fn value_of(table: &TermTable, id: TermId, class: u64, number: Ratio, trail: &SatTrail) -> Value
     requires there { IsIn table.now id }
     requires known { id.0 < trail.now.vars }
-    requires literals { AreOf table.now trail.now.literals }
+    requires literals { AreLiteralsIn table.now trail.now.literals }
     ensures means { value_meant table.now.sorts result ≡ value_in (sort_of (term_at table.now id))
         (term_true_by (truths_of table.now trail.now.literals) (term_at table.now id)) (fraction number) class }
     ensures named { IsNamed table.now.sorts result }
@@ -52,7 +52,7 @@ fn value_of(table: &TermTable, id: TermId, class: u64, number: Ratio, trail: &Sa
 /// Gives a number above those of all listed terms: one more than the last has, which is a number of the table.
 fn above(table: &TermTable, terms: &[TermId]) -> usize
     requires terms { AreIn table.now terms.now }
-    requires rising { AreRising terms.now }
+    requires rising { AreIncreasing terms.now }
     ensures { All (λ id. id.0 < result) terms.now }
 {
     // no number of a term is the greatest of all
@@ -73,12 +73,12 @@ pub(crate) fn listed_values(
     trail: &SatTrail,
 ) -> Result<Vec<Value>, NoMemory>
     requires terms { AreIn table.now terms.now }
-    requires rising { AreRising terms.now }
+    requires rising { AreIncreasing terms.now }
     requires closed { IsClosed (clause_at table.now terms.now) }
     requires classes { length classes.now ≡ length terms.now }
     requires numbers { length numbers.now ≡ length terms.now }
     requires known { All (λ id. id.0 < trail.now.vars) terms.now }
-    requires literals { AreOf table.now trail.now.literals }
+    requires literals { AreLiteralsIn table.now trail.now.literals }
     ensures { IfOk result (λ values. HasValues table.now
         (values_of table.now trail.now.literals terms.now classes.now (map fraction numbers.now)) terms.now
         values.items) }

@@ -33,10 +33,10 @@ use Rattle.simplex_atoms.specs.Limits.{Limit, limit_of, limit_on, limits_where, 
 use Rattle.simplex_atoms.specs.Limits as limits
 use Rattle.simplex_atoms.specs.Standings.{owner_meant}
 use Rattle.simplex_atoms.proofs.Numbered.{owner_mapped}
-use Rattle.simplex_reasons.specs.Stops.{IsStated}
+use Rattle.simplex_reasons.specs.Stops.{IsStatedBound}
 use Rattle.simplex_reasons.proofs.Pieces.{with_relation, reads}
 use Rattle.simplex_held.proofs.Stating.{bounds_stated, literals_held as held_literal}
-use Rattle.simplex.specs.Views.{SimplexView, Fits, IsOf}
+use Rattle.simplex.specs.Views.{SimplexView, SimplexFits, IsOf}
 use Rattle.simplex.specs.Coming.{standing_of}
 
 -- values of the terms of owners are values of the owners
@@ -138,11 +138,11 @@ module _ (t : TableView) (v : SimplexView) (is : IsOf v t) where
         says.1,
       )
 
-  module _ (fits : Fits v) where
+  module _ (fits : SimplexFits v) where
     states_bound : (b : Bound) → Contains v.bounds.held b → (place : Place) → place_in v.atoms.placed b.literal.term ≡ Some place
         → States b.literal place b.variable (side_in b.side) (pair_of b.value)
     states_bound b c place there =
-        let stated = All-contains (IsStated v.atoms.placed) v.bounds.held b (bounds_stated v.atoms.placed v.theory.held v.bounds.held fits.bounds_are) c in
+        let stated = All-contains (IsStatedBound v.atoms.placed) v.bounds.held b (bounds_stated v.atoms.placed v.theory.held v.bounds.held fits.bounds_are) c in
         let same : stated.place ≡ place = same_Some stated.place place (sym stated.there ∙ there) in
         states_limit b.literal place there (limit_of b) (subst (λ p. Contains (limits_by p b.literal) (limit_of b)) same stated.states)
 
@@ -169,7 +169,7 @@ module _ (t : TableView) (v : SimplexView) (is : IsOf v t) where
         by None f g = absurd (cc)
         by (Some x) f g =
             let h = strongest_is_held side y v.bounds.held x f in
-            let stated = All-contains (IsStated v.atoms.placed) v.bounds.held x (bounds_stated v.atoms.placed v.theory.held v.bounds.held fits.bounds_are) h.0 in (
+            let stated = All-contains (IsStatedBound v.atoms.placed) v.bounds.held x (bounds_stated v.atoms.placed v.theory.held v.bounds.held fits.bounds_are) h.0 in (
               literal_at t x.literal,
               strongest_by_held side y x f,
               subst (IsBound s (literal_at t x.literal) y (side_in side)) (same_Some (pair_of x.value) b g) (states_strongest side y x f stated.place stated.there).0,

@@ -27,12 +27,12 @@ use Rattle.sat_budget.specs.Budgets.{BudgetView}
 use Rattle.sat_budget.specs.declared.limits.Stop.{Stop}
 use Rattle.sat_budget.specs.declared.limits.Stop.TheVariants.{Strained, Pivots}
 use Rattle.sat_budget.specs.declared.limits.Stop.TheVariants as stops
-use Rattle.proof_log.specs.Theories.{TheoryView, with_watched, with_held, with_mark, gone_back, IsTermIn, IsOver, terms_watched, CameTo}
+use Rattle.proof_log.specs.Theories.{TheoryView, with_watched, with_held, with_mark, gone_back, IsTermIn, IsTheoryOver, terms_watched, CameTo}
 use Rattle.simplex_bounds.specs.declared.bounds.Bound.{Bound}
 use Rattle.simplex_bounds.specs.Held.{BoundsView, ranges_in}
 use Rattle.simplex_bounds.proofs.Fewer.{fewer_kept}
 use Rattle.simplex_check.specs.Boards.{BoardView, state_of}
-use Rattle.simplex_check.specs.Ends.{Ends}
+use Rattle.simplex_check.specs.Ends.{EndsCheck}
 use Rattle.simplex_check.specs.declared.check.Outcome.{Outcome}
 use Rattle.simplex_check.specs.declared.check.Outcome.TheVariants.{Fine, Crossed, Conflict}
 use Rattle.simplex_atoms.specs.declared.place.Place.{Place}
@@ -43,8 +43,8 @@ use Rattle.simplex_atoms.specs.Watching.{IsWatched}
 use Rattle.simplex_held.specs.Stated.{IsKnownIn}
 use Rattle.simplex_held.proofs.Stating.{all_from}
 use Rattle.simplex_held.proofs.Standings.{standing_kept, among_kept, atoms_kept}
-use Rattle.held_literals.specs.Room.{AreOver}
-use Rattle.simplex.specs.Views.{SimplexView, Fits, IsOf}
+use Rattle.held_literals.specs.Room.{AreOverWatched}
+use Rattle.simplex.specs.Views.{SimplexView, SimplexFits, IsOf}
 use Rattle.simplex.specs.Checks.{Suits, KeepsBounds}
 use Rattle.simplex.specs.Coming.{standing_of, AreFew, CameBy, StoppedBy}
 use Rattle.simplex.proofs.Bounding.{are_bounds}
@@ -213,20 +213,20 @@ module _ (t : TableView) (ts : List Term) where
       came_same n es old new came a b (ap (λ (v : BoundsView). v.held) bounds) (ap (λ (v : TheoryView). v.watched) m) (ap (λ (v : TheoryView). v.held) m)
 
   -- held literals are of watched terms
-  pub atoms_among : (v : TheoryView) → AreOver v.held v.watched → AreAmong (terms_watched t v) ts → AtomsOf v.held
+  pub atoms_among : (v : TheoryView) → AreOverWatched v.held v.watched → AreAmong (terms_watched t v) ts → AtomsOf v.held
   atoms_among v over among = all_from (λ (l : Lit). Contains ts (term_at t l.term)) v.held (λ l has.
       among (term_at t l.term) (to_image (term_at t) v.watched l.term (All-contains (λ (l : Lit). Contains v.watched l.term) v.held l over has)))
 
 -- held literals are of watched terms
-pub watched_atoms : (t : TableView) (v : SimplexView) → AreOver v.theory.held v.theory.watched → All (λ (l : Lit). Contains (terms_watched t v.theory) (term_at t l.term)) v.theory.held
+pub watched_atoms : (t : TableView) (v : SimplexView) → AreOverWatched v.theory.held v.theory.watched → All (λ (l : Lit). Contains (terms_watched t v.theory) (term_at t l.term)) v.theory.held
 watched_atoms t v over = atoms_among t (terms_watched t v.theory) v.theory over (λ u has. has)
 
 -- the bounds that are held are of watched terms
-pub watched_bounds : (t : TableView) (v : SimplexView) → IsOf v t → Fits v → AreOver v.theory.held v.theory.watched → AreBounds (terms_watched t v.theory) (standing_of t v) (ranges_in v.bounds.held)
+pub watched_bounds : (t : TableView) (v : SimplexView) → IsOf v t → SimplexFits v → AreOverWatched v.theory.held v.theory.watched → AreBounds (terms_watched t v.theory) (standing_of t v) (ranges_in v.bounds.held)
 watched_bounds t v is fits over = are_bounds t v is fits (terms_watched t v.theory) (watched_atoms t v over)
 
 -- what goes with a table where terms are watched
-pub suits_over : (t : TableView) (v : SimplexView) → IsOf v t → IsOver t v.theory → AreOver v.theory.held v.theory.watched → Suits v t
+pub suits_over : (t : TableView) (v : SimplexView) → IsOf v t → IsTheoryOver t v.theory → AreOverWatched v.theory.held v.theory.watched → Suits v t
 suits_over t v is over held =
     let there = All-weaker (IsTermIn t) (IsIn t) (λ id k. k.0) v.theory.watched over.terms in
     record {
@@ -236,7 +236,7 @@ suits_over t v is over held =
     }
 
 -- parts that fit do so with another board
-pub fits_on : (v : SimplexView) (c : BoardView) → Fits v → Fits (record { theory = v.theory; atoms = v.atoms; board = c; bounds = v.bounds; starts = v.starts })
+pub fits_on : (v : SimplexView) (c : BoardView) → SimplexFits v → SimplexFits (record { theory = v.theory; atoms = v.atoms; board = c; bounds = v.bounds; starts = v.starts })
 fits_on v c f = record { bounds_are = f.bounds_are; starts_are = f.starts_are; room = f.room; reached = f.reached }
 
 -- What a check comes to over terms, by no more runs than n.
@@ -247,7 +247,7 @@ record Onward (ts : List Term) (n : ℕ) (es : List (ℕ × ℕ)) (s : Standing)
 
 -- a check runs
 
-module _ (t : TableView) (ts : List Term) (v : SimplexView) (c : BoardView) (is : IsOf v t) (fits : Fits v) (solved : IsSolved numbers v.board.tableau.rows)
+module _ (t : TableView) (ts : List Term) (v : SimplexView) (c : BoardView) (is : IsOf v t) (fits : SimplexFits v) (solved : IsSolved numbers v.board.tableau.rows)
     (listed : c.tableau.listed ≡ v.board.tableau.listed) (lengths : length c.values ≡ length v.board.values) where
   abbrev after : SimplexView
   after = record { theory = v.theory; atoms = v.atoms; board = c; bounds = v.bounds; starts = v.starts }
@@ -310,7 +310,7 @@ module _ (t : TableView) (ts : List Term) (v : SimplexView) (c : BoardView) (is 
 
   module _ (n : ℕ) (old new : BudgetView) (came : CameBy t ts n old.exchanges v) where
     -- it comes where a check ends
-    onward : (o : Outcome) → Ends ranges v.board c old new (Ok o) → Onward ts n new.exchanges (standing_of t after)
+    onward : (o : Outcome) → EndsCheck ranges v.board c old new (Ok o) → Onward ts n new.exchanges (standing_of t after)
     onward Fine e = ran_on n old.exchanges came new.exchanges e.0
     onward (Conflict y) e = ran_on n old.exchanges came new.exchanges e.0
     onward (Crossed y) e = record {
@@ -321,23 +321,23 @@ module _ (t : TableView) (ts : List Term) (v : SimplexView) (c : BoardView) (is 
     }
 
     -- with bounds that are kept then, the next check needs none
-    pub came_fine : (o : Outcome) → Ends ranges v.board c old new (Ok o) → KeepsBounds after → CameBy t ts n new.exchanges after
+    pub came_fine : (o : Outcome) → EndsCheck ranges v.board c old new (Ok o) → KeepsBounds after → CameBy t ts n new.exchanges after
     came_fine o e keeps =
         let on = onward o e in
         record { watched = came.watched; held = came.held; runs = on.runs; reached = on.reached; few = inl (keeps, on.few) }
 
     -- and else it may need one
-    pub came_found : (o : Outcome) → Ends ranges v.board c old new (Ok o) → CameBy t ts (suc n) new.exchanges after
+    pub came_found : (o : Outcome) → EndsCheck ranges v.board c old new (Ok o) → CameBy t ts (suc n) new.exchanges after
     came_found o e = onward_came n old.exchanges came new.exchanges (onward o e)
 
     -- it may be stopped after the check
-    pub stopped_found : (o : Outcome) → Ends ranges v.board c old new (Ok o) → StoppedBy t ts n new.exchanges after
+    pub stopped_found : (o : Outcome) → EndsCheck ranges v.board c old new (Ok o) → StoppedBy t ts n new.exchanges after
     stopped_found o e =
         let on = onward o e in
         record { runs = on.runs; stopped = reached.between on.runs new.exchanges (standing_of t after) on.reached; few = on.few }
 
     -- or in it
-    pub came_stopped : {A : Type 0} (stop : Stop) (P : A → Type 0) → Ends ranges v.board c old new (Err stop)
+    pub came_stopped : {A : Type 0} (stop : Stop) (P : A → Type 0) → EndsCheck ranges v.board c old new (Err stop)
         → (let r : Result A Stop = Err stop in CameTo r P (StoppedBy t ts n new.exchanges after) (CameBy t ts (suc n) new.exchanges after))
     came_stopped (Pivots k) P e = onward_came n old.exchanges came new.exchanges (ran_on n old.exchanges came new.exchanges e.0)
     came_stopped (Strained s) P e = stopped_on n old.exchanges came new.exchanges e.0

@@ -7,19 +7,19 @@ use Rattle.term_core.specs.declared.ids.TermId.{TermId}
 use Rattle.term_core.specs.declared.ids.Lit.{Lit}
 use Rattle.term_core.specs.Tables.{TableView}
 use Rattle.proof_log.specs.Theories.{TheoryView, Mark, no_mark, mark_now, with_held, with_mark, at_mark, gone_back}
-use Rattle.held_literals.specs.Room.{AreMarks, IsHeldOver, without_mark}
+use Rattle.held_literals.specs.Room.{AreHeldMarks, IsHeldOver, without_mark}
 use Rattle.simplex_bounds.specs.Held.{BoundsView}
 use Rattle.simplex_check.specs.Boards.{BoardView}
 use Rattle.simplex_atoms.specs.declared.place.Place.{Place}
 use Rattle.simplex_atoms.specs.Limits.{Limit, limit_of}
-use Rattle.simplex_atoms.specs.Atoms.{AtomsView, AreRight}
+use Rattle.simplex_atoms.specs.Atoms.{AtomsView, AtomsFit}
 use Rattle.simplex.specs.declared.starts.Start.{Start}
 use Rattle.simplex_held.specs.Stated.{stated_by, all_stated, IsKnownIn}
-use Rattle.simplex.specs.Views.{SimplexView, Fits, IsOf, start_of, placed_count}
+use Rattle.simplex.specs.Views.{SimplexView, SimplexFits, IsOf, start_of, placed_count}
 use Rattle.simplex.proofs.Stated.{stated_more, stated_first, first_states_less, count_first, stated_bounded}
 
 -- what is right with bounds is so with those of as many variables
-pub right_with : (t : TableView) (a : AtomsView) (b : BoardView) (x y : BoundsView) → x.variables ≡ y.variables → AreRight t a b x → AreRight t a b y
+pub right_with : (t : TableView) (a : AtomsView) (b : BoardView) (x y : BoundsView) → x.variables ≡ y.variables → AtomsFit t a b x → AtomsFit t a b y
 right_with t a b x y e r = record {
   counted = r.counted;
   within = omega (arith, e, r.within);
@@ -48,7 +48,7 @@ abbrev start_from : List (ℕ × Place) → List Lit → List TermId → Start
 start_from p held watched = record { bounds = length (all_stated p held); placed = placed_count p watched }
 
 -- as many bounds are held as are stated
-pub bounds_counted : (v : SimplexView) → Fits v → length v.bounds.held ≡ length (all_stated v.atoms.placed v.theory.held)
+pub bounds_counted : (v : SimplexView) → SimplexFits v → length v.bounds.held ≡ length (all_stated v.atoms.placed v.theory.held)
 bounds_counted v f = sym (length-map v.bounds.held limit_of) ∙ ap (λ (l : List Limit). length l) f.bounds_are
 
 -- what is to be known of bounds to which those came that a literal states
@@ -57,11 +57,11 @@ pub record HoldsStated (old new : BoundsView) (stated : List Limit) : Type 0 whe
   pub variables : new.variables ≡ old.variables
   pub room : new.room + length stated ≡ old.room
 
-module _ (v : SimplexView) (f : Fits v) where
+module _ (v : SimplexView) (f : SimplexFits v) where
   abbrev marked : Start → SimplexView
   marked s = record { theory = with_mark v.theory; atoms = v.atoms; board = v.board; bounds = v.bounds; starts = v.starts ++ s ∷ [] }
 
-  pub fits_marked : (s : Start) → s.bounds ≡ length v.bounds.held → s.placed ≡ placed_count v.atoms.placed v.theory.watched → Fits (marked s)
+  pub fits_marked : (s : Start) → s.bounds ≡ length v.bounds.held → s.placed ≡ placed_count v.atoms.placed v.theory.watched → SimplexFits (marked s)
   fits_marked s b c = record {
     bounds_are = f.bounds_are;
     starts_are =
@@ -78,7 +78,7 @@ module _ (v : SimplexView) (f : Fits v) where
   abbrev unmarked : SimplexView
   unmarked = record { theory = without_mark v.theory; atoms = v.atoms; board = v.board; bounds = v.bounds; starts = take (length v.theory.marks - 1) v.starts }
 
-  pub fits_unmarked : Fits unmarked
+  pub fits_unmarked : SimplexFits unmarked
   fits_unmarked = record {
     bounds_are = f.bounds_are;
     starts_are =
@@ -89,7 +89,7 @@ module _ (v : SimplexView) (f : Fits v) where
     reached = f.reached;
   }
 
-module _ (v : SimplexView) (f : Fits v) (m : AreMarks v.theory.held v.theory.watched v.theory.marks) where
+module _ (v : SimplexView) (f : SimplexFits v) (m : AreHeldMarks v.theory.held v.theory.watched v.theory.marks) where
   abbrev p : List (ℕ × Place)
   p = v.atoms.placed
 
@@ -107,7 +107,7 @@ module _ (v : SimplexView) (f : Fits v) (m : AreMarks v.theory.held v.theory.wat
   abbrev holding : Lit → BoundsView → SimplexView
   holding l bounds = record { theory = with_held v.theory l; atoms = v.atoms; board = v.board; bounds = bounds; starts = v.starts }
 
-  pub fits_held : (l : Lit) (bounds : BoundsView) → HoldsStated v.bounds bounds (stated_by p l) → Fits (holding l bounds)
+  pub fits_held : (l : Lit) (bounds : BoundsView) → HoldsStated v.bounds bounds (stated_by p l) → SimplexFits (holding l bounds)
   fits_held l bounds h = record {
     bounds_are = h.held ∙ ap (λ (bs : List Limit). bs ++ stated_by p l) f.bounds_are ∙ sym (stated_more p v.theory.held l);
     starts_are = f.starts_are ∙ each_mark (start_of p v.theory) (start_of p (with_held v.theory l)) v.theory.marks
@@ -157,7 +157,7 @@ module _ (v : SimplexView) (f : Fits v) (m : AreMarks v.theory.held v.theory.wat
         sym (λ i. start_from p (take-take old.held back.held v.theory.held held i) (take-take old.watched back.watched v.theory.watched watched i))
 
     pub fits_back : (bounds : BoundsView) → bounds.held ≡ take (start_of p v.theory back).bounds v.bounds.held → bounds.variables ≡ v.bounds.variables
-        → bounds.room + length bounds.held ≡ v.bounds.room + length v.bounds.held → Fits (gone bounds)
+        → bounds.room + length bounds.held ≡ v.bounds.room + length v.bounds.held → SimplexFits (gone bounds)
     fits_back bounds held variables room = record {
       bounds_are = ap (map limit_of) held ∙ sym (take-map limit_of (start_of p v.theory back).bounds v.bounds.held)
           ∙ ap (take (start_of p v.theory back).bounds) f.bounds_are ∙ stated_first p back.held v.theory.held;
@@ -171,8 +171,8 @@ module _ (v : SimplexView) (f : Fits v) (m : AreMarks v.theory.held v.theory.wat
 pub of_fewer : (t : TableView) (v w : SimplexView) → w.atoms ≡ v.atoms → w.board ≡ v.board → w.bounds.variables ≡ v.bounds.variables
     → (n : ℕ) → w.theory.watched ≡ take n v.theory.watched → IsOf v t → IsOf w t
 of_fewer t v w a b e n is o = record {
-  right = subst (λ (x : AtomsView). AreRight t x w.board w.bounds) (sym a)
-      (subst (λ (x : BoardView). AreRight t v.atoms x w.bounds) (sym b) (right_with t v.atoms v.board v.bounds w.bounds (sym e) o.right));
+  right = subst (λ (x : AtomsView). AtomsFit t x w.board w.bounds) (sym a)
+      (subst (λ (x : BoardView). AtomsFit t v.atoms x w.bounds) (sym b) (right_with t v.atoms v.board v.bounds w.bounds (sym e) o.right));
   known = subst (λ (x : AtomsView). All (IsKnownIn t x.placed) w.theory.watched) (sym a)
       (subst (All (IsKnownIn t v.atoms.placed)) (sym is) (All-take (IsKnownIn t v.atoms.placed) n v.theory.watched o.known));
 }
@@ -190,7 +190,7 @@ pub gone_is : (v : TheoryView) (n kept : ℕ) → 0 < n → kept ≡ length v.ma
 gone_is v zero kept lt e = absurd (omega (arith, lt))
 gone_is v (suc n) kept lt e = ap (at_mark v) (sym e)
 
-pub as_many : (v : SimplexView) → Fits v → length v.starts ≡ length v.theory.marks
+pub as_many : (v : SimplexView) → SimplexFits v → length v.starts ≡ length v.theory.marks
 as_many v f = ap (λ (ss : List Start). length ss) f.starts_are ∙ length-map v.theory.marks (start_of v.atoms.placed v.theory)
 
 pub no_place : (o p : Option Place) → o ≡ p → ((x : Place) → o ≡ Some x → ⊥) → p ≡ None

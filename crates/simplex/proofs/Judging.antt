@@ -17,22 +17,22 @@ use Rattle.sat_budget.specs.declared.limits.Strain.{Strain}
 use Rattle.sat_budget.specs.declared.limits.Stop.{Stop}
 use Rattle.sat_budget.specs.declared.limits.Stop.TheVariants.{Strained, Pivots}
 use Rattle.sat_budget.specs.declared.limits.Stop.TheVariants as stops
-use Rattle.proof_log.specs.Theories.{IsOver, terms_watched, literals_held, Derives}
+use Rattle.proof_log.specs.Theories.{IsTheoryOver, terms_watched, literals_held, DerivesLemmas}
 use Rattle.proof_log.specs.Logs.{Logged, inference_of, IsLogOf}
 use Rattle.proof_log.specs.declared.theory.Verdict.{Verdict}
 use Rattle.proof_log.specs.declared.theory.Verdict.TheVariants as verdicts
 use Rattle.proof_log.specs.declared.premises.StepId.{StepId}
-use Rattle.held_literals.specs.Room.{AreOver}
+use Rattle.held_literals.specs.Room.{AreOverWatched}
 use Rattle.tableau.specs.Views.{IsTableau}
 use Rattle.simplex_bounds.specs.Held.{ranges_in}
 use Rattle.simplex_check.specs.Boards.{BoardView, state_of, IsBasisOf}
 use Rattle.spec_strains.specs.Points.{Ranges, BoardState}
-use Rattle.simplex_check.specs.Ends.{Ends}
+use Rattle.simplex_check.specs.Ends.{EndsCheck}
 use Rattle.spec_strains.specs.Runs.{Stopped, settling, exchanging}
 use Rattle.simplex_check.specs.declared.check.Outcome.{Outcome}
 use Rattle.simplex_check.specs.declared.check.Outcome.TheVariants.{Fine, Crossed, Conflict}
 use Rattle.simplex_explain.specs.declared.weighted.Weighted.{Weighted}
-use Rattle.simplex_explain.specs.Reasons.{AreReasons, AreHeld, Refutes}
+use Rattle.simplex_explain.specs.Reasons.{AreAtomReasons, AreHeld, Refutes}
 use Rattle.simplex_reasons.specs.Reasons.{AreOfHeld}
 use Rattle.simplex_reasons.proofs.Holding.{ran_settled}
 use Rattle.simplex_held.specs.Stated.{AreBoundsOf, IsKnownIn}
@@ -44,14 +44,14 @@ use Rattle.simplex_held.proofs.Boards.{fit}
 use Rattle.simplex_atoms.specs.Places.{place_in}
 use Rattle.simplex_atoms.specs.Watching.{IsWatched}
 use Rattle.simplex_atoms.proofs.Fitting.{right_after}
-use Rattle.simplex.specs.Views.{SimplexView, Fits, IsOf}
+use Rattle.simplex.specs.Views.{SimplexView, SimplexFits, IsOf}
 use Rattle.simplex_explain.specs.Steps.{derived}
 use Rattle.term_core.proofs.TermsExtend.{Extends-self, term_at-kept}
-use Rattle.simplex.specs.Checks.{KeepsBounds, Found, Answers}
+use Rattle.simplex.specs.Checks.{KeepsBounds, Found, AnswersOutcome}
 use Rattle.simplex.specs.Coming.{standing_of, IsStrainAt}
 
 -- what a check says that something is wrong with is so
-pub found : (v : SimplexView) (b : BoardView) (old new : BudgetView) (o : Outcome) → (o ≡ Fine → ⊥) → Ends (ranges_in v.bounds.held) b v.board old new (Ok o) → Found v o
+pub found : (v : SimplexView) (b : BoardView) (old new : BudgetView) (o : Outcome) → (o ≡ Fine → ⊥) → EndsCheck (ranges_in v.bounds.held) b v.board old new (Ok o) → Found v o
 found v b old new Fine n e = absurd (n refl)
 found v b old new (Crossed y) n e = e.2
 found v b old new (Conflict y) n e = (ran_settled (ranges_in v.bounds.held) (state_of b) (state_of v.board) old.exchanges new.exchanges e.1.0 e.0, e.1)
@@ -61,7 +61,7 @@ stopped_more ranges t u old new (settling n s e) = ([], e ∙ sym (append-nil ol
 stopped_more ranges t u old new (exchanging r) = (r.ran.made ++ r.last ∷ [], r.kept ∙ ap (λ es. es ++ r.last ∷ []) r.ran.kept ∙ append_assoc old r.ran.made (r.last ∷ []))
 
 -- a check keeps exchanges after those that there were
-pub spent : (ranges : Ranges) (b c : BoardView) (old new : BudgetView) (r : Result Outcome Stop) → Ends ranges b c old new r → (more : List (ℕ × ℕ)) × (new.exchanges ≡ old.exchanges ++ more)
+pub spent : (ranges : Ranges) (b c : BoardView) (old new : BudgetView) (r : Result Outcome Stop) → EndsCheck ranges b c old new r → (more : List (ℕ × ℕ)) × (new.exchanges ≡ old.exchanges ++ more)
 spent ranges b c old new (Ok Fine) e = (e.0.made, e.0.kept)
 spent ranges b c old new (Ok (Crossed y)) e = ([], ap (λ (x : BudgetView). x.exchanges) e.1 ∙ sym (append-nil old.exchanges))
 spent ranges b c old new (Ok (Conflict y)) e = (e.0.made, e.0.kept)
@@ -72,7 +72,7 @@ spent ranges b c old new (Err stops.Memory) (inr s) = stopped_more ranges (state
 
 -- its stop is one of simplex where it stands
 pub stopped : (t : TableView) (ts : List Term) (v : SimplexView) (b : BoardView) (old new : BudgetView) (stop : Stop) → AreBounds ts (standing_of t v) (ranges_in v.bounds.held)
-    → Ends (ranges_in v.bounds.held) b v.board old new (Err stop) → StopsBy (λ s. IsStrainAt t ts s v) (AreSpent (NeedsMore ts (standing_of t v)) new) stop
+    → EndsCheck (ranges_in v.bounds.held) b v.board old new (Err stop) → StopsBy (λ s. IsStrainAt t ts s v) (AreSpent (NeedsMore ts (standing_of t v)) new) stop
 stopped t ts v b old new (Strained s) bounds e = (checking (ranges_in v.bounds.held) bounds e.1.0, e.1.1)
 stopped t ts v b old new (Pivots n) bounds e = (record { ranges = ranges_in v.bounds.held; bounds = bounds; wants = e.1.0 }, e.1.1, e.1.2)
 stopped t ts v b old new stops.Memory bounds e = tt
@@ -98,14 +98,14 @@ no_pivots P Q stops.Memory p = tt
 -- Literals of watched terms are held that cannot all hold by their weights, over a table.
 pub record AreRefuted (ts : List Term) (v : SimplexView) (t : TableView) (rs : List Weighted) : Type 0 where
   -- they are of watched terms
-  pub watched : AreReasons ts t rs
+  pub watched : AreAtomReasons ts t rs
   -- they are held
   pub held : AreHeld v.theory.held rs
   -- their sum is a contradiction
   pub refutes : Refutes t rs
 
 -- reasons are held literals of watched atoms
-pub refuted : (t : TableView) (v : SimplexView) (rs : List Weighted) → Fits v → AreOver v.theory.held v.theory.watched → IsOver t v.theory → AreOfHeld v.bounds.held rs → Refutes t rs → AreRefuted (terms_watched t v.theory) v t rs
+pub refuted : (t : TableView) (v : SimplexView) (rs : List Weighted) → SimplexFits v → AreOverWatched v.theory.held v.theory.watched → IsTheoryOver t v.theory → AreOfHeld v.bounds.held rs → Refutes t rs → AreRefuted (terms_watched t v.theory) v t rs
 refuted t v rs f over watched of r = record {
   watched = reasons_watched t v.theory v.atoms.placed v.bounds.held rs f.bounds_are of watched over;
   held = reasons_held v.atoms.placed v.theory.held v.bounds.held rs f.bounds_are of;
@@ -124,7 +124,7 @@ table_grows t u v more there is = record {
 }
 
 -- values that keep the bounds keep those of held literals
-pub keeps_held : (t : TableView) (v : SimplexView) → AreDifferent t.terms → IsTableau v.board.tableau → IsOf v t → AreBoundsOf v.atoms.placed v.theory.held v.bounds.held → AreOver v.theory.held v.theory.watched
+pub keeps_held : (t : TableView) (v : SimplexView) → AreDifferent t.terms → IsTableau v.board.tableau → IsOf v t → AreBoundsOf v.atoms.placed v.theory.held v.bounds.held → AreOverWatched v.theory.held v.theory.watched
     → KeepsBounds v → KeepsHeld t v.atoms v.board v.bounds v.theory.held
 keeps_held t v unique tableau is f over meets = record {
   right = is.right;
@@ -136,12 +136,12 @@ keeps_held t v unique tableau is f over meets = record {
 }
 
 -- so the literals have forms, and a point keeps them
-pub fine : (t : TableView) (v : SimplexView) → AreDifferent t.terms → IsTableau v.board.tableau → IsOf v t → AreBoundsOf v.atoms.placed v.theory.held v.bounds.held → AreOver v.theory.held v.theory.watched
+pub fine : (t : TableView) (v : SimplexView) → AreDifferent t.terms → IsTableau v.board.tableau → IsOf v t → AreBoundsOf v.atoms.placed v.theory.held v.bounds.held → AreOverWatched v.theory.held v.theory.watched
     → KeepsBounds v → HaveForms (literals_held t v.theory) × IsFeasible (literals_held t v.theory)
 fine t v unique tableau is f over meets = feasible t v.atoms v.board v.bounds v.theory.held (keeps_held t v unique tableau is f over meets)
 
 -- no terms and no steps came
-pub nothing_came : (ts : List Term) (t : TableView) (log : List Logged) → IsLogOf t log → Derives ts (derived t log) (derived t log)
+pub nothing_came : (ts : List Term) (t : TableView) (log : List Logged) → IsLogOf t log → DerivesLemmas ts (derived t log) (derived t log)
 nothing_came ts t log right = record {
   table = Extends-self t;
   declared = refl;
@@ -152,7 +152,7 @@ nothing_came ts t log right = record {
 }
 
 -- another answer than that nothing is wrong
-pub answers : (o : Outcome) (r : Result Verdict Stop) → (o ≡ Fine → ⊥) → (r ≡ Ok verdicts.Fine → ⊥) → Answers (Ok o) r
+pub answers : (o : Outcome) (r : Result Verdict Stop) → (o ≡ Fine → ⊥) → (r ≡ Ok verdicts.Fine → ⊥) → AnswersOutcome (Ok o) r
 answers Fine r n d = absurd (n refl)
 answers (Crossed y) r n d = d
 answers (Conflict y) r n d = d

@@ -12,12 +12,12 @@ use Rattle.term_core.specs.declared.ids.TermId.{TermId}
 use Rattle.term_core.specs.declared.ids.Lit.{Lit}
 use Rattle.term_core.specs.Tables.{TableView, term_at}
 use Rattle.proof_log.specs.Theories.{TheoryView, no_mark, with_watched, terms_watched}
-use Rattle.held_literals.specs.Room.{AreMarks, AreOver}
+use Rattle.held_literals.specs.Room.{AreHeldMarks, AreOverWatched}
 use Rattle.simplex_check.specs.Boards.{BoardView, IsBasisOf}
 use Rattle.simplex_atoms.specs.declared.place.Place.{Place}
 use Rattle.simplex_atoms.specs.Places.{place_in}
 use Rattle.simplex_atoms.specs.Limits.{limit_of}
-use Rattle.simplex_atoms.specs.Atoms.{AtomsView, AreRight, KeepBounds}
+use Rattle.simplex_atoms.specs.Atoms.{AtomsView, AtomsFit, KeepBounds}
 use Rattle.simplex_atoms.specs.Watching.{StrainsForm, bound, row, StrainsAtom, in_form, in_place}
 use Rattle.ratio128.specs.declared.wide.Wide.{Wide}
 use Rattle.ratio128.specs.Meant.{overflow}
@@ -26,7 +26,7 @@ use Rattle.sat_budget.specs.declared.limits.Stop.TheVariants.{Strained, Pivots}
 use Rattle.sat_budget.specs.declared.limits.Stop.TheVariants as stops
 use Rattle.sat_budget.specs.Budgets.{StopsBy}
 use Rattle.simplex_held.specs.Stated.{all_stated, IsKnownIn}
-use Rattle.simplex.specs.Views.{SimplexView, Fits, IsOf, start_of, placed_count}
+use Rattle.simplex.specs.Views.{SimplexView, SimplexFits, IsOf, start_of, placed_count}
 use Rattle.simplex.specs.Coming.{standing_of, IsStrainAt}
 use Rattle.simplex.proofs.Stated.{stated_same, count_same}
 use Rattle.simplex.proofs.Fitting.{each_mark, right_with}
@@ -35,7 +35,7 @@ use Rattle.simplex.proofs.Fitting.{each_mark, right_with}
 pub record GivesPlace (t : TableView) (v : SimplexView) (id : TermId) (w : SimplexView) : Type 0 where
   pub theory : w.theory ≡ v.theory
   pub starts : w.starts ≡ v.starts
-  pub right : AreRight t w.atoms w.board w.bounds
+  pub right : AtomsFit t w.atoms w.board w.bounds
   pub bounds : KeepBounds v.bounds w.bounds
   pub others : (other : TermId) → (id.0 ≡ other.0 → ⊥) → place_in w.atoms.placed other ≡ place_in v.atoms.placed other
 
@@ -55,7 +55,7 @@ module _ (t : TableView) (v : SimplexView) (id : TermId) (new : Contains v.theor
   pub count_stays : placed_count q v.theory.watched ≡ placed_count p v.theory.watched
   count_stays = count_same p q v.theory.watched watched_stay
 
-  pub fits_placed : Fits v → AreOver v.theory.held v.theory.watched → Fits w
+  pub fits_placed : SimplexFits v → AreOverWatched v.theory.held v.theory.watched → SimplexFits w
   fits_placed f over =
       let held : All (λ (l : Lit). place_in q l.term ≡ place_in p l.term) v.theory.held = λ k d lt. unwatched _ (over k d lt) in
       record {
@@ -79,9 +79,9 @@ module _ (t : TableView) (v : SimplexView) (id : TermId) (new : Contains v.theor
       }
 
 -- with a term more, for which there is room
-pub fits_watched : (v w : SimplexView) (id : TermId) → AreMarks v.theory.held v.theory.watched v.theory.marks → w.theory ≡ with_watched v.theory id
+pub fits_watched : (v w : SimplexView) (id : TermId) → AreHeldMarks v.theory.held v.theory.watched v.theory.marks → w.theory ≡ with_watched v.theory id
     → (w.atoms.placed ≡ v.atoms.placed) × (w.starts ≡ v.starts) × (w.bounds.held ≡ v.bounds.held) × (w.bounds.variables ≡ v.bounds.variables)
-    → 4 * placed_count v.atoms.placed (v.theory.watched ++ id ∷ []) ≤ w.bounds.room → Fits v → Fits w
+    → 4 * placed_count v.atoms.placed (v.theory.watched ++ id ∷ []) ≤ w.bounds.room → SimplexFits v → SimplexFits w
 fits_watched v w id m th (at, st, held, variables) room f =
     let counts : placed_count w.atoms.placed w.theory.watched ≡ placed_count v.atoms.placed (v.theory.watched ++ id ∷ []) = λ i. placed_count (at i) (th i).watched in
     record {
@@ -99,8 +99,8 @@ fits_watched v w id m th (at, st, held, variables) room f =
 pub of_watched : (t : TableView) (v w : SimplexView) (id : TermId) → w.atoms ≡ v.atoms → w.board ≡ v.board → w.bounds.variables ≡ v.bounds.variables
     → w.theory.watched ≡ v.theory.watched ++ id ∷ [] → IsOf v t × IsKnownIn t v.atoms.placed id → IsOf w t
 of_watched t v w id a b e is (o, known) = record {
-  right = subst (λ (x : AtomsView). AreRight t x w.board w.bounds) (sym a)
-      (subst (λ (x : BoardView). AreRight t v.atoms x w.bounds) (sym b) (right_with t v.atoms v.board v.bounds w.bounds (sym e) o.right));
+  right = subst (λ (x : AtomsView). AtomsFit t x w.board w.bounds) (sym a)
+      (subst (λ (x : BoardView). AtomsFit t v.atoms x w.bounds) (sym b) (right_with t v.atoms v.board v.bounds w.bounds (sym e) o.right));
   known = subst (λ (x : AtomsView). All (IsKnownIn t x.placed) w.theory.watched) (sym a)
       (subst (All (IsKnownIn t v.atoms.placed)) (sym is) (All-push (IsKnownIn t v.atoms.placed) v.theory.watched id o.known known));
 }

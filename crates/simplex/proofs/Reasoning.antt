@@ -37,7 +37,7 @@ use Rattle.simplex_explain.specs.Steps.{judged}
 use Rattle.simplex_reasons.specs.Stops.{stop_of}
 use Rattle.simplex_reasons.specs.Reasons.{footing, AreReasonsFor}
 use Rattle.simplex_reasons.specs.Reasons as code
-use Rattle.simplex.specs.Views.{SimplexView, Fits, IsOf}
+use Rattle.simplex.specs.Views.{SimplexView, SimplexFits, IsOf}
 use Rattle.simplex.specs.Checks.{Found, StrainsFound, AreReasonsOf}
 use Rattle.simplex.specs.Coming.{standing_of}
 use Rattle.simplex.proofs.Bounding.{side_same, bound_same, States, states_strongest, strongest_by_held, are_bounds}
@@ -63,7 +63,7 @@ weight_says o r place q e = ap (λ z. code.weight_by z place q) e ∙ by r
     by at_least = refl
     by above = refl
 
-module _ (t : TableView) (v : SimplexView) (is : IsOf v t) (fits : Fits v) where
+module _ (t : TableView) (v : SimplexView) (is : IsOf v t) (fits : SimplexFits v) where
   abbrev s : Standing
   s = standing_of t v
 
@@ -94,7 +94,7 @@ module _ (t : TableView) (v : SimplexView) (is : IsOf v t) (fits : Fits v) where
         states.2,
       )
 
-  reason_is : (up : Bool) (e : Entry Number) (w : Weighted) → code.IsReason (footing v.atoms v.bounds) up e w → IsReason s held ranges up e (reason_meant t w)
+  reason_is : (up : Bool) (e : Entry Number) (w : Weighted) → code.IsBoundReason (footing v.atoms v.bounds) up e w → IsReason s held ranges up e (reason_meant t w)
   reason_is up e w r =
       let x = subst (λ l. Stops up e l r.place) (sym r.literal) (stops up e r.bound r.stops r.place r.there) in
       record {

@@ -36,7 +36,7 @@ use Rattle.simplex_check.proofs.Summing.{Summed, summed_none, summed_more, summe
 use Rattle.simplex_atoms.specs.Owners.{owner_at, IsNumberOf}
 use Rattle.simplex_atoms.specs.Standings.{owner_meant, TellsOwners}
 use Rattle.simplex_atoms.specs.Stops.{of_fault}
-use Rattle.simplex_atoms.specs.Watching.{OnWide}
+use Rattle.simplex_atoms.specs.Watching.{OnAtomOverflow}
 use Rattle.simplex_atoms.proofs.Numbered.{owner_mapped}
 use Rattle.simplex_atoms.proofs.Coming.{term_owned, term_new}
 use Rattle.simplex.specs.Views.{SimplexView, IsOf}
@@ -135,7 +135,7 @@ module _ (v : SimplexView) (id : TermId) (y : ℕ) (k : Ratio) (sum value produc
   next_strains o times h = record { variable = y; stands = stands; strains = inr (ap (λ p. delta_added (delta sum) (delta_in p)) (sym (multiple times)) ∙ h) }
 
 -- a form that leaves the bound
-pub form_strains : (t : TableView) (s : Standing) (u : Term) (x : FormFault) → Finds t (form u) (let r : Result FormView FormFault = Err x in r) → OnWide (StrainsTerm s u) (of_fault x)
+pub form_strains : (t : TableView) (s : Standing) (u : Term) (x : FormFault) → Finds t (form u) (let r : Result FormView FormFault = Err x in r) → OnAtomOverflow (StrainsTerm s u) (of_fault x)
 form_strains t s u (faults.Wide id w) e = in_form (fault_meant t id w) e refl
 form_strains t s u faults.Memory e = tt
 

@@ -18,7 +18,7 @@ use Rattle.term_core.specs.declared.ids.TermId.{TermId}
 use Rattle.term_core.specs.declared.ids.Lit.{Lit}
 use Rattle.term_core.specs.Tables.{TableView, term_at, clause_at, IsIn, AreDifferent}
 use Rattle.tableau.specs.Numbers.{number_of}
-use Rattle.proof_log.specs.Theories.{IsAtomIn, IsOver}
+use Rattle.proof_log.specs.Theories.{IsAtomIn, IsTheoryOver}
 use Rattle.spec_strains.specs.Deltas.{delta_evaluated}
 use Rattle.spec_strains.specs.Points.{point_in, delta_in}
 use Rattle.spec_causes.specs.Causes.{StrainsValueAt}
@@ -38,7 +38,7 @@ abbrev pub number_in : TableView → SimplexView → Number → Term → Number
 number_in t v e u = (point_of t v.atoms.owners (λ y. flat (at_number e (point_in v.board.values y))) u).base
 
 -- the terms of held literals are well sorted
-pub held_sorted : (t : TableView) (v : SimplexView) → IsOver t v.theory → All (λ (l : Lit). IsWellSorted t.symbols [] (term_at t l.term)) v.theory.held
+pub held_sorted : (t : TableView) (v : SimplexView) → IsTheoryOver t v.theory → All (λ (l : Lit). IsWellSorted t.symbols [] (term_at t l.term)) v.theory.held
 held_sorted t v over = All-weaker (λ (l : Lit). IsAtomIn t l.term) (λ (l : Lit). IsWellSorted t.symbols [] (term_at t l.term)) (λ l is. is.0.1.term) v.theory.held over.atoms
 
 module _ (t : TableView) (v : SimplexView) (e : Number) (unique : AreDifferent t.terms) (is : IsOf v t) where

@@ -3,7 +3,7 @@ use Rattle.std.specs.Prelude.{◌≡◌, true, List, All, Result, Ok, Err}
 use Rattle.spec_numbers.specs.Bounds.{Overflow}
 use Rattle.spec_tableaux.specs.Rows.{row_of}
 use Rattle.spec_tableaux.specs.Ranges.{Meets}
-use Rattle.spec_tableaux.specs.LeastVariable.{Says, IsSettled, goes_up, crossed, stuck}
+use Rattle.spec_tableaux.specs.LeastVariable.{RuleSays, IsNonbasicFeasible, goes_up, crossed, stuck}
 use Rattle.term_core.specs.declared.ids.Lit.{Lit}
 use Rattle.term_core.specs.Tables.{TableView, IsIn}
 use Rattle.sat_budget.specs.declared.limits.Stop.{Stop}
@@ -43,10 +43,10 @@ KeepsBounds v = Meets deltas v.board.tableau.rows (ranges_in v.bounds.held) (poi
 -- stuck, and nonbasic ones keep their bounds
 abbrev pub Found : SimplexView → Outcome → Type 0
 Found v Fine = ⊥
-Found v (Crossed y) = Says deltas (ranges_in v.bounds.held) (state_of v.board) (crossed y)
+Found v (Crossed y) = RuleSays deltas (ranges_in v.bounds.held) (state_of v.board) (crossed y)
 Found v (Conflict b) =
-    IsSettled deltas (ranges_in v.bounds.held) (state_of v.board)
-    × Says deltas (ranges_in v.bounds.held) (state_of v.board) (stuck b)
+    IsNonbasicFeasible deltas (ranges_in v.bounds.held) (state_of v.board)
+    × RuleSays deltas (ranges_in v.bounds.held) (state_of v.board) (stuck b)
 
 -- a weight of the reasons for what was found comes to the overflow
 abbrev pub StrainsFound : SimplexView → Outcome → Overflow → Type 0
@@ -66,8 +66,8 @@ AreReasonsOf v (Conflict b) rs =
 
 -- what is answered to what a check of the rows found: that nothing is wrong, where it found nothing wrong; something
 -- else, where it did; and its own stop
-abbrev pub Answers : Result Outcome Stop → Result Verdict Stop → Type 0
-Answers (Ok Fine) result = result ≡ Ok verdicts.Fine
-Answers (Ok (Crossed y)) result = result ≡ Ok verdicts.Fine → ⊥
-Answers (Ok (Conflict b)) result = result ≡ Ok verdicts.Fine → ⊥
-Answers (Err stop) result = result ≡ Err stop
+abbrev pub AnswersOutcome : Result Outcome Stop → Result Verdict Stop → Type 0
+AnswersOutcome (Ok Fine) result = result ≡ Ok verdicts.Fine
+AnswersOutcome (Ok (Crossed y)) result = result ≡ Ok verdicts.Fine → ⊥
+AnswersOutcome (Ok (Conflict b)) result = result ≡ Ok verdicts.Fine → ⊥
+AnswersOutcome (Err stop) result = result ≡ Err stop

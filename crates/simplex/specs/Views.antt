@@ -7,7 +7,7 @@ use Rattle.term_core.specs.Tables.{TableView}
 use Rattle.proof_log.specs.Theories.{TheoryView, Mark}
 use Rattle.simplex_bounds.specs.Held.{BoundsView}
 use Rattle.simplex_check.specs.Boards.{BoardView}
-use Rattle.simplex_atoms.specs.Atoms.{AtomsView, AreRight}
+use Rattle.simplex_atoms.specs.Atoms.{AtomsView, AtomsFit}
 use Rattle.simplex_atoms.specs.Places.{place_in}
 use Rattle.simplex_atoms.specs.declared.place.Place.{Place}
 use Rattle.simplex.specs.declared.starts.Start.{Start}
@@ -42,7 +42,7 @@ start_of placed theory m = record {
 }
 
 -- The parts fit together.
-pub record Fits (v : SimplexView) : Type 0 where
+pub record SimplexFits (v : SimplexView) : Type 0 where
   -- the bounds that are held are those that the literals state
   pub bounds_are : AreBoundsOf v.atoms.placed v.theory.held v.bounds.held
   -- and so they were at each mark
@@ -56,6 +56,6 @@ pub record Fits (v : SimplexView) : Type 0 where
 -- What it keeps of the terms that it watches is right over a table.
 pub record IsOf (v : SimplexView) (t : TableView) : Type 0 where
   -- what atoms are placed on
-  pub right : AreRight t v.atoms v.board v.bounds
+  pub right : AtomsFit t v.atoms v.board v.bounds
   -- watched terms have places exactly where they say something of linear arithmetic
   pub known : All (IsKnownIn t v.atoms.placed) v.theory.watched

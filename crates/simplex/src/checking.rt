@@ -10,16 +10,16 @@ ghost use Rattle.sat_budget.specs.Budgets.{Spends, StopsBy, AreSpent};
 ghost use Rattle.sat_budget.specs.declared.limits.Stop.{Stop};
 ghost use Rattle.proof_log.specs.Logs.{IsLogOf};
 ghost use Rattle.proof_log.specs.Clashes.{IsClash};
-ghost use Rattle.proof_log.specs.Theories.{IsOver, terms_watched, literals_held, Derives, Checks, CameTo, paid_after};
+ghost use Rattle.proof_log.specs.Theories.{IsTheoryOver, terms_watched, literals_held, DerivesLemmas, Checks, CameTo, paid_after};
 ghost use Rattle.simplex_bounds.specs.Held.{ranges_in};
 ghost use Rattle.simplex_check.specs.Boards.{IsBasisOf};
-ghost use Rattle.simplex_check.specs.Ends.{Ends};
+ghost use Rattle.simplex_check.specs.Ends.{EndsCheck};
 ghost use Rattle.simplex_check.specs.declared.check.Outcome.{Outcome};
 ghost use Rattle.simplex_explain.specs.Reasons.{Refutes};
 ghost use Rattle.simplex_explain.specs.Steps.{derived};
-ghost use Rattle.simplex_reasons.specs.Reasons.{AreOfHeld, OnWide};
+ghost use Rattle.simplex_reasons.specs.Reasons.{AreOfHeld, OnReasonOverflow};
 ghost use Rattle.simplex.specs.Views.{IsOf};
-ghost use Rattle.simplex.specs.Checks.{Case, KeepsBounds, Found, StrainsFound, AreReasonsOf, Answers};
+ghost use Rattle.simplex.specs.Checks.{Case, KeepsBounds, Found, StrainsFound, AreReasonsOf, AnswersOutcome};
 ghost use Rattle.simplex.specs.Coming.{standing_of, CameBy, StoppedBy, IsStrainAt};
 
 use crate::simplex::Simplex;
@@ -54,7 +54,7 @@ impl Simplex {
         ensures reasons { IfOk result (λ reasons. AreReasonsOf self.now outcome reasons.items) }
         ensures refutes { IfOk result (λ reasons. Refutes of.table reasons.items) }
         ensures held { IfOk result (λ reasons. AreOfHeld self.now.bounds.held reasons.items) }
-        ensures wide { IfErr result (OnWide (StrainsFound self.now outcome)) }
+        ensures wide { IfErr result (OnReasonOverflow (StrainsFound self.now outcome)) }
     {
         match outcome {
             Outcome::Fine => unreachable!(),
@@ -79,11 +79,11 @@ impl Simplex {
     ) -> Result<StepId, Stop>
         ghost of: { Case }
         requires of { of ≡ record { table = table.old; simplex = self.now } }
-        requires over { IsOver table.old self.now.theory }
+        requires over { IsTheoryOver table.old self.now.theory }
         requires with { IsOf self.now table.old }
         requires log { IsLogOf table.old log.old }
         requires found { Found self.now outcome }
-        ensures derives { OnOk result (Derives (terms_watched table.old self.now.theory) (derived table.old log.old)
+        ensures derives { OnOk result (DerivesLemmas (terms_watched table.old self.now.theory) (derived table.old log.old)
             (derived table.new log.new)) }
         ensures clash { IfOk result (IsClash table.new log.new self.now.theory.held) }
         ensures infeasible { OnOk result (IsInfeasible (literals_held table.old self.now.theory)) }
@@ -118,14 +118,14 @@ impl Simplex {
         log: &mut ProofLog,
         budget: &mut Budget,
     ) -> Result<Verdict, Stop>
-        requires over { IsOver table.old self.old.theory }
+        requires over { IsTheoryOver table.old self.old.theory }
         requires with { IsOf self.old table.old }
         requires log { IsLogOf table.old log.old }
         ensures with { IsOf self.new table.new }
         ensures same { self.new ≡ record self.old { board = self.new.board } }
         ensures budget { Spends budget.old budget.new }
-        ensures ends { (found : Result Outcome Stop) × Answers found result
-            × Ends (ranges_in self.old.bounds.held) self.old.board self.new.board budget.old budget.new found }
+        ensures ends { (found : Result Outcome Stop) × AnswersOutcome found result
+            × EndsCheck (ranges_in self.old.bounds.held) self.old.board self.new.board budget.old budget.new found }
         ensures checks { Checks (HaveForms (literals_held table.old self.old.theory)
             × IsFeasible (literals_held table.old self.old.theory) × KeepsBounds self.new)
             (IsInfeasible (literals_held table.old self.old.theory))

@@ -8,7 +8,7 @@ ghost use Rattle.spec_causes.specs.Causes.{StrainsValueAt};
 ghost use Rattle.ratio128.specs.Meant.{fraction, overflow};
 ghost use Rattle.term_core.specs.Tables.{TableView, AreIn, clause_at};
 ghost use Rattle.sat_budget.specs.Budgets.{StopsBy};
-ghost use Rattle.proof_log.specs.Theories.{IsOver, terms_watched};
+ghost use Rattle.proof_log.specs.Theories.{IsTheoryOver, terms_watched};
 ghost use Rattle.tableau.specs.Numbers.{number_of};
 ghost use Rattle.simplex.specs.Views.{IsOf};
 ghost use Rattle.simplex.specs.Checks.{KeepsBounds};
@@ -93,7 +93,7 @@ impl Simplex {
         terms: &[TermId],
         shared: &[TermId],
     ) -> Result<Vec<Ratio>, Stop>
-        requires over { IsOver table.now self.now.theory }
+        requires over { IsTheoryOver table.now self.now.theory }
         requires with { IsOf self.now table.now }
         requires fine { KeepsBounds self.now }
         requires terms { AreIn table.now terms.now }

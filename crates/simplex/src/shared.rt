@@ -8,7 +8,7 @@ ghost use Rattle.sat_budget.specs.Budgets.{StopsBy};
 ghost use Rattle.proof_log.specs.Theories.{terms_watched};
 ghost use Rattle.tableau.specs.Numbers.{number_of};
 ghost use Rattle.simplex_bounds.specs.Deltas.{pair_of};
-ghost use Rattle.simplex_atoms.specs.Watching.{OnWide};
+ghost use Rattle.simplex_atoms.specs.Watching.{OnAtomOverflow};
 ghost use Rattle.simplex.specs.Views.{IsOf};
 ghost use Rattle.simplex.specs.Values.{variables_meant, AreTermsIn, IsNextSum, StrainsNextSum};
 ghost use Rattle.simplex.specs.Coming.{standing_of, IsStrainAt};
@@ -72,7 +72,7 @@ impl Simplex {
         requires there { IsIn table.now id }
         ensures value { IfOk result (λ d. IsValueOf (standing_of table.now self.now) (term_at table.now id)
             (pair_of d)) }
-        ensures wide { IfErr result (OnWide (StrainsTerm (standing_of table.now self.now) (term_at table.now id))) }
+        ensures wide { IfErr result (OnAtomOverflow (StrainsTerm (standing_of table.now self.now) (term_at table.now id))) }
     {
         let form = form_of(self.alloc, table, id)?;
         let variables = form.variables(self.alloc)?;

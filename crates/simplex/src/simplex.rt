@@ -8,7 +8,7 @@ ghost use Rattle.simplex_bounds.specs.Held.{ranges_in};
 ghost use Rattle.simplex_check.specs.Boards.{state_of, empty_board, IsBasisOf};
 ghost use Rattle.simplex_check.specs.Moves.{said};
 ghost use Rattle.simplex_atoms.specs.Owners.{IsNumberOf};
-ghost use Rattle.simplex.specs.Views.{Fits};
+ghost use Rattle.simplex.specs.Views.{SimplexFits};
 
 use crate::starts::Start;
 use delta_num::Delta;
@@ -45,7 +45,7 @@ pub struct Simplex {
 impl Model for Simplex {
     ghost use Rattle.std.specs.Prelude.{◌≡◌};
     ghost use Rattle.simplex_check.specs.Suspects.{KeepsFirst};
-    ghost use Rattle.simplex.specs.Views.{SimplexView, Fits, placed_count};
+    ghost use Rattle.simplex.specs.Views.{SimplexView, SimplexFits, placed_count};
 
     ghost Value = { SimplexView };
 
@@ -57,7 +57,7 @@ impl Model for Simplex {
       starts = s.starts.items;
     } };
 
-    ghost invariant = { λ s. Fits (record {
+    ghost invariant = { λ s. SimplexFits (record {
       theory = s.literals;
       atoms = s.atoms;
       board = s.board;
@@ -92,7 +92,7 @@ impl Simplex {
     /// States that the bounds that are held are those that the held literals state, and that there is room for those of both
     /// literals of each watched atom.
     pub fn parts_fit(&self)
-        ensures { Fits self.now }
+        ensures { SimplexFits self.now }
     {
         let _ = &self.literals;
     }
@@ -114,7 +114,7 @@ impl Simplex {
 
     /// Gives what the least-variable rule says of the rows, the values and the bounds. It takes no memory.
     pub fn bland_step(&self) -> Move
-        ensures { rule.Says deltas (ranges_in self.now.bounds.held) (state_of self.now.board) (said result) }
+        ensures { rule.RuleSays deltas (ranges_in self.now.bounds.held) (state_of self.now.board) (said result) }
     {
         self.board.next_move(&self.bounds)
     }

@@ -11,7 +11,7 @@ use Rattle.spec_arithmetic.specs.Forms.{Form}
 use Rattle.spec_tableaux.specs.Rows.{Entry as RowEntry}
 use Rattle.spec_tableaux.specs.Numbers.{Number}
 use Rattle.spec_simplex.specs.Constraints.{Constraint, constraint_of, form_of}
-use Rattle.spec_causes.specs.Standing.{owner_in, with_term, with_sum, AreEntriesOf}
+use Rattle.spec_causes.specs.Standing.{owner_in, with_slack, with_sum, AreEntriesOf}
 use Rattle.spec_causes.specs.Reached.{IsFormAmong, IsLonger, IsReached, naming, summing}
 use Rattle.ratio128.specs.declared.ratio.Ratio.{Ratio}
 use Rattle.ratio128.specs.Meant.{fraction}
@@ -28,8 +28,8 @@ use Rattle.simplex_atoms.specs.declared.stop.AtomStop.{AtomStop}
 use Rattle.simplex_atoms.specs.declared.stop.AtomStop.TheVariants as stops
 use Rattle.simplex_atoms.specs.Owners.{owner_at, IsNumberOf}
 use Rattle.simplex_atoms.specs.Atoms.{ground_of, AreCounted}
-use Rattle.simplex_atoms.specs.Watching.{AreNumbered, constraint_meant}
-use Rattle.simplex_atoms.specs.Standings.{owner_meant, standing_in, ButForMemory, Leads, TellsOwners, IsVariableOf}
+use Rattle.simplex_atoms.specs.Watching.{EntriesAreNumbered, constraint_meant}
+use Rattle.simplex_atoms.specs.Standings.{owner_meant, standing_in, ButForMemory, GroundLeads, TellsOwners, IsVariableOf}
 use Rattle.simplex_atoms.proofs.Numbered.{owner_mapped, numbered_entries, are_in}
 
 -- a variable that stands for the term of a number stands for the number
@@ -53,16 +53,16 @@ pub term_new : (t : TableView) (os : List (Option TermId)) (id : TermId) → Tel
 term_new t os id tells there free y e = free y (term_owned t os id tells there y e)
 
 -- nothing comes
-pub leads_same : (t : TableView) (f : Form) (os us : List (Option TermId)) (b c : BoardView) → us ≡ os → c ≡ b → Leads t f (ground_of os b) (ground_of us c)
+pub leads_same : (t : TableView) (f : Form) (os us : List (Option TermId)) (b c : BoardView) → us ≡ os → c ≡ b → GroundLeads t f (ground_of os b) (ground_of us c)
 leads_same t f os us b c e g ts n es among h = subst (IsReached ts n es) (λ i. standing_in t (sym e i) (sym g i)) h
 
 -- a variable comes for a term
 pub variable_leads : (t : TableView) (f : Form) (os us : List (Option TermId)) (b c : BoardView) (id : TermId) (k : Ratio) → us ≡ os ++ Some id ∷ [] → c ≡ board_with_variable b
-    → IsNumberOf os id None → TellsOwners t os → IsVariableOf t f (id, k) → Leads t f (ground_of os b) (ground_of us c)
+    → IsNumberOf os id None → TellsOwners t os → IsVariableOf t f (id, k) → GroundLeads t f (ground_of os b) (ground_of us c)
 variable_leads t f os us b c id k e g free tells is ts n es among h =
     subst (IsReached ts n es) (sym same) (naming n es (standing_in t os b) h f among (term_at t id) (fraction k) is.1 (term_new t os id tells is.0 free))
   where
-    now : standing_in t (os ++ Some id ∷ []) (board_with_variable b) ≡ with_term (standing_in t os b) (term_at t id)
+    now : standing_in t (os ++ Some id ∷ []) (board_with_variable b) ≡ with_slack (standing_in t os b) (term_at t id)
     now = λ i. record {
       owners = map-append (owner_meant t) os (Some id ∷ []) i;
       listed = b.tableau.listed;
@@ -70,12 +70,12 @@ variable_leads t f os us b c id k e g free tells is ts n es among h =
       values = (board_with_variable b).values;
     }
 
-    same : standing_in t us c ≡ with_term (standing_in t os b) (term_at t id)
+    same : standing_in t us c ≡ with_slack (standing_in t os b) (term_at t id)
     same = (λ i. standing_in t (e i) (g i)) ∙ now
 
 -- a row comes
 pub row_leads : (t : TableView) (f : Form) (os us : List (Option TermId)) (b c : BoardView) (gs : List (RowEntry Number)) → AreCounted (ground_of os b) → us ≡ os ++ None ∷ []
-    → c ≡ board_with_sum b gs → AreEntriesOf (map (owner_meant t) os) gs f.variables → IsLonger gs → Leads t f (ground_of os b) (ground_of us c)
+    → c ≡ board_with_sum b gs → AreEntriesOf (map (owner_meant t) os) gs f.variables → IsLonger gs → GroundLeads t f (ground_of os b) (ground_of us c)
 row_leads t f os us b c gs count e g are longer ts n es among h =
     subst (IsReached ts n es) (sym same) (summing n es (standing_in t os b) h f among gs are longer)
   where
@@ -97,7 +97,7 @@ row_leads t f os us b c gs count e g are longer ts n es among h =
     same = (λ i. standing_in t (e i) (g i)) ∙ now
 
 -- entries for the variables of a form as it is lent
-pub form_entries : (t : TableView) (os : List (Option TermId)) (es : List Entry) (xs : List (TermId × Ratio)) (f : FormView) → map pair_view xs ≡ f.variables → AreNumbered os es xs
+pub form_entries : (t : TableView) (os : List (Option TermId)) (es : List Entry) (xs : List (TermId × Ratio)) (f : FormView) → map pair_view xs ≡ f.variables → EntriesAreNumbered os es xs
     → AreEntriesOf (map (owner_meant t) os) (entries_of es) (form_meant t f).variables
 form_entries t os es xs f vs h = subst (λ (l : List (TermId × Fraction)). AreEntriesOf (map (owner_meant t) os) (entries_of es) (map (pair_meant t) l)) vs (numbered_entries t os es xs h)
 
@@ -131,13 +131,13 @@ pub all_in : (t : TableView) (f : Form) (xs : List (TermId × Ratio)) → All (I
 all_in t f xs all = All-weaker (IsVariableOf t f) (λ (p : TermId × Ratio). IsIn t p.0) (λ p h. h.0) xs all
 
 -- the place of a form comes with what its variables do first
-module _ (form : FormView) (os us vs : List (Option TermId)) (a b c : BoardView) (xs : List (TermId × Ratio)) (es : List Entry) (are : map pair_view xs ≡ form.variables) (numbered : AreNumbered us es xs)
-    (named : (t : TableView) (f : Form) → TellsOwners t os → All (IsVariableOf t f) xs → Leads t f (ground_of os a) (ground_of us b)) where
+module _ (form : FormView) (os us vs : List (Option TermId)) (a b c : BoardView) (xs : List (TermId × Ratio)) (es : List Entry) (are : map pair_view xs ≡ form.variables) (numbered : EntriesAreNumbered us es xs)
+    (named : (t : TableView) (f : Form) → TellsOwners t os → All (IsVariableOf t f) xs → GroundLeads t f (ground_of os a) (ground_of us b)) where
   abbrev Summed : Type 0
-  Summed = (t : TableView) (f : Form) → AreEntriesOf (map (owner_meant t) us) (entries_of es) f.variables → Leads t f (ground_of us b) (ground_of vs c)
+  Summed = (t : TableView) (f : Form) → AreEntriesOf (map (owner_meant t) us) (entries_of es) f.variables → GroundLeads t f (ground_of us b) (ground_of vs c)
 
   abbrev Placed : Type 0
-  Placed = (t : TableView) → AreVariablesOf t form → TellsOwners t os → Leads t (form_meant t form) (ground_of os a) (ground_of vs c)
+  Placed = (t : TableView) → AreVariablesOf t form → TellsOwners t os → GroundLeads t (form_meant t form) (ground_of os a) (ground_of vs c)
 
   placed : Summed → Placed
   placed summed t all tells ts n made among h =
@@ -154,7 +154,7 @@ module _ (t : TableView) (id : TermId) (sides : Sides) (f : FormView) (os us : L
     (has : form_of (constraint_meant t sides) ≡ Ok (form_meant t f)) (all : AreVariablesOf t f) (tells : TellsOwners t os) (ts : List Term) (n : ℕ) (es : List (ℕ × ℕ)) (there : Contains ts (term_at t id))
     (before : IsReached ts n es (standing_in t os b)) where
   abbrev Comes : Type 0
-  Comes = (t : TableView) → AreVariablesOf t f → TellsOwners t os → Leads t (form_meant t f) (ground_of os b) (ground_of us c)
+  Comes = (t : TableView) → AreVariablesOf t f → TellsOwners t os → GroundLeads t (form_meant t f) (ground_of os b) (ground_of us c)
 
   abbrev After : Type 0
   After = IsReached ts n es (standing_in t us c)

@@ -16,9 +16,9 @@ use Rattle.simplex_bounds.specs.Held.{BoundsView}
 use Rattle.simplex_check.specs.Boards.{BoardView, empty_board}
 use Rattle.simplex_atoms.specs.declared.place.Place.{Place}
 use Rattle.simplex_atoms.specs.Owners.{owner_at, AreOwned, AreOwnersIn}
-use Rattle.simplex_atoms.specs.Places.{Setting, IsFormOf, IsPlaced, place_in}
+use Rattle.simplex_atoms.specs.Places.{AtomSetting, IsFormOf, IsPlaced, place_in}
 use Rattle.simplex_atoms.specs.Sums.{sign_by, Sum}
-use Rattle.simplex_atoms.specs.Atoms.{AtomsView, Ground, ground_of, setting_of, Grows, IsMultiple, IsSum, AreSums, IsPlaceOf, ArePlaced, AreRight}
+use Rattle.simplex_atoms.specs.Atoms.{AtomsView, Ground, ground_of, setting_of, GroundGrows, IsMultiple, IsSum, AreSums, IsPlaceOf, ArePlaced, AtomsFit}
 use Rattle.simplex_atoms.proofs.Owning.{owner_kept, owner_first, owner_below}
 
 pub solves_first : {A V : Type 0} (s : Space A V) (v : ℕ → V) (rs more : List (Row A)) → Solves s v (rs ++ more) → Solves s v rs
@@ -27,17 +27,17 @@ solves_first s v (r ∷ rs) more h = (h.0, solves_first s v rs more h.1)
 
 -- over more variables and rows
 
-multiple_on : (g h : Ground) (es : List (Entry Number)) (k : Number) (y : ℕ) → Grows g h → IsMultiple g es k y → IsMultiple h es k y
+multiple_on : (g h : Ground) (es : List (Entry Number)) (k : Number) (y : ℕ) → GroundGrows g h → IsMultiple g es k y → IsMultiple h es k y
 multiple_on g h es k y grows m = record {
   variable = omega (arith, m.variable, ap (λ (l : List (Option TermId)). length l) grows.owners, length-append g.owners grows.more_owners);
   sum = λ v s.
       m.sum v (solves_first (as_space numbers) v g.board.tableau.listed grows.more_rows (subst (λ (l : List (Row Number)). Solves (as_space numbers) v l) grows.listed s));
 }
 
-pub sums_on : (g h : Ground) (sums : List Sum) → Grows g h → AreSums g sums → AreSums h sums
+pub sums_on : (g h : Ground) (sums : List Sum) → GroundGrows g h → AreSums g sums → AreSums h sums
 sums_on g h sums grows all = All-weaker (IsSum g) (IsSum h) (λ s m. multiple_on g h s.entries (sign_by s.opposite) s.variable grows m) sums all
 
-form_on : (t : TableView) (g h : Ground) (place : Place) (f : Form) → Grows g h → IsFormOf (setting_of t g) place f → IsFormOf (setting_of t h) place f
+form_on : (t : TableView) (g h : Ground) (place : Place) (f : Form) → GroundGrows g h → IsFormOf (setting_of t g) place f → IsFormOf (setting_of t h) place f
 form_on t g h place f grows is = record {
   factor = is.factor;
   bound = is.bound;
@@ -49,7 +49,7 @@ form_on t g h place f grows is = record {
       (solves_first (as_space numbers) v g.board.tableau.listed grows.more_rows (subst (λ (l : List (Row Number)). Solves (as_space numbers) v l) grows.listed s));
 }
 
-pub place_on : (t : TableView) (g h : Ground) (a b : ℕ) (id : TermId) (place : Place) → Grows g h → a ≤ b → IsPlaceOf (setting_of t g) a id place → IsPlaceOf (setting_of t h) b id place
+pub place_on : (t : TableView) (g h : Ground) (a b : ℕ) (id : TermId) (place : Place) → GroundGrows g h → a ≤ b → IsPlaceOf (setting_of t g) a id place → IsPlaceOf (setting_of t h) b id place
 place_on t g h a b id place grows le p = record {
   is_in = p.is_in;
   is = record {
@@ -63,11 +63,11 @@ place_on t g h a b id place grows le p = record {
   reached = omega (arith, p.reached, le);
 }
 
-pub placed_on : (t : TableView) (g h : Ground) (a b : ℕ) (placed : List (ℕ × Place)) → Grows g h → a ≤ b → ArePlaced (setting_of t g) a placed → ArePlaced (setting_of t h) b placed
+pub placed_on : (t : TableView) (g h : Ground) (a b : ℕ) (placed : List (ℕ × Place)) → GroundGrows g h → a ≤ b → ArePlaced (setting_of t g) a placed → ArePlaced (setting_of t h) b placed
 placed_on t g h a b placed grows le all id place e = place_on t g h a b id place grows le (all id place e)
 
 -- one place more
-pub placed_more : (s : Setting) (reach : ℕ) (old new : List (ℕ × Place)) (id : TermId) (place : Place) → ArePlaced s reach old → IsPlaceOf s reach id place
+pub placed_more : (s : AtomSetting) (reach : ℕ) (old new : List (ℕ × Place)) (id : TermId) (place : Place) → ArePlaced s reach old → IsPlaceOf s reach id place
     → ((q : ℕ) → place_in new (record { 0 = q }) ≡ cond (nat_eq id.0 q) (Some place) (place_in old (record { 0 = q }))) → ArePlaced s reach new
 placed_more s reach old new id place all one updates other p e = by (nat_eq id.0 other.0) refl
   where
@@ -109,7 +109,7 @@ module _ (old new : TableView) (x : Extends old new) (g : Ground) (owners : AreO
   }
 
 -- the law
-pub right_after : (old new : TableView) → Extends old new → (a : AtomsView) (b : BoardView) (bounds : BoundsView) → AreRight old a b bounds → AreRight new a b bounds
+pub right_after : (old new : TableView) → Extends old new → (a : AtomsView) (b : BoardView) (bounds : BoundsView) → AtomsFit old a b bounds → AtomsFit new a b bounds
 right_after old new x a b bounds r = record {
   counted = r.counted;
   within = r.within;
@@ -128,7 +128,7 @@ no_atoms = record { owners = []; sums = []; placed = [] }
 abbrev pub no_bounds : BoundsView
 no_bounds = record { variables = 0; held = []; room = 0 }
 
-pub right_first : (t : TableView) → AreRight t no_atoms empty_board no_bounds
+pub right_first : (t : TableView) → AtomsFit t no_atoms empty_board no_bounds
 right_first t = record {
   counted = refl;
   within = omega arith;

@@ -2,7 +2,7 @@
 use Rattle.std.proofs.Common.{◌≡◌, ℕ, suc, ◌<◌, ◌≤◌, List, [], ◌∷◌, ◌++◌, length, Option, None, sym, ◌∙◌, ap, subst, arith}
 use Rattle.std.proofs.Math.ListN.{get_or-append}
 use Rattle.spec_tableaux.specs.Rows.{Entry, Row}
-use Rattle.spec_tableaux.specs.SolvedForms.{IsOver}
+use Rattle.spec_tableaux.specs.SolvedForms.{AllVariables}
 use Rattle.spec_tableaux.specs.Numbers.{Number}
 use Rattle.term_core.specs.declared.ids.TermId.{TermId}
 use Rattle.simplex_check.specs.Boards.{BoardView, board_with_variable, board_with_sum}
@@ -28,7 +28,7 @@ variable_more os o n from [] e h = omega (arith, h)
 variable_more os o n from (r ∷ rs) e h = (h.0, stands os o n from r rs e h, h.2, variable_more os o n (suc r.basic) rs e h.3)
 
 -- a row more, which is over variables that were there
-row_more : (os : List (Option TermId)) (n from : ℕ) (rs : List (Row Number)) (es : List (Entry Number)) → length os ≡ n → IsOver (λ y. y < n) es → AreGrounded os from rs n
+row_more : (os : List (Option TermId)) (n from : ℕ) (rs : List (Row Number)) (es : List (Entry Number)) → length os ≡ n → AllVariables (λ y. y < n) es → AreGrounded os from rs n
     → AreGrounded (os ++ None ∷ []) from (rs ++ record { basic = n; entries = es } ∷ []) (suc n)
 row_more os n from [] es e over h = (h, ap (owner_at (os ++ None ∷ [])) (sym e) ∙ owner_last os None, over, omega arith)
 row_more os n from (r ∷ rs) es e over h = (h.0, stands os None n from r rs e h, h.2, row_more os n (suc r.basic) rs es e over h.3)
@@ -43,7 +43,7 @@ pub grounded_variable : (os us : List (Option TermId)) (o : Option TermId) (b c 
 grounded_variable os us o b c count e f h =
     grounded_same (os ++ o ∷ []) us (board_with_variable b) c e f (variable_more os o b.tableau.variables 0 b.tableau.listed count h)
 
-pub grounded_row : (os us : List (Option TermId)) (b c : BoardView) (es : List (Entry Number)) → AreCounted (ground_of os b) → IsOver (λ y. y < b.tableau.variables) es → us ≡ os ++ None ∷ [] → c ≡ board_with_sum b es
+pub grounded_row : (os us : List (Option TermId)) (b c : BoardView) (es : List (Entry Number)) → AreCounted (ground_of os b) → AllVariables (λ y. y < b.tableau.variables) es → us ≡ os ++ None ∷ [] → c ≡ board_with_sum b es
     → IsGrounded (ground_of os b) → IsGrounded (ground_of us c)
 grounded_row os us b c es count over e f h =
     grounded_same (os ++ None ∷ []) us (board_with_sum b es) c e f (row_more os b.tableau.variables 0 b.tableau.listed es count over h)

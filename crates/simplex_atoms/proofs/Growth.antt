@@ -5,12 +5,12 @@ use Rattle.spec_tableaux.specs.Rows.{Entry}
 use Rattle.spec_tableaux.specs.Numbers.{Number}
 use Rattle.term_core.specs.declared.ids.TermId.{TermId}
 use Rattle.simplex_check.specs.Boards.{BoardView, board_with_variable, board_with_sum}
-use Rattle.simplex_atoms.specs.Atoms.{Ground, ground_of, Grows}
+use Rattle.simplex_atoms.specs.Atoms.{Ground, ground_of, GroundGrows}
 
 same_list : {A : Type 0} (xs ys : List A) → ys ≡ xs → ys ≡ xs ++ []
 same_list xs ys e = e ∙ sym (append-nil xs)
 
-pub grows_same : (os us : List (Option TermId)) (b c : BoardView) → us ≡ os → c ≡ b → Grows (ground_of os b) (ground_of us c)
+pub grows_same : (os us : List (Option TermId)) (b c : BoardView) → us ≡ os → c ≡ b → GroundGrows (ground_of os b) (ground_of us c)
 grows_same os us b c e f = record {
   more_owners = [];
   owners = same_list os us e;
@@ -20,7 +20,7 @@ grows_same os us b c e f = record {
   values = same_list b.values c.values (ap (λ (x : BoardView). x.values) f);
 }
 
-pub grows_variable : (os us : List (Option TermId)) (o : Option TermId) (b c : BoardView) → us ≡ os ++ o ∷ [] → c ≡ board_with_variable b → Grows (ground_of os b) (ground_of us c)
+pub grows_variable : (os us : List (Option TermId)) (o : Option TermId) (b c : BoardView) → us ≡ os ++ o ∷ [] → c ≡ board_with_variable b → GroundGrows (ground_of os b) (ground_of us c)
 grows_variable os us o b c e f = record {
   more_owners = o ∷ [];
   owners = e;
@@ -30,7 +30,7 @@ grows_variable os us o b c e f = record {
   values = ap (λ (x : BoardView). x.values) f;
 }
 
-pub grows_row : (os us : List (Option TermId)) (o : Option TermId) (b c : BoardView) (es : List (Entry Number)) → us ≡ os ++ o ∷ [] → c ≡ board_with_sum b es → Grows (ground_of os b) (ground_of us c)
+pub grows_row : (os us : List (Option TermId)) (o : Option TermId) (b c : BoardView) (es : List (Entry Number)) → us ≡ os ++ o ∷ [] → c ≡ board_with_sum b es → GroundGrows (ground_of os b) (ground_of us c)
 grows_row os us o b c es e f = record {
   more_owners = o ∷ [];
   owners = e;
@@ -40,7 +40,7 @@ grows_row os us o b c es e f = record {
   values = ap (λ (x : BoardView). x.values) f;
 }
 
-pub grows_on : (g h k : Ground) → Grows g h → Grows h k → Grows g k
+pub grows_on : (g h k : Ground) → GroundGrows g h → GroundGrows h k → GroundGrows g k
 grows_on g h k a b = record {
   more_owners = a.more_owners ++ b.more_owners;
   owners = b.owners ∙ ap (λ l. l ++ b.more_owners) a.owners ∙ append_assoc g.owners a.more_owners b.more_owners;

@@ -13,7 +13,7 @@ use Rattle.spec_tableaux.specs.Numbers.{Number, numbers, fractions}
 use Rattle.spec_tableaux.proofs.Numbers.{numbers_are_ordered_field}
 use Rattle.spec_tableaux.proofs.Signs.{sum_zero_right, zero_product, opposite_zero}
 use Rattle.spec_simplex.specs.Constraints.{Relation, below, at_most, equals, at_least, above, Constraint, saying, where_true, constraint_by, form_of}
-use Rattle.spec_simplex.specs.Points.{Point, base_at, tilt_at, stands, Keeps}
+use Rattle.spec_simplex.specs.Points.{Point, base_at, tilt_at, stands, KeepsLiteral}
 use Rattle.spec_simplex.proofs.PairOrder.{stands_below, stands_above, stands_equals}
 use Rattle.term_core.specs.declared.ids.Lit.{Lit}
 use Rattle.tableau.specs.Numbers.{number_of}
@@ -25,8 +25,8 @@ use Rattle.simplex_atoms.specs.declared.place.Kind.{Kind}
 use Rattle.simplex_atoms.specs.declared.place.Kind.TheVariants as kinds
 use Rattle.simplex_atoms.specs.declared.place.Place.{Place}
 use Rattle.simplex_atoms.specs.Owners.{AreOwned}
-use Rattle.simplex_atoms.specs.Places.{Setting, relation_meant, relation_by, IsPlaced}
-use Rattle.simplex_atoms.specs.Limits.{Limit, limit_on, limits_where, limits_by, IsKept, AreKept}
+use Rattle.simplex_atoms.specs.Places.{AtomSetting, relation_meant, relation_by, IsPlaced}
+use Rattle.simplex_atoms.specs.Limits.{Limit, limit_on, limits_where, limits_by, KeepsLimit, AreLimitsKept}
 use Rattle.simplex_atoms.proofs.Values.{base_comes, tilt_comes}
 
 -- a number without an infinitesimal part
@@ -138,10 +138,10 @@ module _ (place : Place) (l : Lit) (v : ℕ → Pair Number) (z : numbers.is_zer
       less_right (number_of place.factor) (number_of place.constant) (number_of place.bound) x z e ∙ ap (λ b. cond b (deltas.less goal x) (deltas.less x goal)) p
 
   -- the first of the bounds is kept
-  head : (side : Side) (strict : Bool) (bs : List Limit) → AreKept v (limit_on place l side strict ∷ bs) → IsKept v (limit_on place l side strict)
-  head side strict bs h = All-head (IsKept v) (limit_on place l side strict) bs h
+  head : (side : Side) (strict : Bool) (bs : List Limit) → AreLimitsKept v (limit_on place l side strict ∷ bs) → KeepsLimit v (limit_on place l side strict)
+  head side strict bs h = All-head (KeepsLimit v) (limit_on place l side strict) bs h
 
-  kept_stands : (r : Relation) (up : Bool) → is_positive numbers (number_of place.factor) ≡ up → AreKept v (limits_where (Some r) up place l)
+  kept_stands : (r : Relation) (up : Bool) → is_positive numbers (number_of place.factor) ≡ up → AreLimitsKept v (limits_where (Some r) up place l)
       → stands r value.base.fraction value.tilt.fraction ≡ true
   kept_stands below true p h = stands_below value ∙ stands_left true p ∙ under_upper (number_of place.bound) x (head Upper true [] h)
   kept_stands below false p h = stands_below value ∙ stands_left false p ∙ over_lower (number_of place.bound) x (head Lower true [] h)
@@ -154,7 +154,7 @@ module _ (place : Place) (l : Lit) (v : ℕ → Pair Number) (z : numbers.is_zer
   kept_stands equals up p h =
       let upper = limit_on place l Upper false in
       let same : x ≡ goal =
-      deltas_are_ordered.less_total x goal (head Lower false (upper ∷ []) h) (All-head (IsKept v) upper [] (All-tail (IsKept v) (limit_on place l Lower false) (upper ∷ []) h)) in
+      deltas_are_ordered.less_total x goal (head Lower false (upper ∷ []) h) (All-head (KeepsLimit v) upper [] (All-tail (KeepsLimit v) (limit_on place l Lower false) (upper ∷ []) h)) in
       (stands_equals value).1
       (ap (λ (y : Pair Number). come (number_of place.factor) y (number_of place.constant)) same
       ∙ bound_nought (number_of place.factor) (number_of place.constant) (number_of place.bound) z e)
@@ -210,12 +210,12 @@ agree t true c d k p r q =
 agree t false c d k p r q = negatively t c d k p r q
 
 -- the law
-pub kept : (s : Setting) (place : Place) (atom : Term) → IsPlaced s place atom → (p : Point) (v : ℕ → Pair Number) → AreOwned s.table s.owners p v → Solves deltas v s.listed
-    → (l : Lit) → AreKept v (limits_by place l) → Keeps p (record { atom = atom; positive = l.positive })
+pub kept : (s : AtomSetting) (place : Place) (atom : Term) → IsPlaced s place atom → (p : Point) (v : ℕ → Pair Number) → AreOwned s.table s.owners p v → Solves deltas v s.listed
+    → (l : Lit) → AreLimitsKept v (limits_by place l) → KeepsLiteral p (record { atom = atom; positive = l.positive })
 kept s place atom is p v o h l bounds d says f has =
     let both = agree atom l.positive is.constraint d place.kind is.says is.kind says in
     let form : f ≡ is.form = same_ok f is.form (sym has ∙ both.1 ∙ is.has) in
-    let Bounds : Option Relation → Type 0 = λ r. AreKept v (limits_where r (is_positive numbers (number_of place.factor)) place l) in
+    let Bounds : Option Relation → Type 0 = λ r. AreLimitsKept v (limits_where r (is_positive numbers (number_of place.factor)) place l) in
     let there = kept_stands place l v is.is.factor is.is.bound d.relation _ refl (subst Bounds both.0 bounds) in
     let base = ap (base_at p) form ∙ base_comes s place is.form is.is p v o h in
     let tilt = ap (tilt_at p) form ∙ tilt_comes s place is.form is.is p v o h ∙ ap (λ (n : Number). n.fraction) (sym (sum_zero_right numbers numbers_are_ordered_field (numbers.times (number_of place.factor) (v place.variable).tilt))) in

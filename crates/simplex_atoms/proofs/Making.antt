@@ -9,7 +9,7 @@ use Rattle.spec_causes.specs.Standing.{AreEntriesOf}
 use Rattle.spec_causes.specs.Reached.{IsLonger}
 use Rattle.spec_tableaux.specs.Spaces.{Space, as_space}
 use Rattle.spec_tableaux.specs.Rows.{Entry as RowEntry, Row, Holds, Solves, sum_of}
-use Rattle.spec_tableaux.specs.SolvedForms.{IsOver}
+use Rattle.spec_tableaux.specs.SolvedForms.{AllVariables}
 use Rattle.spec_tableaux.specs.Numbers.{Number, numbers, fractions}
 use Rattle.spec_tableaux.proofs.Numbers.{numbers_are_ordered_field}
 use Rattle.spec_tableaux.proofs.Signs.{sum_zero_right}
@@ -36,8 +36,8 @@ use Rattle.simplex_atoms.specs.Standings.{owner_meant}
 use Rattle.simplex_atoms.specs.Stops.{of_row}
 use Rattle.simplex_atoms.specs.Owners.{owner_at}
 use Rattle.simplex_atoms.specs.Places.{IsSign, IsFormOf}
-use Rattle.simplex_atoms.specs.Atoms.{Ground, ground_of, setting_of, Grows, IsMultiple}
-use Rattle.simplex_atoms.specs.Watching.{AreNumbered, OnWide, StrainsForm, bound, row}
+use Rattle.simplex_atoms.specs.Atoms.{Ground, ground_of, setting_of, GroundGrows, IsMultiple}
+use Rattle.simplex_atoms.specs.Watching.{EntriesAreNumbered, OnAtomOverflow, StrainsForm, bound, row}
 use Rattle.simplex_atoms.specs.Made as made
 use Rattle.simplex_atoms.specs.Made.{IsMade, Covers, IsOnEntry, IsSingle, StrainsEntries}
 use Rattle.simplex_atoms.proofs.Numbered.{numbered_kept, numbered_value, numbered_entries}
@@ -54,22 +54,22 @@ wide_as x y d (Ok p) w e h is = absurd is
 wide_as x y d (Err v) w e h is = subst (λ (u : Wide). divided y d ≡ Err (overflow u)) (sym is) (ap (λ z. divided z d) (sym e) ∙ h)
 
 pub row_strains : (b c : BoardView) (constant : Ratio) (es : List Entry) (s : RowStop) (r : Result ℕ AtomStop) → c ≡ b
-    → views.OnWide (StrainsNew (state_of b) (entries_of es)) s → IsErrAnd r (λ e. e ≡ of_row s) → IfErr r (OnWide (StrainsEntries c constant es))
+    → views.OnRowOverflow (StrainsNew (state_of b) (entries_of es)) s → IsErrAnd r (λ e. e ≡ of_row s) → IfErr r (OnAtomOverflow (StrainsEntries c constant es))
 row_strains b c constant es s (Ok y) e h is = absurd is
-row_strains b c constant es s (Err a) e h is = subst (OnWide (StrainsEntries c constant es)) (sym is) (by s h)
+row_strains b c constant es s (Err a) e h is = subst (OnAtomOverflow (StrainsEntries c constant es)) (sym is) (by s h)
   where
-    by : (s : RowStop) → views.OnWide (StrainsNew (state_of b) (entries_of es)) s → OnWide (StrainsEntries c constant es) (of_row s)
+    by : (s : RowStop) → views.OnRowOverflow (StrainsNew (state_of b) (entries_of es)) s → OnAtomOverflow (StrainsEntries c constant es) (of_row s)
     by (rows.Wide w) h = made.row (subst (λ (x : BoardView). StrainsNew (state_of x) (entries_of es) (overflow w)) (sym e) h)
     by rows.Memory h = tt
 
-pub stop_wide : (P : Overflow → Type 0) (s : AtomStop) (r : Result Place AtomStop) → OnWide P s → IsErrAnd r (λ e. e ≡ s) → IfErr r (OnWide P)
+pub stop_wide : (P : Overflow → Type 0) (s : AtomStop) (r : Result Place AtomStop) → OnAtomOverflow P s → IsErrAnd r (λ e. e ≡ s) → IfErr r (OnAtomOverflow P)
 stop_wide P s (Ok p) h is = absurd is
-stop_wide P s (Err e) h is = subst (OnWide P) (sym is) h
+stop_wide P s (Err e) h is = subst (OnAtomOverflow P) (sym is) h
 
 pub variable_strains : (b : BoardView) (constant : Ratio) (es : List Entry) (e : Entry) (w : Wide) (r : Result Place AtomStop) → es ≡ e ∷ []
-    → divided (opposite (fraction constant)) (fraction e.coefficient) ≡ Err (overflow w) → IsErrAnd r (λ s. s ≡ stops.Wide w) → IfErr r (OnWide (StrainsEntries b constant es))
+    → divided (opposite (fraction constant)) (fraction e.coefficient) ≡ Err (overflow w) → IsErrAnd r (λ s. s ≡ stops.Wide w) → IfErr r (OnAtomOverflow (StrainsEntries b constant es))
 variable_strains b constant es e w (Ok p) is h k = absurd k
-variable_strains b constant es e w (Err a) is h k = subst (OnWide (StrainsEntries b constant es)) (sym k) (made.bound e is h)
+variable_strains b constant es e w (Err a) is h k = subst (OnAtomOverflow (StrainsEntries b constant es)) (sym k) (made.bound e is h)
 
 -- a row
 
@@ -90,10 +90,10 @@ row_is_sum os us b c es y count e f is = record {
 -- a place on a variable
 
 pub variable_covers : (os : List (Option TermId)) (b : BoardView) (es : List Entry) (e : Entry) (p : Place) → length os ≡ b.tableau.variables
-    → IsOver (λ y. y < b.tableau.variables) (entries_of es) → es ≡ e ∷ [] → p.variable ≡ e.variable → p.factor ≡ e.coefficient → Covers (ground_of os b) es p
+    → AllVariables (λ y. y < b.tableau.variables) (entries_of es) → es ≡ e ∷ [] → p.variable ≡ e.variable → p.factor ≡ e.coefficient → Covers (ground_of os b) es p
 variable_covers os b es e p count over is y k = record {
   variable =
-      let Over : List Entry → Type 0 = λ xs. IsOver (λ y. y < b.tableau.variables) (entries_of xs) in
+      let Over : List Entry → Type 0 = λ xs. AllVariables (λ y. y < b.tableau.variables) (entries_of xs) in
       let first = (subst Over is over).0 in omega (arith, first, y, count);
   sum = λ v h.
       ap (λ (xs : List Entry). sum_of (as_space numbers) v (entries_of xs)) is
@@ -116,18 +116,18 @@ row_on es (Ok p) h = inr h
 row_on es (Err s) h = tt
 
 -- an entry that is alone is that of the one variable
-one_of : (os : List (Option TermId)) (e : Entry) (xs : List (TermId × Ratio)) → AreNumbered os (e ∷ []) xs
+one_of : (os : List (Option TermId)) (e : Entry) (xs : List (TermId × Ratio)) → EntriesAreNumbered os (e ∷ []) xs
     → (x : TermId × Ratio) × (xs ≡ x ∷ []) × (e.coefficient ≡ x.1) × (owner_at os e.variable ≡ Some x.0)
 one_of os e [] h = absurd h
 one_of os e (x ∷ []) h = (x, refl, h.0.coefficient, h.0.owner)
 one_of os e (x ∷ y ∷ xs) h = absurd h.1
 
 -- a variable that stands for no term is not that of an entry
-unit_of : (os : List (Option TermId)) (es : List Entry) (xs : List (TermId × Ratio)) (p : Place) → AreNumbered os es xs → IsOnEntry es p → owner_at os p.variable ≡ None
+unit_of : (os : List (Option TermId)) (es : List Entry) (xs : List (TermId × Ratio)) (p : Place) → EntriesAreNumbered os es xs → IsOnEntry es p → owner_at os p.variable ≡ None
     → IsSign (number_of p.factor)
 unit_of os es xs p numbered (inr u) none = u
 unit_of os es xs p numbered (inl (e, is, y)) none =
-    let one = one_of os e xs (subst (λ l. AreNumbered os l xs) is numbered) in
+    let one = one_of os e xs (subst (λ l. EntriesAreNumbered os l xs) is numbered) in
     absurd (none_some one.0.0 (sym none ∙ ap (owner_at os) y ∙ one.3))
   where
     none_some : (id : TermId) → (let o : Option TermId = None in o) ≡ Some id → ⊥
@@ -135,10 +135,10 @@ unit_of os es xs p numbered (inl (e, is, y)) none =
 
 -- a place is that of its form
 pub formed : (t : TableView) (os : List (Option TermId)) (b : BoardView) (g : Ground) (f : FormView) (xs : List (TermId × Ratio)) (es : List Entry) (kind : Kind) (constant : Ratio) (p : Place)
-    → map pair_view xs ≡ f.variables → fraction constant ≡ f.constant → AreNumbered os es xs → Grows (ground_of os b) g → IsMade kind constant p → Covers g es p → IsOnEntry es p
+    → map pair_view xs ≡ f.variables → fraction constant ≡ f.constant → EntriesAreNumbered os es xs → GroundGrows (ground_of os b) g → IsMade kind constant p → Covers g es p → IsOnEntry es p
     → IsFormOf (setting_of t g) p (form_meant t f)
 formed t os b g f xs es kind constant p vs k numbered grows m covers on =
-    let all : AreNumbered g.owners es xs = subst (λ l. AreNumbered l es xs) (sym grows.owners) (numbered_kept os grows.more_owners es xs numbered) in
+    let all : EntriesAreNumbered g.owners es xs = subst (λ l. EntriesAreNumbered l es xs) (sym grows.owners) (numbered_kept os grows.more_owners es xs numbered) in
     record {
       factor = m.factor;
       bound = m.bound;
@@ -152,14 +152,14 @@ formed t os b g f xs es kind constant p vs k numbered grows m covers on =
 
 -- what the place of a form comes to
 pub form_strains : (os : List (Option TermId)) (b : BoardView) (g : Ground) (f : FormView) (xs : List (TermId × Ratio)) (es : List Entry) (constant : Ratio) (s : AtomStop)
-    → map pair_view xs ≡ f.variables → fraction constant ≡ f.constant → AreNumbered os es xs → Grows (ground_of os b) g
-    → OnWide (StrainsEntries g.board constant es) s → OnWide (λ o. (t : TableView) → StrainsForm t g.owners g.board (form_meant t f) o) s
+    → map pair_view xs ≡ f.variables → fraction constant ≡ f.constant → EntriesAreNumbered os es xs → GroundGrows (ground_of os b) g
+    → OnAtomOverflow (StrainsEntries g.board constant es) s → OnAtomOverflow (λ o. (t : TableView) → StrainsForm t g.owners g.board (form_meant t f) o) s
 form_strains os b g f xs es constant stops.Memory vs k numbered grows h = tt
 form_strains os b g f xs es constant (stops.Wide w) vs k numbered grows (made.row h) = λ t.
-    let all : AreNumbered g.owners es xs = subst (λ l. AreNumbered l es xs) (sym grows.owners) (numbered_kept os grows.more_owners es xs numbered) in
+    let all : EntriesAreNumbered g.owners es xs = subst (λ l. EntriesAreNumbered l es xs) (sym grows.owners) (numbered_kept os grows.more_owners es xs numbered) in
     row (entries_of es) (subst (λ (l : List (TermId × Fraction)). AreEntriesOf (map (owner_meant t) g.owners) (entries_of es) (map (pair_meant t) l)) vs (numbered_entries t g.owners es xs all)) h
 form_strains os b g f xs es constant (stops.Wide w) vs k numbered grows (made.bound e is h) = λ t.
-    let one = one_of os e xs (subst (λ l. AreNumbered os l xs) is numbered) in
+    let one = one_of os e xs (subst (λ l. EntriesAreNumbered os l xs) is numbered) in
     bound (term_at t one.0.0) (fraction e.coefficient)
     (ap (λ (l : List (TermId × Fraction)). map (pair_meant t) l) (sym vs ∙ ap (λ l. map pair_view l) one.1) ∙ (λ i. (term_at t one.0.0, fraction (sym one.2 i)) ∷ []))
     (ap (λ z. divided (opposite z) (fraction e.coefficient)) (sym k) ∙ h)
@@ -167,13 +167,13 @@ form_strains os b g f xs es constant (stops.Wide w) vs k numbered grows (made.bo
 -- the same by the result of a call
 
 pub result_formed : (os : List (Option TermId)) (b : BoardView) (g : Ground) (f : FormView) (xs : List (TermId × Ratio)) (es : List Entry) (kind : Kind) (constant : Ratio) (r : Result Place AtomStop)
-    → map pair_view xs ≡ f.variables → fraction constant ≡ f.constant → AreNumbered os es xs → Grows (ground_of os b) g → IfOk r (IsMade kind constant) → IfOk r (Covers g es) → IfOk r (IsOnEntry es)
+    → map pair_view xs ≡ f.variables → fraction constant ≡ f.constant → EntriesAreNumbered os es xs → GroundGrows (ground_of os b) g → IfOk r (IsMade kind constant) → IfOk r (Covers g es) → IfOk r (IsOnEntry es)
     → IfOk r (λ p. (t : TableView) → IsFormOf (setting_of t g) p (form_meant t f))
 result_formed os b g f xs es kind constant (Ok p) vs k numbered grows m covers on = λ t. formed t os b g f xs es kind constant p vs k numbered grows m covers on
 result_formed os b g f xs es kind constant (Err s) vs k numbered grows m covers on = tt
 
 pub result_strains : (os : List (Option TermId)) (b : BoardView) (g : Ground) (f : FormView) (xs : List (TermId × Ratio)) (es : List Entry) (constant : Ratio) (r : Result Place AtomStop)
-    → map pair_view xs ≡ f.variables → fraction constant ≡ f.constant → AreNumbered os es xs → Grows (ground_of os b) g
-    → IfErr r (OnWide (StrainsEntries g.board constant es)) → IfErr r (OnWide (λ o. (t : TableView) → StrainsForm t g.owners g.board (form_meant t f) o))
+    → map pair_view xs ≡ f.variables → fraction constant ≡ f.constant → EntriesAreNumbered os es xs → GroundGrows (ground_of os b) g
+    → IfErr r (OnAtomOverflow (StrainsEntries g.board constant es)) → IfErr r (OnAtomOverflow (λ o. (t : TableView) → StrainsForm t g.owners g.board (form_meant t f) o))
 result_strains os b g f xs es constant (Ok p) vs k numbered grows h = tt
 result_strains os b g f xs es constant (Err s) vs k numbered grows h = form_strains os b g f xs es constant s vs k numbered grows h

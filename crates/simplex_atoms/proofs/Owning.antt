@@ -7,7 +7,7 @@ use Rattle.std.proofs.lemmas.Option.{none-some, same_Some}
 use Rattle.term_core.specs.declared.ids.TermId.{TermId}
 use Rattle.term_core.specs.Tables.{TableView, IsIn}
 use Rattle.term_core.proofs.Numbers.{same_id}
-use Rattle.simplex_atoms.specs.Owners.{owner_at, IsNumberOf, AreOnce, AreOwnersIn, IsInverse}
+use Rattle.simplex_atoms.specs.Owners.{owner_at, IsNumberOf, AreOwnedOnce, AreOwnersIn, IsInverse}
 
 pub owner_kept : (os more : List (Option TermId)) (y : ℕ) (id : TermId) → owner_at os y ≡ Some id → owner_at (os ++ more) y ≡ Some id
 owner_kept [] more y id h = absurd (none-some id h)
@@ -55,7 +55,7 @@ owners_term t os new there h y id e = by (owner_came os (Some new) y id e)
 
 -- the index
 
-pub inverse_once : (g : ℕ → Option ℕ) (os : List (Option TermId)) → IsInverse g os → AreOnce os
+pub inverse_once : (g : ℕ → Option ℕ) (os : List (Option TermId)) → IsInverse g os → AreOwnedOnce os
 inverse_once g os i x y id h k = same_Some x y (sym (i.tells_all x id h) ∙ i.tells_all y id k)
 
 pub inverse_tells : (g : ℕ → Option ℕ) (os : List (Option TermId)) (id : TermId) (o : Option ℕ) → IsInverse g os → g id.0 ≡ o → IsNumberOf os id o

@@ -15,7 +15,7 @@ use Rattle.tableau.specs.declared.entries.Entry.{Entry as CodeEntry}
 use Rattle.tableau.specs.Numbers.{number_of}
 use Rattle.tableau.specs.Entries.{entry_of, entries_of}
 use Rattle.simplex_atoms.specs.declared.keys.Key.{Key}
-use Rattle.simplex_atoms.specs.Sums.{sign_by, signed, signed_entries, pair_meant, pairs_meant, key_meant, IsKeyOf}
+use Rattle.simplex_atoms.specs.Sums.{sign_by, with_sign, signed_entries, pair_meant, pairs_meant, key_meant, IsKeyOf}
 use Rattle.simplex_atoms.proofs.Summing.{total_reordered}
 
 -- one entry more
@@ -24,7 +24,7 @@ negated_more : (es : List (Entry Number)) (e : Entry Number) → negated numbers
 negated_more [] e = refl
 negated_more (x ∷ es) e = ap (λ (l : List (Entry Number)). record { variable = x.variable; coefficient = numbers.opposite x.coefficient } ∷ l) (negated_more es e)
 
-signed_more : (b : Bool) (es : List (Entry Number)) (e : Entry Number) → signed_entries b (es ++ e ∷ []) ≡ signed_entries b es ++ record { variable = e.variable; coefficient = signed b e.coefficient } ∷ []
+signed_more : (b : Bool) (es : List (Entry Number)) (e : Entry Number) → signed_entries b (es ++ e ∷ []) ≡ signed_entries b es ++ record { variable = e.variable; coefficient = with_sign b e.coefficient } ∷ []
 signed_more false es e = refl
 signed_more true es e = negated_more es e
 
@@ -33,7 +33,7 @@ listed_none false es ps e = ap pairs_meant e
 listed_none true es ps e = ap pairs_meant e
 
 pub listed_step : (b : Bool) (es : List CodeEntry) (i : ℕ) (e : CodeEntry) (k : Ratio) (ps qs : List (ℕ × Ratio)) → pairs_meant ps ≡ signed_entries b (entries_of (take i es)) → i < length es → e ≡ get_or es i e
-    → number_of k ≡ signed b (number_of e.coefficient) → qs ≡ ps ++ (e.variable, k) ∷ [] → pairs_meant qs ≡ signed_entries b (entries_of (take (i + 1) es))
+    → number_of k ≡ with_sign b (number_of e.coefficient) → qs ≡ ps ++ (e.variable, k) ∷ [] → pairs_meant qs ≡ signed_entries b (entries_of (take (i + 1) es))
 listed_step b es i e k ps qs h lt is sign pushed =
     let taken : take (i + 1) es ≡ take i es ++ e ∷ [] = ap (λ n. take n es) (add-one i) ∙ take-suc es i e lt ∙ ap (λ x. take i es ++ x ∷ []) (sym is) in
     ap pairs_meant pushed ∙ map_push pair_meant ps (e.variable, k)

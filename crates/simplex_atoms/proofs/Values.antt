@@ -13,9 +13,9 @@ use Rattle.tableau.specs.Numbers.{number_of}
 use Rattle.spec_strains.specs.Points.{deltas}
 use Rattle.simplex_atoms.specs.declared.place.Place.{Place}
 use Rattle.simplex_atoms.specs.Owners.{AreOwned}
-use Rattle.simplex_atoms.specs.Places.{Setting, IsFormOf}
+use Rattle.simplex_atoms.specs.Places.{AtomSetting, IsFormOf}
 
-module _ (s : Setting) (place : Place) (f : Form) (is : IsFormOf s place f) where
+module _ (s : AtomSetting) (place : Place) (f : Form) (is : IsFormOf s place f) where
   -- over numbers
   pub form_comes : (n : Term → Number) (v : ℕ → Number) → AreOwned s.table s.owners n v → Solves (as_space numbers) v s.listed
       → form_value (λ u. (n u).fraction) f ≡ (numbers.plus (numbers.times (number_of place.factor) (v place.variable)) (number_of place.constant)).fraction

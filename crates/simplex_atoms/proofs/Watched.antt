@@ -13,11 +13,11 @@ use Rattle.simplex_atoms.specs.declared.place.Place.{Place}
 use Rattle.simplex_atoms.specs.declared.reading.Sides.{Sides}
 use Rattle.simplex_atoms.specs.declared.stop.AtomStop.{AtomStop}
 use Rattle.simplex_atoms.specs.declared.stop.AtomStop.TheVariants as stops
-use Rattle.simplex_atoms.specs.Owners.{AreOnce, AreOwnersIn}
+use Rattle.simplex_atoms.specs.Owners.{AreOwnedOnce, AreOwnersIn}
 use Rattle.simplex_atoms.specs.Places.{relation_meant, IsFormOf, place_in}
-use Rattle.simplex_atoms.specs.Atoms.{AtomsView, ground_of, setting_of, AreCounted, IsGrounded, Grows, AreSums, IsPlaceOf, AreRight}
+use Rattle.simplex_atoms.specs.Atoms.{AtomsView, ground_of, setting_of, AreCounted, IsGrounded, GroundGrows, AreSums, IsPlaceOf, AtomsFit}
 use Rattle.simplex_atoms.specs.Sums.{Sum}
-use Rattle.simplex_atoms.specs.Watching.{constraint_meant, Forms, OnWide, StrainsForm, StrainsAtom, in_form, in_place, IsWatched}
+use Rattle.simplex_atoms.specs.Watching.{constraint_meant, Forms, OnAtomOverflow, StrainsForm, StrainsAtom, in_form, in_place, IsWatched}
 use Rattle.simplex_atoms.proofs.Fitting.{placed_on}
 
 -- atoms with these parts
@@ -25,9 +25,9 @@ abbrev pub atoms_of : List (Option TermId) → List Sum → List (ℕ × Place) 
 atoms_of os sums placed = record { owners = os; sums = sums; placed = placed }
 
 -- more variables, and places as before
-pub right_on : (t : TableView) (os us : List (Option TermId)) (ss rs : List Sum) (old new : List (ℕ × Place)) (b c : BoardView) (bounds more : BoundsView) → AreRight t (atoms_of os ss old) b bounds
-    → new ≡ old → AreSums (ground_of us c) rs → AreCounted (ground_of us c) → (IsGrounded (ground_of os b) → IsGrounded (ground_of us c)) → Grows (ground_of os b) (ground_of us c) → AreOwnersIn t us → AreOnce us → bounds.variables ≤ more.variables → more.variables ≤ c.tableau.variables
-    → AreRight t (atoms_of us rs new) c more
+pub right_on : (t : TableView) (os us : List (Option TermId)) (ss rs : List Sum) (old new : List (ℕ × Place)) (b c : BoardView) (bounds more : BoundsView) → AtomsFit t (atoms_of os ss old) b bounds
+    → new ≡ old → AreSums (ground_of us c) rs → AreCounted (ground_of us c) → (IsGrounded (ground_of os b) → IsGrounded (ground_of us c)) → GroundGrows (ground_of os b) (ground_of us c) → AreOwnersIn t us → AreOwnedOnce us → bounds.variables ≤ more.variables → more.variables ≤ c.tableau.variables
+    → AtomsFit t (atoms_of us rs new) c more
 right_on t os us ss rs old new b c bounds more r same sums counted grounded grows there once le within = record {
   counted = counted;
   within = within;
@@ -41,7 +41,7 @@ right_on t os us ss rs old new b c bounds more r same sums counted grounded grow
 }
 
 -- no variable went
-pub reach_stays : (os us : List (Option TermId)) (b c : BoardView) (n : ℕ) → AreCounted (ground_of os b) → AreCounted (ground_of us c) → Grows (ground_of os b) (ground_of us c) → n ≤ b.tableau.variables → n ≤ c.tableau.variables
+pub reach_stays : (os us : List (Option TermId)) (b c : BoardView) (n : ℕ) → AreCounted (ground_of os b) → AreCounted (ground_of us c) → GroundGrows (ground_of os b) (ground_of us c) → n ≤ b.tableau.variables → n ≤ c.tableau.variables
 reach_stays os us b c n x y grows le =
     omega (arith, x, y, le, ap (λ (l : List (Option TermId)). length l) grows.owners, length-append os grows.more_owners)
 
@@ -66,25 +66,25 @@ placed_now t us c n reach id sides f place there says has kind is count all = re
 
 module _ (t : TableView) (owners : List (Option TermId)) (b : BoardView) (id : TermId) (sides : Sides)
     (says : (let o : Option Constraint = Some (constraint_meant t sides) in o) ≡ constraint_of (positive_literal (term_at t id))) where
-  pub form_wide : (s : AtomStop) (r : Result (Unit {0}) AtomStop) → Forms t (form_of (constraint_meant t sides)) (Err s) → IsErrAnd r (λ e. e ≡ s) → IfErr r (OnWide (StrainsAtom t owners b id))
+  pub form_wide : (s : AtomStop) (r : Result (Unit {0}) AtomStop) → Forms t (form_of (constraint_meant t sides)) (Err s) → IsErrAnd r (λ e. e ≡ s) → IfErr r (OnAtomOverflow (StrainsAtom t owners b id))
   form_wide s (Ok u) h is = absurd is
-  form_wide s (Err e) h is = subst (OnWide (StrainsAtom t owners b id)) (sym is) (by s h)
+  form_wide s (Err e) h is = subst (OnAtomOverflow (StrainsAtom t owners b id)) (sym is) (by s h)
     where
-      by : (s : AtomStop) → Forms t (form_of (constraint_meant t sides)) (Err s) → OnWide (StrainsAtom t owners b id) s
+      by : (s : AtomStop) → Forms t (form_of (constraint_meant t sides)) (Err s) → OnAtomOverflow (StrainsAtom t owners b id) s
       by (stops.Wide w) h = in_form (constraint_meant t sides) (sym says) h.0 h.1 h.2
       by stops.Memory h = tt
 
   pub place_wide : (f : FormView) (s : AtomStop) (r : Result (Unit {0}) AtomStop) → form_of (constraint_meant t sides) ≡ Ok (form_meant t f)
-      → OnWide (λ o. (t : TableView) → StrainsForm t owners b (form_meant t f) o) s → IsErrAnd r (λ e. e ≡ s) → IfErr r (OnWide (StrainsAtom t owners b id))
+      → OnAtomOverflow (λ o. (t : TableView) → StrainsForm t owners b (form_meant t f) o) s → IsErrAnd r (λ e. e ≡ s) → IfErr r (OnAtomOverflow (StrainsAtom t owners b id))
   place_wide f s (Ok u) has h is = absurd is
-  place_wide f s (Err e) has h is = subst (OnWide (StrainsAtom t owners b id)) (sym is) (by s h)
+  place_wide f s (Err e) has h is = subst (OnAtomOverflow (StrainsAtom t owners b id)) (sym is) (by s h)
     where
-      by : (s : AtomStop) → OnWide (λ o. (t : TableView) → StrainsForm t owners b (form_meant t f) o) s → OnWide (StrainsAtom t owners b id) s
+      by : (s : AtomStop) → OnAtomOverflow (λ o. (t : TableView) → StrainsForm t owners b (form_meant t f) o) s → OnAtomOverflow (StrainsAtom t owners b id) s
       by (stops.Wide w) h = in_place (constraint_meant t sides) (sym says) (form_meant t f) has (h t)
       by stops.Memory h = tt
 
 -- what has a place says something
-pub watched_before : (t : TableView) (a : AtomsView) (b : BoardView) (bounds : BoundsView) (id : TermId) → AreRight t a b bounds → is_some (place_in a.placed id) ≡ true
+pub watched_before : (t : TableView) (a : AtomsView) (b : BoardView) (bounds : BoundsView) (id : TermId) → AtomsFit t a b bounds → is_some (place_in a.placed id) ≡ true
     → IsWatched (place_in a.placed id) (constraint_of (positive_literal (term_at t id)))
 watched_before t a b bounds id r there = by (place_in a.placed id) refl there
   where

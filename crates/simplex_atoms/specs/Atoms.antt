@@ -8,9 +8,9 @@ use Rattle.term_core.specs.Tables.{TableView, term_at, IsIn}
 use Rattle.simplex_bounds.specs.Held.{BoundsView}
 use Rattle.simplex_check.specs.Boards.{BoardView}
 use Rattle.simplex_atoms.specs.declared.place.Place.{Place}
-use Rattle.simplex_atoms.specs.Owners.{AreOnce, AreOwnersIn}
+use Rattle.simplex_atoms.specs.Owners.{AreOwnedOnce, AreOwnersIn}
 use Rattle.simplex_atoms.specs.Grounded.{AreGrounded}
-use Rattle.simplex_atoms.specs.Places.{Setting, IsPlaced, place_in}
+use Rattle.simplex_atoms.specs.Places.{AtomSetting, IsPlaced, place_in}
 use Rattle.simplex_atoms.specs.Sums.{sign_by, Sum}
 
 -- For each variable the term that it stands for, the sums that have rows, and the places of atoms.
@@ -37,7 +37,7 @@ abbrev pub IsGrounded : Ground → Type 0
 IsGrounded g = AreGrounded g.owners 0 g.board.tableau.listed g.board.tableau.variables
 
 -- Variables and rows came after those that were there.
-pub record Grows (old new : Ground) : Type 0 where
+pub record GroundGrows (old new : Ground) : Type 0 where
   -- what the variables that came stand for
   pub more_owners : List (Option TermId)
   pub owners : new.owners ≡ old.owners ++ more_owners
@@ -74,21 +74,21 @@ abbrev pub ground_of : List (Option TermId) → BoardView → Ground
 ground_of owners board = record { owners = owners; board = board }
 
 -- what places are read by
-abbrev pub setting_of : TableView → Ground → Setting
+abbrev pub setting_of : TableView → Ground → AtomSetting
 setting_of t g = record { table = t; owners = g.owners; listed = g.board.tableau.listed }
 
 -- A place of an atom is its place, and bounds can be held of its variable.
-pub record IsPlaceOf (s : Setting) (reach : ℕ) (id : TermId) (place : Place) : Type 0 where
+pub record IsPlaceOf (s : AtomSetting) (reach : ℕ) (id : TermId) (place : Place) : Type 0 where
   pub is_in : IsIn s.table id
   pub is : IsPlaced s place (term_at s.table id)
   pub reached : place.variable < reach
 
 -- each place that an atom has is its place
-abbrev pub ArePlaced : Setting → ℕ → List (ℕ × Place) → Type 0
+abbrev pub ArePlaced : AtomSetting → ℕ → List (ℕ × Place) → Type 0
 ArePlaced s reach placed = (id : TermId) (place : Place) → place_in placed id ≡ Some place → IsPlaceOf s reach id place
 
 -- Atoms fit a table, a board and bounds.
-pub record AreRight (t : TableView) (a : AtomsView) (b : BoardView) (bounds : BoundsView) : Type 0 where
+pub record AtomsFit (t : TableView) (a : AtomsView) (b : BoardView) (bounds : BoundsView) : Type 0 where
   -- there is an entry for each variable of the board
   pub counted : AreCounted (ground_of a.owners b)
   -- bounds can be held of variables of the board alone; of all of them, but where memory ran out
@@ -96,7 +96,7 @@ pub record AreRight (t : TableView) (a : AtomsView) (b : BoardView) (bounds : Bo
   -- the terms that variables stand for are of the table
   pub owners_in : AreOwnersIn t a.owners
   -- no two variables stand for one term
-  pub once : AreOnce a.owners
+  pub once : AreOwnedOnce a.owners
   -- rows as they were added have a solution for all values of terms
   pub grounded : IsGrounded (ground_of a.owners b)
   -- sums that are kept are those of their variables

@@ -1,7 +1,7 @@
 -- Rows that have a solution for all values of terms.
 use Rattle.std.specs.Prelude.{◌≡◌, ℕ, suc, ◌<◌, ◌≤◌, List, [], ◌∷◌, Option, None}
 use Rattle.spec_tableaux.specs.Rows.{Row}
-use Rattle.spec_tableaux.specs.SolvedForms.{IsOver}
+use Rattle.spec_tableaux.specs.SolvedForms.{AllVariables}
 use Rattle.spec_tableaux.specs.Numbers.{Number}
 use Rattle.term_core.specs.declared.ids.TermId.{TermId}
 use Rattle.simplex_atoms.specs.Owners.{owner_at}
@@ -11,5 +11,5 @@ use Rattle.simplex_atoms.specs.Owners.{owner_at}
 abbrev pub AreGrounded : List (Option TermId) → ℕ → List (Row Number) → ℕ → Type 0
 AreGrounded owners from [] to = from ≤ to
 AreGrounded owners from (r ∷ rs) to =
-    (from ≤ r.basic) × (owner_at owners r.basic ≡ None) × IsOver (λ y. y < r.basic) r.entries
+    (from ≤ r.basic) × (owner_at owners r.basic ≡ None) × AllVariables (λ y. y < r.basic) r.entries
     × AreGrounded owners (suc r.basic) rs to

@@ -81,12 +81,12 @@ violates Lower x b = is_below deltas x (Some b)
 violates Upper x b = is_above deltas x (Some b)
 
 -- values keep the bound
-abbrev pub IsKept : (ℕ → Pair Number) → Limit → Type 0
-IsKept v b = violates b.side (v b.variable) b.value ≡ false
+abbrev pub KeepsLimit : (ℕ → Pair Number) → Limit → Type 0
+KeepsLimit v b = violates b.side (v b.variable) b.value ≡ false
 
 -- values keep each of the bounds
-abbrev pub AreKept : (ℕ → Pair Number) → List Limit → Type 0
-AreKept v bs = All (IsKept v) bs
+abbrev pub AreLimitsKept : (ℕ → Pair Number) → List Limit → Type 0
+AreLimitsKept v bs = All (KeepsLimit v) bs
 
 -- a number with the sign of a side: an upper bound minus a value has the weight m, and a value minus a lower one
 abbrev pub signed_by : Side → Number → Number

@@ -14,8 +14,8 @@ IsNumberOf owners id (Some y) = owner_at owners y ≡ Some id
 IsNumberOf owners id None = (y : ℕ) → owner_at owners y ≡ Some id → ⊥
 
 -- no two variables stand for one term
-abbrev pub AreOnce : List (Option TermId) → Type 0
-AreOnce owners = (x y : ℕ) (id : TermId) → owner_at owners x ≡ Some id → owner_at owners y ≡ Some id → x ≡ y
+abbrev pub AreOwnedOnce : List (Option TermId) → Type 0
+AreOwnedOnce owners = (x y : ℕ) (id : TermId) → owner_at owners x ≡ Some id → owner_at owners y ≡ Some id → x ≡ y
 
 -- each term that a variable stands for is one of the table
 abbrev pub AreOwnersIn : TableView → List (Option TermId) → Type 0

@@ -18,7 +18,7 @@ use Rattle.simplex_atoms.specs.declared.place.Place.{Place}
 use Rattle.simplex_atoms.specs.Owners.{owner_at, AreOwned}
 
 -- What places are read by.
-pub record Setting : Type 0 where
+pub record AtomSetting : Type 0 where
   -- the terms
   pub table : TableView
   -- for each variable the term that it stands for, if it stands for one
@@ -47,7 +47,7 @@ abbrev pub IsSign : Number → Type 0
 IsSign k = (k ≡ numbers.one) ⊎ (k ≡ numbers.opposite numbers.one)
 
 -- The form is the factor times the variable, plus the constant, wherever the rows hold.
-pub record IsFormOf (s : Setting) (place : Place) (f : Form) : Type 0 where
+pub record IsFormOf (s : AtomSetting) (place : Place) (f : Form) : Type 0 where
   -- the factor is not 0
   pub factor : numbers.is_zero (number_of place.factor) ≡ false
   -- the form is 0 where the variable is at the bound
@@ -65,7 +65,7 @@ pub record IsFormOf (s : Setting) (place : Place) (f : Form) : Type 0 where
       ≡ (numbers.times (number_of place.factor) (v place.variable)).fraction
 
 -- The place of an atom: what it says of its form, and the variable of which the form is a multiple, but for a constant.
-pub record IsPlaced (s : Setting) (place : Place) (atom : Term) : Type 0 where
+pub record IsPlaced (s : AtomSetting) (place : Place) (atom : Term) : Type 0 where
   -- what the atom says
   pub constraint : Constraint
   pub says : constraint_of (positive_literal atom) ≡ Some constraint

@@ -44,8 +44,8 @@ ButForMemory P (Err (stops.Wide w)) = P
 ButForMemory P (Err stops.Memory) = Unit {0}
 
 -- over terms with an atom of the form f, simplex comes to the new ground if it came to the old one
-abbrev pub Leads : TableView → Form → Ground → Ground → Type 0
-Leads t f old new = (ts : List Term) (n : ℕ) (es : List (ℕ × ℕ)) → IsFormAmong ts f
+abbrev pub GroundLeads : TableView → Form → Ground → Ground → Type 0
+GroundLeads t f old new = (ts : List Term) (n : ℕ) (es : List (ℕ × ℕ)) → IsFormAmong ts f
     → IsReached ts n es (standing_in t old.owners old.board) → IsReached ts n es (standing_in t new.owners new.board)
 
 -- different numbers mean different terms, and those that variables stand for are of the table

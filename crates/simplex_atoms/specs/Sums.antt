@@ -17,9 +17,9 @@ sign_by false = numbers.one
 sign_by true = numbers.opposite numbers.one
 
 -- a number, or the opposite one
-abbrev pub signed : Bool → Number → Number
-signed false k = k
-signed true k = numbers.opposite k
+abbrev pub with_sign : Bool → Number → Number
+with_sign false k = k
+with_sign true k = numbers.opposite k
 
 -- entries, or those of the opposite sum
 abbrev pub signed_entries : Bool → List (Entry Number) → List (Entry Number)

@@ -60,15 +60,15 @@ pub record IsNumbered (owners : List (Option TermId)) (e : CodeEntry) (x : TermI
   pub coefficient : e.coefficient ≡ x.1
 
 -- so do entries for the variables, in order
-abbrev pub AreNumbered : List (Option TermId) → List CodeEntry → List (TermId × Ratio) → Type 0
-AreNumbered owners [] [] = Unit {0}
-AreNumbered owners (e ∷ es) (x ∷ xs) = IsNumbered owners e x × AreNumbered owners es xs
-AreNumbered owners _ _ = ⊥
+abbrev pub EntriesAreNumbered : List (Option TermId) → List CodeEntry → List (TermId × Ratio) → Type 0
+EntriesAreNumbered owners [] [] = Unit {0}
+EntriesAreNumbered owners (e ∷ es) (x ∷ xs) = IsNumbered owners e x × EntriesAreNumbered owners es xs
+EntriesAreNumbered owners _ _ = ⊥
 
 -- where the stop is an overflow, p holds of it
-abbrev pub OnWide : (Overflow → Type 0) → AtomStop → Type 0
-OnWide p (stops.Wide w) = p (overflow w)
-OnWide p stops.Memory = Unit {0}
+abbrev pub OnAtomOverflow : (Overflow → Type 0) → AtomStop → Type 0
+OnAtomOverflow p (stops.Wide w) = p (overflow w)
+OnAtomOverflow p stops.Memory = Unit {0}
 
 -- The form's first operation that leaves 128 bits, or the form that a table means, or out of memory, which says
 -- nothing.

@@ -8,8 +8,8 @@ ghost use Rattle.term_core.specs.Tables.{IsIn, term_at, positive_literal};
 ghost use Rattle.term_core.specs.declared.ids.TermId.{TermId as Number};
 ghost use Rattle.simplex_atoms.specs.Owners.{owner_at, IsNumberOf};
 ghost use Rattle.simplex_atoms.specs.Places.{place_in};
-ghost use Rattle.simplex_atoms.specs.Atoms.{ground_of, Grows, KeepBounds, AreRight};
-ghost use Rattle.simplex_atoms.specs.Watching.{OnWide, StrainsAtom, IsWatched};
+ghost use Rattle.simplex_atoms.specs.Atoms.{ground_of, GroundGrows, KeepBounds, AtomsFit};
+ghost use Rattle.simplex_atoms.specs.Watching.{OnAtomOverflow, StrainsAtom, IsWatched};
 ghost use Rattle.simplex_atoms.specs.Standings.{standing_in, ButForMemory};
 
 use crate::owners::Owners;
@@ -117,9 +117,9 @@ impl Atoms {
         bounds: &mut Bounds,
     ) -> Result<(), AtomStop>
         requires there { IsIn table.now id }
-        requires right { AreRight table.now self.old board.old bounds.old }
-        ensures right { AreRight table.now self.new board.new bounds.new }
-        ensures grows { Grows (ground_of self.old.owners board.old) (ground_of self.new.owners board.new) }
+        requires right { AtomsFit table.now self.old board.old bounds.old }
+        ensures right { AtomsFit table.now self.new board.new bounds.new }
+        ensures grows { GroundGrows (ground_of self.old.owners board.old) (ground_of self.new.owners board.new) }
         ensures bounds { KeepBounds bounds.old bounds.new }
         ensures watched { OnOk result (IsWatched (place_in self.new.placed id)
             (constraint_of (positive_literal (term_at table.now id)))) }
@@ -127,7 +127,7 @@ impl Atoms {
             → place_in self.new.placed other ≡ place_in self.old.placed other }
         ensures same { OnErr result ((other : Number)
             → place_in self.new.placed other ≡ place_in self.old.placed other) }
-        ensures wide { IfErr result (OnWide (StrainsAtom table.now self.new.owners board.new id)) }
+        ensures wide { IfErr result (OnAtomOverflow (StrainsAtom table.now self.new.owners board.new id)) }
         ensures plain { constraint_of (positive_literal (term_at table.now id)) ≡ None → board.new ≡ board.old }
         ensures came { (ts : List Term) (n : ℕ) (es : List (ℕ × ℕ)) → Contains ts (term_at table.now id)
             → IsReached ts n es (standing_in table.now self.old.owners board.old)

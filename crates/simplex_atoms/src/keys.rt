@@ -3,7 +3,7 @@
 ghost use Rattle.std.specs.Prelude.{◌≡◌, IfOk};
 ghost use Rattle.tableau.specs.Numbers.{number_of};
 ghost use Rattle.tableau.specs.Entries.{entries_of};
-ghost use Rattle.simplex_atoms.specs.Sums.{signed, signed_entries, begins_negative, pairs_meant, IsKeyOf};
+ghost use Rattle.simplex_atoms.specs.Sums.{with_sign, signed_entries, begins_negative, pairs_meant, IsKeyOf};
 
 use ratio128::Ratio;
 use std::alloc::Global;
@@ -32,7 +32,7 @@ fn begins_negative(entries: &[Entry]) -> bool
 
 /// Gives a number, or the opposite one.
 fn signed(number: Ratio, opposite: bool) -> Ratio
-    ensures { number_of result ≡ signed opposite (number_of number) }
+    ensures { number_of result ≡ with_sign opposite (number_of number) }
 {
     if opposite { negative(number) } else { number }
 }

@@ -8,7 +8,7 @@ ghost use Rattle.spec_tableaux.specs.Spaces.{Pair, as_space};
 ghost use Rattle.spec_tableaux.specs.Rows.{Solves};
 ghost use Rattle.spec_tableaux.specs.Numbers.{Number, numbers};
 ghost use Rattle.spec_simplex.specs.Constraints.{Relation};
-ghost use Rattle.spec_simplex.specs.Points.{Point, base_at, tilt_at, Keeps};
+ghost use Rattle.spec_simplex.specs.Points.{Point, base_at, tilt_at, KeepsLiteral};
 ghost use Rattle.spec_simplex.specs.Weights.{signed_weight};
 ghost use Rattle.ratio128.specs.Meant.{fraction};
 ghost use Rattle.term_core.specs.declared.ids.Lit.{Lit};
@@ -19,22 +19,22 @@ ghost use Rattle.simplex_bounds.specs.Held.{BoundsView};
 ghost use Rattle.simplex_check.specs.Boards.{BoardView, empty_board};
 ghost use Rattle.simplex_atoms.specs.declared.place.Place.{Place};
 ghost use Rattle.simplex_atoms.specs.Owners.{AreOwned};
-ghost use Rattle.simplex_atoms.specs.Places.{Setting, IsFormOf, IsPlaced, relation_by};
-ghost use Rattle.simplex_atoms.specs.Limits.{Limit, limits_by, AreKept, signed_by, weight_of, is_strict};
-ghost use Rattle.simplex_atoms.specs.Atoms.{AtomsView, AreRight};
+ghost use Rattle.simplex_atoms.specs.Places.{AtomSetting, IsFormOf, IsPlaced, relation_by};
+ghost use Rattle.simplex_atoms.specs.Limits.{Limit, limits_by, AreLimitsKept, signed_by, weight_of, is_strict};
+ghost use Rattle.simplex_atoms.specs.Atoms.{AtomsView, AtomsFit};
 
 /// States what value a form has by its place: over numbers, and at points with infinitesimals.
 pub fn places_tell_values()
-    ensures numbers { (s : Setting) (place : Place) (f : Form) → IsFormOf s place f
+    ensures numbers { (s : AtomSetting) (place : Place) (f : Form) → IsFormOf s place f
         → (n : Term → Number) (v : ℕ → Number) → AreOwned s.table s.owners n v → Solves (as_space numbers) v s.listed
         → form_value (λ u. (n u).fraction) f
         ≡ (numbers.plus (numbers.times (number_of place.factor) (v place.variable))
         (number_of place.constant)).fraction }
-    ensures bases { (s : Setting) (place : Place) (f : Form) → IsFormOf s place f
+    ensures bases { (s : AtomSetting) (place : Place) (f : Form) → IsFormOf s place f
         → (p : Point) (v : ℕ → Pair Number) → AreOwned s.table s.owners p v → Solves deltas v s.listed → base_at p f
         ≡ (numbers.plus (numbers.times (number_of place.factor) (v place.variable).base)
         (number_of place.constant)).fraction }
-    ensures tilts { (s : Setting) (place : Place) (f : Form) → IsFormOf s place f
+    ensures tilts { (s : AtomSetting) (place : Place) (f : Form) → IsFormOf s place f
         → (p : Point) (v : ℕ → Pair Number) → AreOwned s.table s.owners p v → Solves deltas v s.listed
         → tilt_at p f ≡ (numbers.times (number_of place.factor) (v place.variable).tilt).fraction }
 {}
@@ -42,9 +42,9 @@ pub fn places_tell_values()
 /// States that where values of variables keep the bounds that a literal states, a point that has them for terms keeps
 /// the literal.
 pub fn kept_bounds_keep_literals()
-    ensures { (s : Setting) (place : Place) (atom : Term) → IsPlaced s place atom
+    ensures { (s : AtomSetting) (place : Place) (atom : Term) → IsPlaced s place atom
         → (p : Point) (v : ℕ → Pair Number) → AreOwned s.table s.owners p v → Solves deltas v s.listed
-        → (l : Lit) → AreKept v (limits_by place l) → Keeps p (record { atom = atom; positive = l.positive }) }
+        → (l : Lit) → AreLimitsKept v (limits_by place l) → KeepsLiteral p (record { atom = atom; positive = l.positive }) }
 {}
 
 /// States what the bounds are that a literal states: of the place's variable, off its bound by an infinitesimal only
@@ -65,12 +65,12 @@ pub fn bounds_have_weights()
 
 /// States that no atoms fit each table, a board without variables and bounds of no variables.
 pub fn no_atoms_fit()
-    ensures { (t : TableView) → AreRight t (record { owners = []; sums = []; placed = [] }) empty_board
+    ensures { (t : TableView) → AtomsFit t (record { owners = []; sums = []; placed = [] }) empty_board
         (record { variables = 0; held = []; room = 0 }) }
 {}
 
 /// States that atoms that fit a table fit it once it has grown.
 pub fn atoms_fit_grown_tables()
     ensures { (old new : TableView) → Extends old new → (a : AtomsView) (b : BoardView) (bounds : BoundsView)
-        → AreRight old a b bounds → AreRight new a b bounds }
+        → AtomsFit old a b bounds → AtomsFit new a b bounds }
 {}

@@ -6,9 +6,9 @@ ghost use Rattle.term_core.specs.Tables.{TableView, IsIn};
 ghost use Rattle.term_core.specs.declared.ids.TermId.{TermId as Number};
 ghost use Rattle.ratio128.specs.declared.ratio.Ratio.{Ratio as Coefficient};
 ghost use Rattle.simplex_atoms.specs.Owners.{owner_at, AreOwnersIn};
-ghost use Rattle.simplex_atoms.specs.Atoms.{ground_of, AreCounted, IsGrounded, Grows};
-ghost use Rattle.simplex_atoms.specs.Watching.{IsNumbered, AreNumbered};
-ghost use Rattle.simplex_atoms.specs.Standings.{Leads, TellsOwners, IsVariableOf};
+ghost use Rattle.simplex_atoms.specs.Atoms.{ground_of, AreCounted, IsGrounded, GroundGrows};
+ghost use Rattle.simplex_atoms.specs.Watching.{IsNumbered, EntriesAreNumbered};
+ghost use Rattle.simplex_atoms.specs.Standings.{GroundLeads, TellsOwners, IsVariableOf};
 
 use crate::owners::Owners;
 use ratio128::Ratio;
@@ -28,14 +28,14 @@ pub(crate) fn variable_of(
 ) -> Result<u64, NoMemory>
     requires { AreCounted (ground_of owners.old.list board.old) }
     ensures counted { AreCounted (ground_of owners.new.list board.new) }
-    ensures grows { Grows (ground_of owners.old.list board.old) (ground_of owners.new.list board.new) }
+    ensures grows { GroundGrows (ground_of owners.old.list board.old) (ground_of owners.new.list board.new) }
     ensures grounded { IsGrounded (ground_of owners.old.list board.old)
         → IsGrounded (ground_of owners.new.list board.new) }
     ensures there { (t : TableView) → IsIn t id → AreOwnersIn t owners.old.list → AreOwnersIn t owners.new.list }
     ensures ok { IfOk result (λ y. owner_at owners.new.list y ≡ Some id) }
     ensures came { OnOk result ((t : TableView) (f : Form) (k : Coefficient) → TellsOwners t owners.old.list
         → IsVariableOf t f (id, k)
-        → Leads t f (ground_of owners.old.list board.old) (ground_of owners.new.list board.new)) }
+        → GroundLeads t f (ground_of owners.old.list board.old) (ground_of owners.new.list board.new)) }
 {
     if let Some(y) = owners.var(id) {
         return Ok(y);
@@ -55,7 +55,7 @@ fn entry_of(
 ) -> Result<Entry, NoMemory>
     requires { AreCounted (ground_of owners.old.list board.old) }
     ensures counted { AreCounted (ground_of owners.new.list board.new) }
-    ensures grows { Grows (ground_of owners.old.list board.old) (ground_of owners.new.list board.new) }
+    ensures grows { GroundGrows (ground_of owners.old.list board.old) (ground_of owners.new.list board.new) }
     ensures grounded { IsGrounded (ground_of owners.old.list board.old)
         → IsGrounded (ground_of owners.new.list board.new) }
     ensures there { (t : TableView) → IsIn t variable.0 → AreOwnersIn t owners.old.list
@@ -63,7 +63,7 @@ fn entry_of(
     ensures ok { IfOk result (λ e. IsNumbered owners.new.list e variable) }
     ensures came { OnOk result ((t : TableView) (f : Form) → TellsOwners t owners.old.list
         → IsVariableOf t f variable
-        → Leads t f (ground_of owners.old.list board.old) (ground_of owners.new.list board.new)) }
+        → GroundLeads t f (ground_of owners.old.list board.old) (ground_of owners.new.list board.new)) }
 {
     let y = variable_of(owners, board, variable.0)?;
     Ok(Entry {
@@ -83,15 +83,15 @@ pub(crate) fn entries_of(
 ) -> Result<Vec<Entry>, NoMemory>
     requires { AreCounted (ground_of owners.old.list board.old) }
     ensures counted { AreCounted (ground_of owners.new.list board.new) }
-    ensures grows { Grows (ground_of owners.old.list board.old) (ground_of owners.new.list board.new) }
+    ensures grows { GroundGrows (ground_of owners.old.list board.old) (ground_of owners.new.list board.new) }
     ensures grounded { IsGrounded (ground_of owners.old.list board.old)
         → IsGrounded (ground_of owners.new.list board.new) }
     ensures there { (t : TableView) → All (λ (p : Number × Coefficient). IsIn t p.0) variables.now
         → AreOwnersIn t owners.old.list → AreOwnersIn t owners.new.list }
-    ensures ok { IfOk result (λ es. AreNumbered owners.new.list es.items variables.now) }
+    ensures ok { IfOk result (λ es. EntriesAreNumbered owners.new.list es.items variables.now) }
     ensures came { OnOk result ((t : TableView) (f : Form) → TellsOwners t owners.old.list
         → All (IsVariableOf t f) variables.now
-        → Leads t f (ground_of owners.old.list board.old) (ground_of owners.new.list board.new)) }
+        → GroundLeads t f (ground_of owners.old.list board.old) (ground_of owners.new.list board.new)) }
 {
     let mut entries = Vec::new(alloc);
     'variables: for at in 0..variables.len() {

@@ -1,7 +1,7 @@
 //! The terms that variables of a tableau stand for.
 
 ghost use Rattle.std.specs.Prelude.{◌≡◌, ◌<◌, Some, None, [], ◌∷◌, ◌++◌, length, OnOk, OnErr};
-ghost use Rattle.simplex_atoms.specs.Owners.{owner_at, IsNumberOf, AreOnce};
+ghost use Rattle.simplex_atoms.specs.Owners.{owner_at, IsNumberOf, AreOwnedOnce};
 
 use std::alloc::Global;
 use std::collections::HashMap;
@@ -44,7 +44,7 @@ impl Owners {
 
     /// States that no two variables stand for one term.
     pub(crate) fn are_once(&self)
-        ensures { AreOnce self.now.list }
+        ensures { AreOwnedOnce self.now.list }
     {
         let _ = &self.list;
     }

@@ -4,7 +4,7 @@ ghost use Rattle.std.specs.Prelude.{◌≡◌, ◌<◌, false, map, IfOk, IfErr,
 ghost use Rattle.spec_numbers.specs.Fractions.{opposite};
 ghost use Rattle.spec_numbers.specs.Bounds.{divided};
 ghost use Rattle.spec_arithmetic.specs.Forms.{Form as Meant};
-ghost use Rattle.spec_tableaux.specs.SolvedForms.{IsOver};
+ghost use Rattle.spec_tableaux.specs.SolvedForms.{AllVariables};
 ghost use Rattle.spec_tableaux.specs.Numbers.{numbers};
 ghost use Rattle.ratio128.specs.Meant.{fraction, overflow};
 ghost use Rattle.term_core.specs.Tables.{TableView};
@@ -16,10 +16,10 @@ ghost use Rattle.tableau.specs.Entries.{entries_of};
 ghost use Rattle.simplex_atoms.specs.Owners.{AreOwnersIn};
 ghost use Rattle.simplex_atoms.specs.Sums.{sign_by};
 ghost use Rattle.simplex_atoms.specs.Places.{IsSign, IsFormOf};
-ghost use Rattle.simplex_atoms.specs.Atoms.{ground_of, setting_of, AreCounted, IsGrounded, Grows, IsMultiple, AreSums};
-ghost use Rattle.simplex_atoms.specs.Watching.{OnWide, StrainsForm};
+ghost use Rattle.simplex_atoms.specs.Atoms.{ground_of, setting_of, AreCounted, IsGrounded, GroundGrows, IsMultiple, AreSums};
+ghost use Rattle.simplex_atoms.specs.Watching.{OnAtomOverflow, StrainsForm};
 ghost use Rattle.simplex_atoms.specs.Made.{IsMade, Covers, IsOnEntry, IsSingle, StrainsEntries};
-ghost use Rattle.simplex_atoms.specs.Standings.{owner_meant, ButForMemory, Leads, TellsOwners};
+ghost use Rattle.simplex_atoms.specs.Standings.{owner_meant, ButForMemory, GroundLeads, TellsOwners};
 
 use crate::numbering::entries_of;
 use crate::owners::Owners;
@@ -102,18 +102,18 @@ fn on_multiple(kind: Kind, constant: Ratio, multiple: Multiple) -> Place
 /// Adds a variable that is the sum of the entries, and gives its number.
 fn add_row(owners: &mut Owners, board: &mut Board, entries: &[Entry]) -> Result<u64, AtomStop>
     requires counted { AreCounted (ground_of owners.old.list board.old) }
-    requires over { IsOver (λ y. y < board.old.tableau.variables) (entries_of entries.now) }
+    requires over { AllVariables (λ y. y < board.old.tableau.variables) (entries_of entries.now) }
     requires longer { IsLonger (entries_of entries.now) }
     ensures counted { AreCounted (ground_of owners.new.list board.new) }
-    ensures grows { Grows (ground_of owners.old.list board.old) (ground_of owners.new.list board.new) }
+    ensures grows { GroundGrows (ground_of owners.old.list board.old) (ground_of owners.new.list board.new) }
     ensures grounded { IsGrounded (ground_of owners.old.list board.old)
         → IsGrounded (ground_of owners.new.list board.new) }
     ensures there { (t : TableView) → AreOwnersIn t owners.old.list → AreOwnersIn t owners.new.list }
     ensures is { IfOk result (IsMultiple (ground_of owners.new.list board.new) (entries_of entries.now) numbers.one) }
-    ensures wide { (constant : Ratio) → IfErr result (OnWide (StrainsEntries board.new constant entries.now)) }
+    ensures wide { (constant : Ratio) → IfErr result (OnAtomOverflow (StrainsEntries board.new constant entries.now)) }
     ensures came { ButForMemory ((t : TableView) (f : Meant)
         → AreEntriesOf (map (owner_meant t) owners.old.list) (entries_of entries.now) f.variables
-        → Leads t f (ground_of owners.old.list board.old) (ground_of owners.new.list board.new)) result }
+        → GroundLeads t f (ground_of owners.old.list board.old) (ground_of owners.new.list board.new)) result }
 {
     owners.reserve()?;
     let variable = board.add_row(entries)?;
@@ -132,21 +132,21 @@ fn on_row(
 ) -> Result<Place, AtomStop>
     requires counted { AreCounted (ground_of owners.old.list board.old) }
     requires sums { AreSums (ground_of owners.old.list board.old) sums.old }
-    requires over { IsOver (λ y. y < board.old.tableau.variables) (entries_of entries.now) }
+    requires over { AllVariables (λ y. y < board.old.tableau.variables) (entries_of entries.now) }
     requires longer { IsLonger (entries_of entries.now) }
     ensures counted { AreCounted (ground_of owners.new.list board.new) }
     ensures sums { AreSums (ground_of owners.new.list board.new) sums.new }
-    ensures grows { Grows (ground_of owners.old.list board.old) (ground_of owners.new.list board.new) }
+    ensures grows { GroundGrows (ground_of owners.old.list board.old) (ground_of owners.new.list board.new) }
     ensures grounded { IsGrounded (ground_of owners.old.list board.old)
         → IsGrounded (ground_of owners.new.list board.new) }
     ensures there { (t : TableView) → AreOwnersIn t owners.old.list → AreOwnersIn t owners.new.list }
     ensures made { IfOk result (IsMade kind constant) }
     ensures covers { IfOk result (Covers (ground_of owners.new.list board.new) entries.now) }
     ensures unit { IfOk result (λ p. IsSign (number_of p.factor)) }
-    ensures wide { IfErr result (OnWide (StrainsEntries board.new constant entries.now)) }
+    ensures wide { IfErr result (OnAtomOverflow (StrainsEntries board.new constant entries.now)) }
     ensures came { ButForMemory ((t : TableView) (f : Meant)
         → AreEntriesOf (map (owner_meant t) owners.old.list) (entries_of entries.now) f.variables
-        → Leads t f (ground_of owners.old.list board.old) (ground_of owners.new.list board.new)) result }
+        → GroundLeads t f (ground_of owners.old.list board.old) (ground_of owners.new.list board.new)) result }
 {
     let key = sums.key(entries)?;
     if let Some(known) = sums.find(&key) {
@@ -177,20 +177,20 @@ fn place_by(
 ) -> Result<Place, AtomStop>
     requires counted { AreCounted (ground_of owners.old.list board.old) }
     requires sums { AreSums (ground_of owners.old.list board.old) sums.old }
-    requires over { IsOver (λ y. y < board.old.tableau.variables) (entries_of entries.now) }
+    requires over { AllVariables (λ y. y < board.old.tableau.variables) (entries_of entries.now) }
     ensures counted { AreCounted (ground_of owners.new.list board.new) }
     ensures sums { AreSums (ground_of owners.new.list board.new) sums.new }
-    ensures grows { Grows (ground_of owners.old.list board.old) (ground_of owners.new.list board.new) }
+    ensures grows { GroundGrows (ground_of owners.old.list board.old) (ground_of owners.new.list board.new) }
     ensures grounded { IsGrounded (ground_of owners.old.list board.old)
         → IsGrounded (ground_of owners.new.list board.new) }
     ensures there { (t : TableView) → AreOwnersIn t owners.old.list → AreOwnersIn t owners.new.list }
     ensures made { IfOk result (IsMade kind constant) }
     ensures covers { IfOk result (Covers (ground_of owners.new.list board.new) entries.now) }
     ensures on { IfOk result (IsOnEntry entries.now) }
-    ensures wide { IfErr result (OnWide (StrainsEntries board.new constant entries.now)) }
+    ensures wide { IfErr result (OnAtomOverflow (StrainsEntries board.new constant entries.now)) }
     ensures came { ButForMemory ((t : TableView) (f : Meant)
         → AreEntriesOf (map (owner_meant t) owners.old.list) (entries_of entries.now) f.variables
-        → Leads t f (ground_of owners.old.list board.old) (ground_of owners.new.list board.new)) result }
+        → GroundLeads t f (ground_of owners.old.list board.old) (ground_of owners.new.list board.new)) result }
 {
     match single(entries) {
         Some(entry) => {
@@ -218,7 +218,7 @@ pub(crate) fn place_of(
     requires sums { AreSums (ground_of owners.old.list board.old) sums.old }
     ensures counted { AreCounted (ground_of owners.new.list board.new) }
     ensures sums { AreSums (ground_of owners.new.list board.new) sums.new }
-    ensures grows { Grows (ground_of owners.old.list board.old) (ground_of owners.new.list board.new) }
+    ensures grows { GroundGrows (ground_of owners.old.list board.old) (ground_of owners.new.list board.new) }
     ensures grounded { IsGrounded (ground_of owners.old.list board.old)
         → IsGrounded (ground_of owners.new.list board.new) }
     ensures there { (t : TableView) → AreVariablesOf t form.now → AreOwnersIn t owners.old.list
@@ -226,10 +226,10 @@ pub(crate) fn place_of(
     ensures kind { IfOk result (λ p. p.kind ≡ kind) }
     ensures is { IfOk result (λ p. (t : TableView)
         → IsFormOf (setting_of t (ground_of owners.new.list board.new)) p (form_meant t form.now)) }
-    ensures wide { IfErr result (OnWide (λ o. (t : TableView)
+    ensures wide { IfErr result (OnAtomOverflow (λ o. (t : TableView)
         → StrainsForm t owners.new.list board.new (form_meant t form.now) o)) }
     ensures came { ButForMemory ((t : TableView) → AreVariablesOf t form.now → TellsOwners t owners.old.list
-        → Leads t (form_meant t form.now) (ground_of owners.old.list board.old)
+        → GroundLeads t (form_meant t form.now) (ground_of owners.old.list board.old)
         (ground_of owners.new.list board.new)) result }
 {
     let variables = form.variables(alloc)?;

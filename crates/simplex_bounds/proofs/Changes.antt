@@ -7,7 +7,7 @@ use Rattle.simplex_bounds.specs.declared.limits.Limits.{Limits}
 use Rattle.simplex_bounds.specs.declared.held.Entry.{Entry}
 use Rattle.simplex_bounds.specs.Held.{lesser, IsLeastCrossed}
 use Rattle.simplex_bounds.specs.Limits.{unlimited, limit_at, with_limit, tightened, are_crossed, limits_in}
-use Rattle.simplex_bounds.specs.Kept.{bounds_of, IsEntry, AreEntries, AreKept}
+use Rattle.simplex_bounds.specs.Kept.{bounds_of, IsEntry, AreEntries, LimitsFit}
 use Rattle.simplex_bounds.proofs.Strongest.{limits_more, limits_other, limits_back, limit_is, one_changed}
 use Rattle.simplex_bounds.proofs.Crossings.{crossed_step}
 
@@ -25,7 +25,7 @@ last_entry before [] e a = subst (λ z. IsEntry z e) (sym (append-nil before)) a
 last_entry before (x ∷ es) e a = subst (λ z. IsEntry z e) (append_assoc before (x.bound ∷ []) (bounds_of es)) (last_entry (before ++ x.bound ∷ []) es e a.1)
 
 -- the last bound's variable is there
-pub last_there : (ls : List Limits) (es : List Entry) (e : Entry) (n : ℕ) → AreKept ls es → n + 1 ≡ length es → e ≡ slice_index_or es n e → e.bound.variable < length ls
+pub last_there : (ls : List Limits) (es : List Entry) (e : Entry) (n : ℕ) → LimitsFit ls es → n + 1 ≡ length es → e ≡ slice_index_or es n e → e.bound.variable < length ls
 last_there ls es e n k m g = subst (λ (z : Entry). z.bound.variable < length ls) (sym g) (k.there n e (omega (arith, m)))
 
 pub split_last : {A : Type 0} (xs : List A) (n : ℕ) (d : A) → n + 1 ≡ length xs → xs ≡ take n xs ++ slice_index_or xs n d ∷ []
@@ -51,7 +51,7 @@ bounds_more : (es : List Entry) (e : Entry) → bounds_of (es ++ e ∷ []) ≡ b
 bounds_more es e = map-append (λ (e : Entry). e.bound) es (e ∷ [])
 
 -- the limits of a variable are its strongest bounds
-limits_are : (ls : List Limits) (es : List Entry) (x : ℕ) (l : Limits) → AreKept ls es → x < length ls → l ≡ slice_index_or ls x l → l ≡ limits_in (bounds_of es) x
+limits_are : (ls : List Limits) (es : List Entry) (x : ℕ) (l : Limits) → LimitsFit ls es → x < length ls → l ≡ slice_index_or ls x l → l ≡ limits_in (bounds_of es) x
 limits_are ls es x l k h e = e ∙ same_default ls x l unlimited h ∙ k.strongest_by x
 
 -- each bound has a variable, and so has one more
@@ -70,9 +70,9 @@ there_cut n m (x ∷ es) (suc c) o h zero d l = let i = h zero x (omega arith) i
 there_cut n m (x ∷ es) (suc c) o h (suc k) d l = there_cut n m es c o (λ k d l. h (suc k) d (omega arith)) k d (omega arith)
 
 -- one bound more is held
-pub kept_more : (ls : List Limits) (es new : List Entry) (e : Entry) (l t : Limits) (before : Option ℕ) → AreKept ls es → e.bound.variable < length ls
+pub kept_more : (ls : List Limits) (es new : List Entry) (e : Entry) (l t : Limits) (before : Option ℕ) → LimitsFit ls es → e.bound.variable < length ls
     → l ≡ slice_index_or ls e.bound.variable l → t ≡ tightened l e.bound → e.found ≡ limit_at e.bound.side l → IsLeastCrossed (bounds_of es) before
-    → e.crossed ≡ cond (are_crossed t) (Some (lesser before e.bound.variable)) before → new ≡ es ++ e ∷ [] → AreKept (slice_set ls e.bound.variable t) new
+    → e.crossed ≡ cond (are_crossed t) (Some (lesser before e.bound.variable)) before → new ≡ es ++ e ∷ [] → LimitsFit (slice_set ls e.bound.variable t) new
 kept_more ls es new e l t before k h i u f b q n =
     let x = e.bound.variable in
     let is : l ≡ limits_in (bounds_of es) x = limits_are ls es x l k h i in
@@ -85,15 +85,15 @@ kept_more ls es new e l t before k h i u f b q n =
       found_by = f ∙ ap (limit_at e.bound.side) is ∙ limit_is e.bound.side x (bounds_of es);
       crossed_by = subst (IsLeastCrossed (bounds_of es ++ e.bound ∷ [])) (sym crossed) (crossed_step (bounds_of es) e.bound before b);
     } in
-    subst (AreKept (slice_set ls x t)) (sym n) (record {
+    subst (LimitsFit (slice_set ls x t)) (sym n) (record {
       there = there_more (length ls) (length (slice_set ls x t)) es e (omega (arith, size)) k.there (omega (arith, size, h));
       strongest_by = λ y. limits y ∙ ap (λ bs. limits_in bs y) (sym after);
       entries_by = entries_more [] es e k.entries_by entry;
     })
 
 -- the last bound goes
-pub kept_back : (ls : List Limits) (es new : List Entry) (e : Entry) (l t : Limits) (n : ℕ) → AreKept ls es → n + 1 ≡ length es → e ≡ slice_index_or es n e
-    → l ≡ slice_index_or ls e.bound.variable l → t ≡ with_limit e.bound.side e.found l → new ≡ take n es → AreKept (slice_set ls e.bound.variable t) new
+pub kept_back : (ls : List Limits) (es new : List Entry) (e : Entry) (l t : Limits) (n : ℕ) → LimitsFit ls es → n + 1 ≡ length es → e ≡ slice_index_or es n e
+    → l ≡ slice_index_or ls e.bound.variable l → t ≡ with_limit e.bound.side e.found l → new ≡ take n es → LimitsFit (slice_set ls e.bound.variable t) new
 kept_back ls es new e l t n k m g i u w =
     let x = e.bound.variable in
     let before = take n es in
@@ -106,14 +106,14 @@ kept_back ls es new e l t n k m g i u w =
     let size : length (slice_set ls x t) ≡ length ls = length-set ls x t in
     let limits = one_changed ls x t (limits_in (bounds_of before ++ e.bound ∷ [])) (limits_in (bounds_of before)) h (λ y. k.strongest_by y ∙ ap (λ bs. limits_in bs y) after) back
     (λ y o. sym (limits_other (bounds_of before) e.bound y o)) in
-    subst (AreKept (slice_set ls x t)) (sym w) (record {
+    subst (LimitsFit (slice_set ls x t)) (sym w) (record {
       there = there_cut (length ls) (length (slice_set ls x t)) es n (omega (arith, size)) k.there;
       strongest_by = limits;
       entries_by = entries_cut [] es n k.entries_by;
     })
 
 -- what crosses since the last bound
-pub last_crossed : (ls : List Limits) (es : List Entry) (e : Entry) (n : ℕ) → AreKept ls es → n + 1 ≡ length es → e ≡ slice_index_or es n e → IsLeastCrossed (bounds_of es) e.crossed
+pub last_crossed : (ls : List Limits) (es : List Entry) (e : Entry) (n : ℕ) → LimitsFit ls es → n + 1 ≡ length es → e ≡ slice_index_or es n e → IsLeastCrossed (bounds_of es) e.crossed
 last_crossed ls es e n k m g =
     let whole : es ≡ take n es ++ e ∷ [] = split_last es n e m ∙ ap (λ z. take n es ++ z ∷ []) (sym g) in
     subst (λ bs. IsLeastCrossed bs e.crossed) (sym (ap bounds_of whole ∙ bounds_more (take n es) e)) (last_entry [] (take n es) e (subst (AreEntries []) whole k.entries_by)).crossed_by

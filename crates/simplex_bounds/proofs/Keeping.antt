@@ -11,7 +11,7 @@ use Rattle.simplex_bounds.specs.declared.bounds.Side.{Side}
 use Rattle.simplex_bounds.specs.declared.bounds.Side.TheVariants.{Lower, Upper}
 use Rattle.simplex_bounds.specs.Deltas.{pair_of}
 use Rattle.spec_strains.specs.Points.{deltas}
-use Rattle.simplex_bounds.specs.Held.{same_side, is_of, is_tighter, stronger, strongest, strongest_after, value_in, ranges_in, Keeps}
+use Rattle.simplex_bounds.specs.Held.{same_side, is_of, is_tighter, stronger, strongest, strongest_after, value_in, ranges_in, RespectsBound}
 use Rattle.simplex_bounds.proofs.Orders.{less_transitive, less_total}
 
 sides : (s t : Side) → same_side s t ≡ true → t ≡ s
@@ -174,17 +174,17 @@ unfolding beyond
 upper_is bs y x = above_is x (strongest Upper y bs) ∙ beyond_after Upper y x None bs
 
 -- values keep the range of a variable where they keep each of its bounds
-pub within_by : (bs : List Bound) (v : ℕ → Pair Number) (y : ℕ) → ((b : Bound) → Contains bs b → b.variable ≡ y → Keeps v b) → is_within deltas (ranges_in bs) v y ≡ true
+pub within_by : (bs : List Bound) (v : ℕ → Pair Number) (y : ℕ) → ((b : Bound) → Contains bs b → b.variable ≡ y → RespectsBound v b) → is_within deltas (ranges_in bs) v y ≡ true
 within_by bs v y h = λ i. not ((lower_is bs y (v y) ∙ off Lower) i || (upper_is bs y (v y) ∙ off Upper) i)
   where
     off : (s : Side) → beyond_any s y (v y) bs ≡ false
     off s = beyond_none s y (v y) bs (λ b m e f. (λ i. is_tighter (sym e i) (pair_of b.value) (v (sym f i))) ∙ h b m f)
 
 -- values keep the ranges where they keep each bound, and the other way round
-pub ranges_kept : (bs : List Bound) (v : ℕ → Pair Number) → ((y : ℕ) → is_within deltas (ranges_in bs) v y ≡ true) ↔ ((b : Bound) → Contains bs b → Keeps v b)
+pub ranges_kept : (bs : List Bound) (v : ℕ → Pair Number) → ((y : ℕ) → is_within deltas (ranges_in bs) v y ≡ true) ↔ ((b : Bound) → Contains bs b → RespectsBound v b)
 ranges_kept bs v = (to, from)
   where
-    to : ((y : ℕ) → is_within deltas (ranges_in bs) v y ≡ true) → (b : Bound) → Contains bs b → Keeps v b
+    to : ((y : ℕ) → is_within deltas (ranges_in bs) v y ≡ true) → (b : Bound) → Contains bs b → RespectsBound v b
     to h b m = by b.side refl
       where
         parts : (below deltas (v b.variable) (ranges_in bs b.variable).lower ≡ false) × (above deltas (v b.variable) (ranges_in bs b.variable).upper ≡ false)
@@ -197,5 +197,5 @@ ranges_kept bs v = (to, from)
         by Lower e = not_beyond Lower b.variable (v b.variable) bs (sym (lower_is bs b.variable (v b.variable)) ∙ parts.0) b m (of Lower e)
         by Upper e = not_beyond Upper b.variable (v b.variable) bs (sym (upper_is bs b.variable (v b.variable)) ∙ parts.1) b m (of Upper e)
 
-    from : ((b : Bound) → Contains bs b → Keeps v b) → (y : ℕ) → is_within deltas (ranges_in bs) v y ≡ true
+    from : ((b : Bound) → Contains bs b → RespectsBound v b) → (y : ℕ) → is_within deltas (ranges_in bs) v y ≡ true
     from h y = within_by bs v y (λ b m e. h b m)

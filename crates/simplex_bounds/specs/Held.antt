@@ -40,8 +40,8 @@ abbrev pub strongest : Side → ℕ → List Bound → Option Bound
 strongest side y held = strongest_after None side y held
 
 -- the values v keep a bound: it does not exclude that of its variable
-abbrev pub Keeps : (ℕ → Pair Number) → Bound → Type 0
-Keeps v b = is_tighter b.side (pair_of b.value) (v b.variable) ≡ false
+abbrev pub RespectsBound : (ℕ → Pair Number) → Bound → Type 0
+RespectsBound v b = is_tighter b.side (pair_of b.value) (v b.variable) ≡ false
 
 -- the value of a bound, where there is one
 abbrev pub value_in : Option Bound → Option (Pair Number)

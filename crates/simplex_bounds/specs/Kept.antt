@@ -24,15 +24,15 @@ AreEntries before [] = Unit {0}
 AreEntries before (e ∷ es) = IsEntry before e × AreEntries (before ++ e.bound ∷ []) es
 
 -- what the fields mean
-abbrev pub view_of : Inside → BoundsView
-view_of b = record {
+abbrev pub bounds_view : Inside → BoundsView
+bounds_view b = record {
   variables = length b.limits.items;
   held = bounds_of b.entries.items;
   room = vec_capacity b.entries - vec_len b.entries;
 }
 
 -- Limits and entries fit together.
-pub record AreKept (limits : List Limits) (entries : List Entry) : Type 0 where
+pub record LimitsFit (limits : List Limits) (entries : List Entry) : Type 0 where
   -- each bound is of a variable that is there
   pub there : All (λ (e : Entry). e.bound.variable < length limits) entries
   -- the limits are the strongest bounds, and of other variables there are none
@@ -41,5 +41,5 @@ pub record AreKept (limits : List Limits) (entries : List Entry) : Type 0 where
   pub entries_by : AreEntries [] entries
 
 -- the fields fit together
-abbrev pub IsKept : Inside → Type 0
-IsKept b = AreKept b.limits.items b.entries.items
+abbrev pub BoundsFit : Inside → Type 0
+BoundsFit b = LimitsFit b.limits.items b.entries.items

@@ -25,7 +25,7 @@ pub fn plus(a: Delta, b: Delta) -> Result<Delta, Wide>
 /// Gives the difference. The error is the `Wide` of the difference of the bases, or else that of the difference of the
 /// tilts.
 pub fn minus(a: Delta, b: Delta) -> Result<Delta, Wide>
-    ensures exact { IfOk result (λ d. pair_of d ≡ spaces.minus deltas (pair_of a) (pair_of b)) }
+    ensures exact { IfOk result (λ d. pair_of d ≡ spaces.space_difference deltas (pair_of a) (pair_of b)) }
     ensures wide { IfErr result (λ w. delta_subtracted (delta a) (delta b) ≡ Err (overflow w)) }
 {
     Delta::sub(a, b)

@@ -38,11 +38,11 @@ impl Model for Bounds {
 
     ghost Value = { BoundsView };
 
-    ghost use Rattle.simplex_bounds.specs.Kept.{view_of, IsKept};
+    ghost use Rattle.simplex_bounds.specs.Kept.{bounds_view, BoundsFit};
 
-    ghost view = { view_of };
+    ghost view = { bounds_view };
 
-    ghost invariant = { IsKept };
+    ghost invariant = { BoundsFit };
 }
 
 /// Gives the lesser of a variable that may be there and another one.

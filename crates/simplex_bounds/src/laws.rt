@@ -7,7 +7,7 @@ ghost use Rattle.spec_tableaux.specs.Ranges.{is_within};
 ghost use Rattle.simplex_bounds.specs.declared.bounds.Bound.{Bound};
 ghost use Rattle.simplex_bounds.specs.declared.bounds.Side.{Side};
 ghost use Rattle.spec_strains.specs.Points.{deltas};
-ghost use Rattle.simplex_bounds.specs.Held.{strongest, ranges_in, Keeps};
+ghost use Rattle.simplex_bounds.specs.Held.{strongest, ranges_in, RespectsBound};
 
 /// States that the strongest bound of a side and a variable is held, and is of that side and variable.
 pub fn strongest_bounds_are_held()
@@ -18,5 +18,5 @@ pub fn strongest_bounds_are_held()
 /// States that values keep the ranges that bounds leave exactly where they keep each of the bounds.
 pub fn ranges_are_kept_with_the_bounds()
     ensures { (held : List Bound) (v : ℕ → Pair Number) → ((y : ℕ) → is_within deltas (ranges_in held) v y ≡ true)
-        ↔ ((b : Bound) → Contains held b → Keeps v b) }
+        ↔ ((b : Bound) → Contains held b → RespectsBound v b) }
 {}

@@ -6,7 +6,7 @@ use Rattle.spec_text.proofs.Members.{none as no_member}
 use Rattle.spec_tableaux.specs.Spaces.{Pair}
 use Rattle.spec_tableaux.specs.Numbers.{Number}
 use Rattle.spec_strains.specs.Points.{point_in}
-use Rattle.simplex_bounds.specs.Held.{Keeps}
+use Rattle.simplex_bounds.specs.Held.{RespectsBound}
 use Rattle.simplex_bounds.specs.declared.bounds.Bound.{Bound}
 use Rattle.simplex_check.specs.Suspects.{KeepsFirst}
 
@@ -20,7 +20,7 @@ of_first k xs b le (i, lt, e) =
 pub keeps_none : (held : List Bound) (vs : List (Pair Number)) → KeepsFirst 0 held vs
 keeps_none held vs = record { few = omega (arith); each = λ b has. absurd (no_member b has) }
 
-pub keeps_all : (held : List Bound) (vs : List (Pair Number)) → ((b : Bound) → Contains held b → Keeps (point_in vs) b) → KeepsFirst (length held) held vs
+pub keeps_all : (held : List Bound) (vs : List (Pair Number)) → ((b : Bound) → Contains held b → RespectsBound (point_in vs) b) → KeepsFirst (length held) held vs
 keeps_all held vs k = record { few = omega (arith); each = λ b has. k b (subst (λ bs. Contains bs b) (take-length held) has) }
 
 -- more bounds are held

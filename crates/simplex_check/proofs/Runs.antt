@@ -2,18 +2,18 @@
 use Rattle.std.proofs.Common.{◌≡◌, ℕ, ◌+◌, ◌<◌, ◌≤◌, List, [], ◌∷◌, ◌++◌, length, Err, inr, refl, sym, ◌∙◌, ap, arith, subst, append_assoc}
 use Rattle.ratio128.specs.Meant.{overflow}
 use Rattle.ratio128.specs.declared.wide.Wide.{Wide as WideType}
-use Rattle.spec_tableaux.specs.LeastVariable.{Says, Exchanges, Makes, Settles, exchange}
+use Rattle.spec_tableaux.specs.LeastVariable.{RuleSays, Exchanges, MakesPivots, Settles, exchange}
 use Rattle.sat_budget.specs.Budgets.{BudgetView}
 use Rattle.sat_budget.specs.declared.limits.Stop.{Stop}
 use Rattle.sat_budget.specs.declared.limits.Stop.TheVariants.{Strained, Pivots}
 use Rattle.sat_budget.specs.declared.limits.Stop.TheVariants as stops
-use Rattle.tableau.specs.Views.{OnWide}
+use Rattle.tableau.specs.Views.{OnRowOverflow}
 use Rattle.tableau.specs.declared.stops.RowStop.{RowStop}
 use Rattle.tableau.specs.declared.stops.RowStop.TheVariants as row_stops
 use Rattle.spec_strains.specs.Points.{deltas, Ranges, BoardState}
 use Rattle.simplex_check.specs.Boards.{BoardView, state_of}
 use Rattle.spec_strains.specs.Strains.{Strains}
-use Rattle.simplex_check.specs.Ends.{StopsStep, StopsSettling, IsStopOf, Ends}
+use Rattle.simplex_check.specs.Ends.{StopsStep, StopsSettling, IsStopOf, EndsCheck}
 use Rattle.spec_strains.specs.Runs.{Ran, RanShort, settling, exchanging}
 
 append_nil : (xs : List (ℕ × ℕ)) → xs ++ [] ≡ xs
@@ -24,14 +24,14 @@ append_nil (x ∷ xs) = ap (λ z. x ∷ z) (append_nil xs)
 pub ran_none : (ranges : Ranges) (t u : BoardState) (old : List (ℕ × ℕ)) → Settles deltas ranges t u → Ran ranges t u old old
 ran_none ranges t u old s = record { start = u; settles = s; made = []; kept = sym (append_nil old); makes = refl }
 
-makes_more : (ranges : Ranges) (t u w : BoardState) (es : List (ℕ × ℕ)) (e : ℕ × ℕ) → Makes deltas ranges t es u → Says deltas ranges u (exchange e.0 e.1)
-    → Exchanges deltas ranges u e.0 e.1 w → Makes deltas ranges t (es ++ e ∷ []) w
+makes_more : (ranges : Ranges) (t u w : BoardState) (es : List (ℕ × ℕ)) (e : ℕ × ℕ) → MakesPivots deltas ranges t es u → RuleSays deltas ranges u (exchange e.0 e.1)
+    → Exchanges deltas ranges u e.0 e.1 w → MakesPivots deltas ranges t (es ++ e ∷ []) w
 makes_more ranges t u w [] e m says x =
-    (subst (λ z. Says deltas ranges z (exchange e.0 e.1)) (sym m) says, (w, subst (λ z. Exchanges deltas ranges z e.0 e.1 w) (sym m) x, refl))
+    (subst (λ z. RuleSays deltas ranges z (exchange e.0 e.1)) (sym m) says, (w, subst (λ z. Exchanges deltas ranges z e.0 e.1 w) (sym m) x, refl))
 makes_more ranges t u w (f ∷ es) e m says x = (m.0, (m.1.0, m.1.1, makes_more ranges m.1.0 u w es e m.1.2 says x))
 
 -- one exchange more
-pub ran_more : (ranges : Ranges) (t u w : BoardState) (old now new : List (ℕ × ℕ)) (e : ℕ × ℕ) → Ran ranges t u old now → new ≡ now ++ e ∷ [] → Says deltas ranges u (exchange e.0 e.1)
+pub ran_more : (ranges : Ranges) (t u w : BoardState) (old now new : List (ℕ × ℕ)) (e : ℕ × ℕ) → Ran ranges t u old now → new ≡ now ++ e ∷ [] → RuleSays deltas ranges u (exchange e.0 e.1)
     → Exchanges deltas ranges u e.0 e.1 w → Ran ranges t w old new
 ran_more ranges t u w old now new e r k says x = record {
   start = r.start;
@@ -42,18 +42,18 @@ ran_more ranges t u w old now new e r k says x = record {
 }
 
 -- one exchange more is kept, and not made
-pub ran_short : (ranges : Ranges) (t : BoardState) (b c : BoardView) (old now new : List (ℕ × ℕ)) (e : ℕ × ℕ) → Ran ranges t (state_of b) old now → new ≡ now ++ e ∷ [] → Says deltas ranges (state_of b) (exchange e.0 e.1)
+pub ran_short : (ranges : Ranges) (t : BoardState) (b c : BoardView) (old now new : List (ℕ × ℕ)) (e : ℕ × ℕ) → Ran ranges t (state_of b) old now → new ≡ now ++ e ∷ [] → RuleSays deltas ranges (state_of b) (exchange e.0 e.1)
     → c ≡ b → RanShort ranges t (state_of c) old new
 ran_short ranges t b c old now new e r k says s = record {
   before = now;
   last = e;
   kept = k;
   ran = subst (λ b. Ran ranges t (state_of b) old now) (sym s) r;
-  next = subst (λ b. Says deltas ranges (state_of b) (exchange e.0 e.1)) (sym s) says;
+  next = subst (λ b. RuleSays deltas ranges (state_of b) (exchange e.0 e.1)) (sym s) says;
 }
 
 -- the stop of a step, with the basis
-pub stops_step : (ranges : Ranges) (b : BoardView) (e : RowStop) (s : Stop) → OnWide (Strains ranges (state_of b)) e → IsStopOf b e s → StopsStep ranges b s
+pub stops_step : (ranges : Ranges) (b : BoardView) (e : RowStop) (s : Stop) → OnRowOverflow (Strains ranges (state_of b)) e → IsStopOf b e s → StopsStep ranges b s
 stops_step ranges b (row_stops.Wide w) (Strained s) h i = (subst (λ (w : WideType). Strains ranges (state_of b) (overflow w)) (sym i.0) h, i.1)
 stops_step ranges b (row_stops.Wide w) (Pivots n) h i = i
 stops_step ranges b (row_stops.Wide w) stops.Memory h i = tt
@@ -62,13 +62,13 @@ stops_step ranges b row_stops.Memory (Pivots n) h i = i
 stops_step ranges b row_stops.Memory stops.Memory h i = tt
 
 -- a stop on the way to the bounds
-pub ends_settling : (ranges : Ranges) (b c : BoardView) (old : BudgetView) (s : Stop) → StopsSettling ranges b c s → Ends ranges b c old old (Err s)
+pub ends_settling : (ranges : Ranges) (b c : BoardView) (old : BudgetView) (s : Stop) → StopsSettling ranges b c s → EndsCheck ranges b c old old (Err s)
 ends_settling ranges b c old (Strained s) h = (settling h.0.0 h.0.1 refl, h.1)
 ends_settling ranges b c old (Pivots n) h = absurd h.1
 ends_settling ranges b c old stops.Memory h = inr (settling h.0.0 h.0.1 refl)
 
 -- a stop in an exchange
-pub ends_exchanging : (ranges : Ranges) (b c : BoardView) (old new : BudgetView) (s : Stop) → RanShort ranges (state_of b) (state_of c) old.exchanges new.exchanges → StopsStep ranges c s → Ends ranges b c old new (Err s)
+pub ends_exchanging : (ranges : Ranges) (b c : BoardView) (old new : BudgetView) (s : Stop) → RanShort ranges (state_of b) (state_of c) old.exchanges new.exchanges → StopsStep ranges c s → EndsCheck ranges b c old new (Err s)
 ends_exchanging ranges b c old new (Strained s) r h = (exchanging r, h)
 ends_exchanging ranges b c old new (Pivots n) r h = absurd h
 ends_exchanging ranges b c old new stops.Memory r h = inr (exchanging r)

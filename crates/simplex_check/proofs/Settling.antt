@@ -13,7 +13,7 @@ use Rattle.spec_tableaux.specs.Numbers.{Number}
 use Rattle.spec_tableaux.proofs.Steps.{same_eqb}
 use Rattle.spec_strains.specs.Points.{deltas, point_in, state_at, Ranges, BoardState}
 use Rattle.spec_strains.specs.Runs.{SettlesBelow}
-use Rattle.simplex_bounds.specs.Held.{ranges_in, Keeps}
+use Rattle.simplex_bounds.specs.Held.{ranges_in, RespectsBound}
 use Rattle.simplex_bounds.specs.declared.bounds.Bound.{Bound}
 use Rattle.simplex_bounds.proofs.Keeping.{within_by}
 use Rattle.tableau.specs.Views.{TableauView}
@@ -92,10 +92,10 @@ settled_within range v h =
 within_rest : (n : ℕ) (held : List Bound) (vs : List (Pair Number)) (due : List ℕ) → KeepsFirst n held vs → AreDue n held due → (z : ℕ) → is_among z due ≡ false → keeps (ranges_in held z) (point_in vs z) ≡ true
 within_rest n held vs due k a z e = within_by held (point_in vs) z of
   where
-    of : (b : Bound) → Contains held b → b.variable ≡ z → Keeps (point_in vs) b
+    of : (b : Bound) → Contains held b → b.variable ≡ z → RespectsBound (point_in vs) b
     of b (i, lt, g) f = by (cases_lt i n)
       where
-        by : (i < n) ⊎ (n ≤ i) → Keeps (point_in vs) b
+        by : (i < n) ⊎ (n ≤ i) → RespectsBound (point_in vs) b
         by (inl l) = k.each b (i, (let m : length (take n held) ≡ n = length-take-le n held k.few in omega (arith, m, l)), get_or-take n held i b l ∙ g)
         by (inr l) = absurd (let m : is_among z due ≡ true = ap (λ y. is_among y due) (sym f) ∙ ap (λ (c : Bound). is_among c.variable due) (sym g) ∙ a i l lt b in cc)
 

@@ -6,11 +6,11 @@ use Rattle.std.proofs.lemmas.Bool.Decides.{nat_tests}
 use Rattle.spec_numbers.specs.Bounds.{Overflow}
 use Rattle.spec_strains.specs.Deltas.{delta_subtracted, delta_divided}
 use Rattle.delta_num.specs.declared.delta.Delta.{Delta}
-use Rattle.spec_tableaux.specs.Spaces.{Pair, minus}
+use Rattle.spec_tableaux.specs.Spaces.{Pair, space_difference}
 use Rattle.spec_tableaux.specs.Rows.{Entry, Row, Solves, coefficient_of, row_of, is_basic}
-use Rattle.spec_tableaux.specs.SolvedForms.{IsNonbasic, IsOver, IsSolved, IsPivot}
+use Rattle.spec_tableaux.specs.SolvedForms.{IsNonbasic, AllVariables, IsSolved, IsPivot}
 use Rattle.spec_tableaux.specs.Ranges.{Range, below}
-use Rattle.spec_tableaux.specs.LeastVariable.{State, Says, Exchanges, Moves, exchange, is_out, goal_of, distance, moved}
+use Rattle.spec_tableaux.specs.LeastVariable.{State, RuleSays, Exchanges, Moves, exchange, is_out, goal_of, distance, moved}
 use Rattle.spec_tableaux.specs.Strains.{StrainsExchange}
 use Rattle.spec_tableaux.specs.Numbers.{Number, numbers}
 use Rattle.spec_tableaux.proofs.Numbers.{numbers_are_ordered_field}
@@ -53,11 +53,11 @@ exchange_is_made ranges b u ws r x i s p e h =
     (exchange_made deltas deltas_are_space ranges (state_of b) r x (point_in ws) i s p.basic p.entry
     (moves_to b.tableau.rows x (distance deltas ranges (state_of b) r x) (point_in b.values) (point_in ws) p.nonbasic h))
 
-pub pivot_said : (ranges : Ranges) (t : State Number (Pair Number)) (b x : ℕ) → IsSolved numbers t.rows → Says deltas ranges t (exchange b x) → IsPivot numbers t.rows b x
+pub pivot_said : (ranges : Ranges) (t : State Number (Pair Number)) (b x : ℕ) → IsSolved numbers t.rows → RuleSays deltas ranges t (exchange b x) → IsPivot numbers t.rows b x
 pivot_said ranges t b x i says = says_pivot deltas deltas_are_space ranges t b x i says
 
 -- the variable of an entry is known
-entry_known : (n x : ℕ) (es : List (Entry Number)) → IsOver (λ y. y < n) es → numbers.is_zero (coefficient_of numbers x es) ≡ false → x < n
+entry_known : (n x : ℕ) (es : List (Entry Number)) → AllVariables (λ y. y < n) es → numbers.is_zero (coefficient_of numbers x es) ≡ false → x < n
 entry_known n x [] o h = absurd (let z : numbers.is_zero numbers.zero ≡ true = numbers_are_ordered_field.zero_is_zero in cc)
 entry_known n x (e ∷ es) o h = by (λ k. entry_known n x es o.1 k) (e.variable == x) refl
   where
@@ -81,8 +81,8 @@ pub goal_at : (ranges : Ranges) (t : State Number (Pair Number)) (y : ℕ) (rang
 goal_at ranges t y range v g up e u r k =
     e ∙ ap (goal_of deltas range) (u ∙ ap (λ z. below deltas z range.lower) k) ∙ ap (λ (z : Range (Pair Number)). goal_of deltas z (below deltas (t.point y) z.lower)) r
 
-pub gap_at : (ranges : Ranges) (t : State Number (Pair Number)) (y : ℕ) (g v d : Pair Number) → g ≡ goal ranges t y → v ≡ t.point y → d ≡ minus deltas g v → d ≡ gap ranges t y
-gap_at ranges t y g v d a b e = e ∙ (λ i. minus deltas (a i) (b i))
+pub gap_at : (ranges : Ranges) (t : State Number (Pair Number)) (y : ℕ) (g v d : Pair Number) → g ≡ goal ranges t y → v ≡ t.point y → d ≡ space_difference deltas g v → d ≡ gap ranges t y
+gap_at ranges t y g v d a b e = e ∙ (λ i. space_difference deltas (a i) (b i))
 
 -- overflows of the distance
 pub strains_difference : (ranges : Ranges) (t : State Number (Pair Number)) (y : ℕ) (g v : Pair Number) (o : Overflow) → Violates ranges t y → g ≡ goal ranges t y → v ≡ t.point y
@@ -104,7 +104,7 @@ pub strains_rows : (ranges : Ranges) (t : State Number (Pair Number)) (b x : ℕ
 strains_rows ranges t b x p o h = rows b x p h
 
 -- a value and what it lacks
-pub reached_by : (a b d : Pair Number) → d ≡ minus deltas a b → a ≡ deltas.plus b d
+pub reached_by : (a b d : Pair Number) → d ≡ space_difference deltas a b → a ≡ deltas.plus b d
 reached_by a b d e =
     let l = deltas_are_space in
     let one = numbers.one in

@@ -7,7 +7,7 @@ use Rattle.spec_numbers.specs.Bounds.{Overflow}
 use Rattle.spec_strains.specs.Deltas.{delta_added, delta_scaled}
 use Rattle.spec_tableaux.specs.Spaces.{Space, IsSpace, Pair}
 use Rattle.spec_tableaux.specs.Rows.{Entry, Row, Solves, is_basic, sum_of}
-use Rattle.spec_tableaux.specs.SolvedForms.{IsOver, AreOver}
+use Rattle.spec_tableaux.specs.SolvedForms.{AllVariables, AllRowVariables}
 use Rattle.spec_tableaux.specs.Numbers.{Number}
 use Rattle.spec_tableaux.proofs.Growing.{row_added}
 use Rattle.spec_tableaux.proofs.Steps.{agreeing_sums, same_eqb}
@@ -52,8 +52,8 @@ strains_sum v whole rest more e sum q o s r g h =
     sum_of_product s.before e more (s.whole_is ∙ ap (λ z. s.before ++ z) r) ((λ i. delta_added (delta_in (sym s.sum_is i)) (delta_in (sym g i))) ∙ h)
 
 -- the first of the rest is known, and so are the others
-pub over_first : (n : ℕ) (e : Entry Number) (rest more : List (Entry Number)) → rest ≡ e ∷ more → IsOver (λ y. y < n) rest → (e.variable < n) × IsOver (λ y. y < n) more
-over_first n e rest more r h = subst (IsOver (λ y. y < n)) r h
+pub over_first : (n : ℕ) (e : Entry Number) (rest more : List (Entry Number)) → rest ≡ e ∷ more → AllVariables (λ y. y < n) rest → (e.variable < n) × AllVariables (λ y. y < n) more
+over_first n e rest more r h = subst (AllVariables (λ y. y < n)) r h
 
 -- a board with one variable more
 pub variable_added : (t u : TableauView) (vs ws : List (Pair Number)) → u ≡ with_variable t → ws ≡ vs ++ deltas.origin ∷ [] → length vs ≡ t.variables → Solves deltas (point_in vs) t.rows
@@ -68,7 +68,7 @@ variable_added t u vs ws e g l s = subst (λ (b : BoardView). IsBoard b) (sym (�
     length_push (x ∷ xs) = ap suc (length_push xs)
 
 -- values that agree on the variables of rows solve them alike
-agreeing_solve : (n : ℕ) (u v : ℕ → Pair Number) (rs : List (Row Number)) → ((y : ℕ) → y < n → u y ≡ v y) → ((b : ℕ) → is_basic b rs ≡ true → b < n) → AreOver (λ y. y < n) rs
+agreeing_solve : (n : ℕ) (u v : ℕ → Pair Number) (rs : List (Row Number)) → ((y : ℕ) → y < n → u y ≡ v y) → ((b : ℕ) → is_basic b rs ≡ true → b < n) → AllRowVariables (λ y. y < n) rs
     → Solves deltas u rs → Solves deltas v rs
 agreeing_solve n u v [] h b o s = tt
 agreeing_solve n u v (r ∷ rs) h b o s = (
@@ -82,7 +82,7 @@ agreeing_solve n u v (r ∷ rs) h b o s = (
 
 -- a board with a new variable that is a sum
 pub sum_added : (t u : TableauView) (vs ws : List (Pair Number)) (es : List (Entry Number)) (x : Pair Number) → IsTableau t → u ≡ with_sum t es → ws ≡ vs ++ x ∷ [] → x ≡ sum_of deltas (point_in vs) es
-    → IsOver (λ y. y < t.variables) es → length vs ≡ t.variables → Solves deltas (point_in vs) t.rows → IsBoard (record { tableau = u; values = ws })
+    → AllVariables (λ y. y < t.variables) es → length vs ≡ t.variables → Solves deltas (point_in vs) t.rows → IsBoard (record { tableau = u; values = ws })
 sum_added t u vs ws es x is e g k o l s = subst (λ (b : BoardView). IsBoard b) (sym (λ i. record { tableau = e i; values = g i })) (record {
   lengths = length_push vs ∙ ap suc l;
   solves = (row_added deltas deltas_are_space (point_in (vs ++ x ∷ [])) t.rows t.variables es).1 (

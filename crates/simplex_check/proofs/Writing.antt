@@ -8,13 +8,13 @@ use Rattle.spec_tableaux.specs.Numbers.{Number}
 use Rattle.spec_tableaux.proofs.Steps.{same_eqb}
 use Rattle.simplex_bounds.specs.Deltas.{pair_of}
 use Rattle.spec_strains.specs.Points.{point_in}
-use Rattle.simplex_check.specs.Changes.{is_changed, written, AreKnown, ComeTo}
+use Rattle.simplex_check.specs.Changes.{is_changed, written, ChangesAreBelow, ComeTo}
 use Rattle.simplex_check.specs.declared.changes.Change.{Change}
 use Rattle.simplex_check.proofs.Points.{same_point, point_set}
 
 -- the first change is known, and so are the others
-pub known_first : (n : ℕ) (c : Change) (rest more : List Change) → rest ≡ c ∷ more → AreKnown n rest → (c.variable < n) × AreKnown n more
-known_first n c rest more e h = subst (AreKnown n) e h
+pub known_first : (n : ℕ) (c : Change) (rest more : List Change) → rest ≡ c ∷ more → ChangesAreBelow n rest → (c.variable < n) × ChangesAreBelow n more
+known_first n c rest more e h = subst (ChangesAreBelow n) e h
 
 -- the first change is made
 pub written_step : (vs : List Delta) (c : Change) (rest more : List Change) (w : ℕ → Pair Number) → rest ≡ c ∷ more → c.variable < length vs
@@ -32,7 +32,7 @@ written_leads v w (c ∷ cs) come o y = written_leads (λ z. cond (z == c.variab
     by z h true e = (let s : z ≡ c.variable = grind (arith, nat_tests) in ap w s) ∙ sym come.0 ∙ ap (λ p. cond p (pair_of c.value) (v z)) (sym e)
     by z h false e = o z (ap (λ p. p || is_changed z cs) e ∙ h) ∙ ap (λ p. cond p (pair_of c.value) (v z)) (sym e)
 
-pub known_push : (n : ℕ) (cs : List Change) (c : Change) → AreKnown n cs → c.variable < n → AreKnown n (cs ++ c ∷ [])
+pub known_push : (n : ℕ) (cs : List Change) (c : Change) → ChangesAreBelow n cs → c.variable < n → ChangesAreBelow n (cs ++ c ∷ [])
 known_push n [] c h k = (k, tt)
 known_push n (d ∷ cs) c h k = (h.0, known_push n cs c h.1 k)
 

@@ -16,9 +16,9 @@ written [] v y = v y
 written (c ∷ cs) v y = written cs (λ z. cond (z == c.variable) (pair_of c.value) (v z)) y
 
 -- each changed variable is below n
-abbrev pub AreKnown : ℕ → List Change → Type 0
-AreKnown n [] = Unit {0}
-AreKnown n (c ∷ cs) = (c.variable < n) × AreKnown n cs
+abbrev pub ChangesAreBelow : ℕ → List Change → Type 0
+ChangesAreBelow n [] = Unit {0}
+ChangesAreBelow n (c ∷ cs) = (c.variable < n) × ChangesAreBelow n cs
 
 -- each changed variable comes to its value at the point w
 abbrev pub ComeTo : (ℕ → Pair Number) → List Change → Type 0

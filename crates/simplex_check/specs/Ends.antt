@@ -1,6 +1,6 @@
 -- How a feasibility check ends.
 use Rattle.std.specs.Prelude.{◌≡◌, ℕ, ◌⊎◌, Result, Ok, Err}
-use Rattle.spec_tableaux.specs.LeastVariable.{Says, done, crossed, stuck}
+use Rattle.spec_tableaux.specs.LeastVariable.{RuleSays, done, crossed, stuck}
 use Rattle.ratio128.specs.Meant.{overflow}
 use Rattle.sat_budget.specs.Budgets.{BudgetView, AreSpent}
 use Rattle.sat_budget.specs.declared.limits.Strain.{Strain}
@@ -38,16 +38,16 @@ IsStopOf b stop (Pivots n) = ⊥
 IsStopOf b stop stops.Memory = Unit {0}
 
 -- what a check does to a board b and a budget old, by its result
-abbrev pub Ends : Ranges → BoardView → BoardView → BudgetView → BudgetView → Result Outcome Stop → Type 0
-Ends ranges b c old new (Ok Fine) =
-    Ran ranges (state_of b) (state_of c) old.exchanges new.exchanges × Says deltas ranges (state_of c) done
-Ends ranges b c old new (Ok (Conflict y)) =
-    Ran ranges (state_of b) (state_of c) old.exchanges new.exchanges × Says deltas ranges (state_of c) (stuck y)
-Ends ranges b c old new (Ok (Crossed y)) = (c ≡ b) × (new ≡ old) × Says deltas ranges (state_of b) (crossed y)
-Ends ranges b c old new (Err (Pivots n)) =
+abbrev pub EndsCheck : Ranges → BoardView → BoardView → BudgetView → BudgetView → Result Outcome Stop → Type 0
+EndsCheck ranges b c old new (Ok Fine) =
+    Ran ranges (state_of b) (state_of c) old.exchanges new.exchanges × RuleSays deltas ranges (state_of c) done
+EndsCheck ranges b c old new (Ok (Conflict y)) =
+    Ran ranges (state_of b) (state_of c) old.exchanges new.exchanges × RuleSays deltas ranges (state_of c) (stuck y)
+EndsCheck ranges b c old new (Ok (Crossed y)) = (c ≡ b) × (new ≡ old) × RuleSays deltas ranges (state_of b) (crossed y)
+EndsCheck ranges b c old new (Err (Pivots n)) =
     Ran ranges (state_of b) (state_of c) old.exchanges new.exchanges × AreSpent (WantsMore ranges (state_of c)) new n
-Ends ranges b c old new (Err (Strained s)) =
+EndsCheck ranges b c old new (Err (Strained s)) =
     Stopped ranges (state_of b) (state_of c) old.exchanges new.exchanges × IsStrainOf ranges c s
-Ends ranges b c old new (Err stops.Memory) =
+EndsCheck ranges b c old new (Err stops.Memory) =
     Ran ranges (state_of b) (state_of c) old.exchanges new.exchanges
     ⊎ Stopped ranges (state_of b) (state_of c) old.exchanges new.exchanges

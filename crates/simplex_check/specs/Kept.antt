@@ -5,9 +5,9 @@ use Rattle.simplex_check.specs.declared.board.Board.TheInside.{Inside}
 use Rattle.simplex_check.specs.Boards.{BoardView, IsBoard}
 
 -- what the fields mean
-abbrev pub view_of : Inside → BoardView
-view_of b = record { tableau = b.tableau; values = map pair_of b.values.items }
+abbrev pub assignment_view : Inside → BoardView
+assignment_view b = record { tableau = b.tableau; values = map pair_of b.values.items }
 
 -- the fields fit together
-abbrev pub IsKept : Inside → Type 0
-IsKept b = IsBoard (view_of b)
+abbrev pub AssignmentFits : Inside → Type 0
+AssignmentFits b = IsBoard (assignment_view b)

@@ -6,7 +6,7 @@ use Rattle.spec_tableaux.specs.Ranges.{settled_value}
 use Rattle.spec_tableaux.specs.LeastVariable.{is_out}
 use Rattle.spec_tableaux.specs.SolvedForms.{IsNonbasic}
 use Rattle.spec_strains.specs.Points.{deltas, point_in, Ranges, BoardState}
-use Rattle.simplex_bounds.specs.Held.{Keeps}
+use Rattle.simplex_bounds.specs.Held.{RespectsBound}
 use Rattle.simplex_bounds.specs.declared.bounds.Bound.{Bound}
 use Rattle.simplex_check.specs.declared.rule.Move.{Move}
 use Rattle.simplex_check.specs.declared.rule.Move.TheVariants.{Exchange}
@@ -49,7 +49,7 @@ pub record KeepsFirst (n : ℕ) (held : List Bound) (vs : List (Pair Number)) : 
   -- there are as many
   pub few : n ≤ length held
   -- they keep each of them
-  pub each : (b : Bound) → Contains (take n held) b → Keeps (point_in vs) b
+  pub each : (b : Bound) → Contains (take n held) b → RespectsBound (point_in vs) b
 
 -- the variable of each bound from a place on is one of the numbers
 abbrev pub AreDue : ℕ → List Bound → List ℕ → Type 0

@@ -2,9 +2,9 @@
 
 ghost use Rattle.std.specs.Prelude.{◌≡◌, ◌<◌, OnOk, OnErr, IfOk, IfErr};
 ghost use Rattle.spec_tableaux.specs.Rows.{is_basic};
-ghost use Rattle.spec_tableaux.specs.SolvedForms.{IsOver};
+ghost use Rattle.spec_tableaux.specs.SolvedForms.{AllVariables};
 ghost use Rattle.tableau.specs.Entries.{entries_of};
-ghost use Rattle.tableau.specs.Views.{OnWide};
+ghost use Rattle.tableau.specs.Views.{OnRowOverflow};
 ghost use Rattle.simplex_bounds.specs.Deltas.{pair_of};
 ghost use Rattle.simplex_check.specs.Boards.{IsBoard, IsBasisOf, state_of};
 ghost use Rattle.spec_strains.specs.Points.{point_in};
@@ -37,11 +37,11 @@ impl Model for Board {
 
     ghost Value = { BoardView };
 
-    ghost use Rattle.simplex_check.specs.Kept.{view_of, IsKept};
+    ghost use Rattle.simplex_check.specs.Kept.{assignment_view, AssignmentFits};
 
-    ghost view = { view_of };
+    ghost view = { assignment_view };
 
-    ghost invariant = { IsKept };
+    ghost invariant = { AssignmentFits };
 }
 
 impl Board {
@@ -82,11 +82,11 @@ impl Board {
     /// `Wide` comes where a coefficient or a value on the way leaves the bound on fractions, and `Memory` where there
     /// is no memory. The board is then as it was.
     pub fn add_row(&mut self, entries: &[Entry]) -> Result<u64, RowStop>
-        requires { IsOver (λ y. y < self.old.tableau.variables) (entries_of entries.now) }
+        requires { AllVariables (λ y. y < self.old.tableau.variables) (entries_of entries.now) }
         ensures ok { IfOk result (λ y. (y ≡ self.old.tableau.variables)
             × (self.new ≡ board_with_sum self.old (entries_of entries.now))) }
         ensures err { OnErr result (self.new ≡ self.old) }
-        ensures wide { IfErr result (OnWide (StrainsNew (state_of self.old) (entries_of entries.now))) }
+        ensures wide { IfErr result (OnRowOverflow (StrainsNew (state_of self.old) (entries_of entries.now))) }
     {
         self.tableau.rows_are_in_solved_form();
         let value = sum_at(&self.values, entries)?;

@@ -3,7 +3,7 @@
 ghost use Rattle.std.specs.Prelude.{◌≡◌, ◌<◌, ℕ, length, map};
 ghost use Rattle.simplex_bounds.specs.Deltas.{pair_of};
 ghost use Rattle.spec_strains.specs.Points.{point_in};
-ghost use Rattle.simplex_check.specs.Changes.{AreKnown, written};
+ghost use Rattle.simplex_check.specs.Changes.{ChangesAreBelow, written};
 
 use delta_num::Delta;
 
@@ -26,7 +26,7 @@ pub(crate) fn value_at(values: &[Delta], y: u64) -> Delta
 
 /// Makes changes of values, one after the other.
 pub(crate) fn write(values: &mut Vec<Delta>, changes: &[Change])
-    requires { AreKnown (length values.old.items) changes.now }
+    requires { ChangesAreBelow (length values.old.items) changes.now }
     ensures lengths { length values.new.items ≡ length values.old.items }
     ensures point { (y : ℕ) → point_in (map pair_of values.new.items) y
         ≡ written changes.now (point_in (map pair_of values.old.items)) y }

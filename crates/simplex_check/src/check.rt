@@ -1,11 +1,11 @@
 //! The feasibility check.
 
 ghost use Rattle.std.specs.Prelude.{◌≡◌, ◌≤◌, ◌<◌, ℕ, true, OnOk, OnErr, IfOk, IfErr};
-ghost use Rattle.spec_tableaux.specs.LeastVariable.{Says, Exchanges, Settles, exchange};
+ghost use Rattle.spec_tableaux.specs.LeastVariable.{RuleSays, Exchanges, Settles, exchange};
 ghost use Rattle.spec_strains.specs.Points.{deltas};
 ghost use Rattle.simplex_bounds.specs.Held.{ranges_in};
 ghost use Rattle.simplex_check.specs.Boards.{IsBoard, state_of};
-ghost use Rattle.simplex_check.specs.Ends.{Ends, StopsStep, StopsSettling};
+ghost use Rattle.simplex_check.specs.Ends.{EndsCheck, StopsStep, StopsSettling};
 ghost use Rattle.simplex_check.specs.Suspects.{is_among, Suspect, SuspectBut, KeepsFirst, AreDue, LooksAt};
 
 use crate::board::Board;
@@ -97,7 +97,7 @@ impl Board {
         entering: u64,
         suspects: &mut Suspects,
     ) -> Result<(), Stop>
-        requires says { Says deltas (ranges_in bounds.now.held) (state_of self.old) (exchange leaving entering) }
+        requires says { RuleSays deltas (ranges_in bounds.now.held) (state_of self.old) (exchange leaving entering) }
         requires suspect { SuspectBut (ranges_in bounds.now.held) (state_of self.old) leaving suspects.old }
         ensures suspect { OnOk result (Suspect (ranges_in bounds.now.held) (state_of self.new) suspects.new) }
         ensures variables { self.new.tableau.variables ≡ self.old.tableau.variables }
@@ -125,7 +125,7 @@ impl Board {
     /// Source: Dutertre and de Moura, A Fast Linear-Arithmetic Solver for DPLL(T), CAV 2006.
     pub fn check(&mut self, bounds: &Bounds, budget: &mut Budget) -> Result<Outcome, Stop>
         requires { bounds.now.variables ≤ self.old.tableau.variables }
-        ensures ends { Ends (ranges_in bounds.now.held) self.old self.new budget.old budget.new result }
+        ensures ends { EndsCheck (ranges_in bounds.now.held) self.old self.new budget.old budget.new result }
         ensures variables { self.new.tableau.variables ≡ self.old.tableau.variables }
         ensures listed { self.new.tableau.listed ≡ self.old.tableau.listed }
         ensures budget { budget.new ≡ record budget.old { exchanges = budget.new.exchanges } }
@@ -143,7 +143,7 @@ impl Board {
     ) -> Result<Outcome, Stop>
         requires known { bounds.now.variables ≤ self.old.tableau.variables }
         requires kept { KeepsFirst kept bounds.now.held self.old.values }
-        ensures ends { Ends (ranges_in bounds.now.held) self.old self.new budget.old budget.new result }
+        ensures ends { EndsCheck (ranges_in bounds.now.held) self.old self.new budget.old budget.new result }
         ensures variables { self.new.tableau.variables ≡ self.old.tableau.variables }
         ensures listed { self.new.tableau.listed ≡ self.old.tableau.listed }
         ensures budget { budget.new ≡ record budget.old { exchanges = budget.new.exchanges } }

@@ -3,10 +3,10 @@
 ghost use Rattle.std.specs.Prelude.{◌≡◌, ◌<◌, true, length, map, IfOk, IfErr};
 ghost use Rattle.spec_tableaux.specs.SolvedForms.{IsNonbasic};
 ghost use Rattle.spec_tableaux.specs.LeastVariable.{moved};
-ghost use Rattle.tableau.specs.Views.{row_at, OnWide};
+ghost use Rattle.tableau.specs.Views.{row_at, OnRowOverflow};
 ghost use Rattle.simplex_bounds.specs.Deltas.{pair_of};
 ghost use Rattle.spec_strains.specs.Points.{deltas, point_in, state_at};
-ghost use Rattle.simplex_check.specs.Changes.{AreKnown, Lead, is_changed};
+ghost use Rattle.simplex_check.specs.Changes.{ChangesAreBelow, Lead, is_changed};
 ghost use Rattle.spec_strains.specs.Strains.{StrainsMove};
 
 use crate::changes::{Change, value_at};
@@ -29,7 +29,7 @@ fn follower(
     ensures known { IfOk result (λ c. c.variable < tableau.now.variables) }
     ensures value { IfOk result (λ c. pair_of c.value
         ≡ moved deltas tableau.now.rows x (pair_of d) (point_in (map pair_of values.now)) c.variable) }
-    ensures wide { IfErr result (OnWide (StrainsMove (state_at tableau.now.rows (map pair_of values.now)) x
+    ensures wide { IfErr result (OnRowOverflow (StrainsMove (state_at tableau.now.rows (map pair_of values.now)) x
         (pair_of d))) }
 {
     tableau.rows_are_in_solved_form();
@@ -54,11 +54,11 @@ pub(crate) fn changes_of(
     requires known { first.variable < tableau.now.variables }
     requires nonbasic { IsNonbasic tableau.now.rows first.variable }
     requires start { pair_of first.value ≡ deltas.plus (point_in (map pair_of values.now) first.variable) (pair_of d) }
-    ensures known { IfOk result (λ cs. AreKnown tableau.now.variables cs.items) }
+    ensures known { IfOk result (λ cs. ChangesAreBelow tableau.now.variables cs.items) }
     ensures first { IfOk result (λ cs. is_changed first.variable cs.items ≡ true) }
     ensures lead { IfOk result (λ cs. Lead (point_in (map pair_of values.now))
         (moved deltas tableau.now.rows first.variable (pair_of d) (point_in (map pair_of values.now))) cs.items) }
-    ensures wide { IfErr result (OnWide (StrainsMove (state_at tableau.now.rows (map pair_of values.now)) first.variable
+    ensures wide { IfErr result (OnRowOverflow (StrainsMove (state_at tableau.now.rows (map pair_of values.now)) first.variable
         (pair_of d))) }
 {
     let mut changes = Vec::new(alloc);

@@ -77,7 +77,7 @@ impl Board {
     /// bound leaves, and the least variable of its row that can move enters.
     /// Source: Bland, New finite pivoting rules for the simplex method, 1977.
     pub fn next_move(&self, bounds: &Bounds) -> Move
-        ensures { rule.Says deltas (ranges_in bounds.now.held) (state_of self.now) (said result) }
+        ensures { rule.RuleSays deltas (ranges_in bounds.now.held) (state_of self.now) (said result) }
     {
         if let Some(y) = bounds.crossed() {
             return Move::Crossed(y);
@@ -92,7 +92,7 @@ impl Board {
     fn move_of(&self, bounds: &Bounds, leaving: u64) -> Move
         requires uncrossed { (y : ℕ) → is_crossed deltas (ranges_in bounds.now.held) y ≡ false }
         requires out { rule.IsLeast (rule.is_out deltas (ranges_in bounds.now.held) (state_of self.now)) leaving }
-        ensures says { rule.Says deltas (ranges_in bounds.now.held) (state_of self.now) (said result) }
+        ensures says { rule.RuleSays deltas (ranges_in bounds.now.held) (state_of self.now) (said result) }
         ensures left { (ys : List ℕ) → SuspectBut (ranges_in bounds.now.held) (state_of self.now) leaving ys
             → SuspectAfter (ranges_in bounds.now.held) (state_of self.now) result ys }
     {
@@ -113,7 +113,7 @@ impl Board {
     pub(crate) fn next_among(&self, bounds: &Bounds, suspects: &mut Suspects) -> Move
         requires uncrossed { (y : ℕ) → is_crossed deltas (ranges_in bounds.now.held) y ≡ false }
         requires suspect { Suspect (ranges_in bounds.now.held) (state_of self.now) suspects.old }
-        ensures says { rule.Says deltas (ranges_in bounds.now.held) (state_of self.now) (said result) }
+        ensures says { rule.RuleSays deltas (ranges_in bounds.now.held) (state_of self.now) (said result) }
         ensures suspect { SuspectAfter (ranges_in bounds.now.held) (state_of self.now) result suspects.new }
     {
         let Some(leaving) = pop_leaving(self, bounds, suspects) else {

@@ -4,9 +4,9 @@ ghost use Rattle.std.specs.Prelude.{◌≡◌, ◌<◌, ℕ, ◌==◌, true, fal
 ghost use Rattle.spec_tableaux.specs.Rows.{is_basic};
 ghost use Rattle.spec_tableaux.specs.SolvedForms.{IsNonbasic};
 ghost use Rattle.spec_tableaux.specs.Ranges.{settled_value};
-ghost use Rattle.spec_tableaux.specs.LeastVariable.{Says, Exchanges, exchange, distance, moved};
+ghost use Rattle.spec_tableaux.specs.LeastVariable.{RuleSays, Exchanges, exchange, distance, moved};
 ghost use Rattle.tableau.specs.Numbers.{number_of};
-ghost use Rattle.tableau.specs.Views.{OnWide};
+ghost use Rattle.tableau.specs.Views.{OnRowOverflow};
 ghost use Rattle.simplex_bounds.specs.Deltas.{pair_of};
 ghost use Rattle.spec_strains.specs.Points.{deltas, point_in};
 ghost use Rattle.simplex_bounds.specs.Held.{ranges_in};
@@ -41,7 +41,7 @@ impl Board {
             ≡ moved deltas self.old.tableau.rows first.variable (pair_of d) (point_in self.old.values) y) }
         ensures suspect { OnOk result (HaveSuspects self.old.values self.new.values suspects.old suspects.new) }
         ensures same { OnErr result (self.new ≡ self.old) }
-        ensures wide { IfErr result (OnWide (StrainsMove (state_of self.old) first.variable (pair_of d))) }
+        ensures wide { IfErr result (OnRowOverflow (StrainsMove (state_of self.old) first.variable (pair_of d))) }
     {
         self.tableau.rows_are_in_solved_form();
         let changes = changes_of(self.alloc, &self.tableau, &self.values, first, d)?;
@@ -68,7 +68,7 @@ impl Board {
             → point_in self.new.values z ≡ point_in self.old.values z }
         ensures suspect { OnOk result (HaveSuspects self.old.values self.new.values suspects.old suspects.new) }
         ensures same { OnErr result (self.new ≡ self.old) }
-        ensures wide { IfErr result (OnWide (Strains (ranges_in bounds.now.held) (state_of self.old))) }
+        ensures wide { IfErr result (OnRowOverflow (Strains (ranges_in bounds.now.held) (state_of self.old))) }
     {
         self.values_solve_the_rows();
         let value = self.value(y);
@@ -96,10 +96,10 @@ impl Board {
 
     /// Gives how far the entering variable has to move so that the leaving one comes to the bound that it violates.
     fn distance_of(&self, bounds: &Bounds, leaving: u64, entering: u64) -> Result<Delta, RowStop>
-        requires { Says deltas (ranges_in bounds.now.held) (state_of self.now) (exchange leaving entering) }
+        requires { RuleSays deltas (ranges_in bounds.now.held) (state_of self.now) (exchange leaving entering) }
         ensures exact { IfOk result (λ d. pair_of d
             ≡ distance deltas (ranges_in bounds.now.held) (state_of self.now) leaving entering) }
-        ensures wide { IfErr result (OnWide (Strains (ranges_in bounds.now.held) (state_of self.now))) }
+        ensures wide { IfErr result (OnRowOverflow (Strains (ranges_in bounds.now.held) (state_of self.now))) }
     {
         self.tableau.rows_are_in_solved_form();
         let value = self.value(leaving);
@@ -119,7 +119,7 @@ impl Board {
         entering: u64,
         suspects: &mut Suspects,
     ) -> Result<(), RowStop>
-        requires says { Says deltas (ranges_in bounds.now.held) (state_of self.old) (exchange leaving entering) }
+        requires says { RuleSays deltas (ranges_in bounds.now.held) (state_of self.old) (exchange leaving entering) }
         requires suspect { SuspectBut (ranges_in bounds.now.held) (state_of self.old) leaving suspects.old }
         ensures suspect { OnOk result (Suspect (ranges_in bounds.now.held) (state_of self.new) suspects.new) }
         ensures variables { self.new.tableau.variables ≡ self.old.tableau.variables }
@@ -127,7 +127,7 @@ impl Board {
         ensures made { OnOk result (Exchanges deltas (ranges_in bounds.now.held) (state_of self.old) leaving entering
             (state_of self.new)) }
         ensures same { OnErr result (self.new ≡ self.old) }
-        ensures wide { IfErr result (OnWide (Strains (ranges_in bounds.now.held) (state_of self.old))) }
+        ensures wide { IfErr result (OnRowOverflow (Strains (ranges_in bounds.now.held) (state_of self.old))) }
     {
         self.tableau.rows_are_in_solved_form();
         let d = self.distance_of(bounds, leaving, entering)?;

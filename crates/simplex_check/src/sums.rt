@@ -3,7 +3,7 @@
 ghost use Rattle.std.specs.Prelude.{◌≡◌, ◌<◌, length, map, IfOk, IfErr};
 ghost use Rattle.ratio128.specs.Meant.{overflow};
 ghost use Rattle.spec_tableaux.specs.Rows.{sum_of};
-ghost use Rattle.spec_tableaux.specs.SolvedForms.{IsOver};
+ghost use Rattle.spec_tableaux.specs.SolvedForms.{AllVariables};
 ghost use Rattle.tableau.specs.Entries.{entries_of};
 ghost use Rattle.simplex_bounds.specs.Deltas.{pair_of};
 ghost use Rattle.spec_strains.specs.Points.{deltas, point_in};
@@ -16,7 +16,7 @@ use tableau::{Entry, Wide};
 
 /// Gives the sum of entries at these values.
 pub(crate) fn sum_at(values: &[Delta], entries: &[Entry]) -> Result<Delta, Wide>
-    requires { IsOver (λ y. y < length values.now) (entries_of entries.now) }
+    requires { AllVariables (λ y. y < length values.now) (entries_of entries.now) }
     ensures value { IfOk result (λ v. pair_of v
         ≡ sum_of deltas (point_in (map pair_of values.now)) (entries_of entries.now)) }
     ensures wide { IfErr result (λ w. StrainsValue (point_in (map pair_of values.now)) (entries_of entries.now)

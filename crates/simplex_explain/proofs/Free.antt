@@ -10,7 +10,7 @@ use Rattle.term_core.specs.declared.ids.Lit.{Lit}
 use Rattle.term_core.specs.Tables.{TableView, term_at, literal_at, IsIn, IsParameterAmong}
 use Rattle.proof_log.specs.Theories.{IsAtomIn}
 use Rattle.simplex_explain.specs.declared.weighted.Weighted.{Weighted}
-use Rattle.simplex_explain.specs.Reasons.{AreReasons}
+use Rattle.simplex_explain.specs.Reasons.{AreAtomReasons}
 
 module _ (t : TableView) where
   -- a term of sort Bool that is its own literal is an atom
@@ -22,7 +22,7 @@ module _ (t : TableView) where
       ((here, record { term = sorted [] (term_at t id) (Contains-get_or t.terms id.0 no_term here) (free id.0 no_term here); sort = truth }), sym means ∙ ap (literal_at t) same)
 
   -- the literals of atoms are reasons by these
-  pub atoms_reasons : (rs : List Weighted) → All (λ (r : Weighted). IsAtomIn t r.literal.term) rs → AreReasons (map (λ (r : Weighted). term_at t r.literal.term) rs) t rs
+  pub atoms_reasons : (rs : List Weighted) → All (λ (r : Weighted). IsAtomIn t r.literal.term) rs → AreAtomReasons (map (λ (r : Weighted). term_at t r.literal.term) rs) t rs
   atoms_reasons rs atoms k d lt =
       let r = get_or rs k d in
       (atoms k d lt, to_image (λ (r : Weighted). term_at t r.literal.term) rs r (Contains-get_or rs k d lt))

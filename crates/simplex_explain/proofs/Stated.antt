@@ -21,11 +21,11 @@ use Rattle.clause_literals.proofs.TableLiterals.{literals_apart}
 use Rattle.proof_log.specs.declared.premises.StepId.{StepId}
 use Rattle.proof_log.specs.Logs.{Logged, named, logged_at, no_logged, inference_of}
 use Rattle.proof_log.specs.Clashes.{HasLit, IsClash, literals_in}
-use Rattle.proof_log.specs.Theories.{Derives, IsAtomIn}
+use Rattle.proof_log.specs.Theories.{DerivesLemmas, IsAtomIn}
 use Rattle.term_clauses.specs.Stating.{Widens}
 use Rattle.simplex_explain.specs.declared.weighted.Weighted.{Weighted}
-use Rattle.simplex_explain.specs.Reasons.{AreReasons, AreHeld, weights_of, weights_meant, literals_meant, denials_meant}
-use Rattle.simplex_explain.specs.Steps.{derived, refuting, refutation, IsStated}
+use Rattle.simplex_explain.specs.Reasons.{AreAtomReasons, AreHeld, weights_of, weights_meant, literals_meant, denials_meant}
+use Rattle.simplex_explain.specs.Steps.{derived, refuting, refutation, LogsRefutation}
 
 -- the denial of an atom's literal is made of terms among which the atom is
 denial_made : (terms : List Term) (l : Literal) → Contains terms l.atom → IsMadeOf terms (denial l)
@@ -44,18 +44,18 @@ denial_literal l atom = go l.positive
     go false = atom
 
 module _ (terms : List Term) (t : TableView) where
-  pub denials_made : (rs : List Weighted) → AreReasons terms t rs → All (IsMadeOf terms) (denials_meant t rs)
+  pub denials_made : (rs : List Weighted) → AreAtomReasons terms t rs → All (IsMadeOf terms) (denials_meant t rs)
   denials_made rs h = All-map (IsMadeOf terms) denial (literals_meant t rs)
       (All-map (λ (l : Literal). IsMadeOf terms (denial l)) (λ (r : Weighted). literal_at t r.literal) rs
       (λ k d lt. denial_made terms (literal_at t (get_or rs k d).literal) (h k d lt).1))
 
-  pub denials_literals : (rs : List Weighted) → AreReasons terms t rs → literals_of (denials_meant t rs) ≡ map (λ (r : Weighted). complement (literal_at t r.literal)) rs
+  pub denials_literals : (rs : List Weighted) → AreAtomReasons terms t rs → literals_of (denials_meant t rs) ≡ map (λ (r : Weighted). complement (literal_at t r.literal)) rs
   denials_literals [] h = refl
   denials_literals (r ∷ rs) h =
       let P : Weighted → Type 0 = λ r. IsAtomIn t r.literal.term × Contains terms (term_at t r.literal.term) in
       λ i. denial_literal (literal_at t r.literal) (All-head P r rs h).0.1 i ∷ denials_literals rs (All-tail P r rs h) i
 
-module _ (t u : TableView) (old new : List Logged) (rs : List Weighted) (id : StepId) (s : IsStated t u old new rs id) where
+module _ (t u : TableView) (old new : List Logged) (rs : List Weighted) (id : StepId) (s : LogsRefutation t u old new rs id) where
   here : id.0 < length new
   here = omega (arith, s.added.number, ap length s.added.last, length-append old (refuting (weights_of rs) s.clause ∷ []))
 
@@ -66,9 +66,9 @@ module _ (t u : TableView) (old new : List Logged) (rs : List Weighted) (id : St
   pub stated_step : inference_of u (logged_at new id) ≡ refutation t rs
   stated_step = ap (inference_of u) at_end ∙ ap (λ (c : List Term). by_rule LaGeneric [] (texts_of (weights_meant rs)) c) s.says
 
-  module _ (terms : List Term) (wider : Widens t u) (reasons : AreReasons terms t rs) where
+  module _ (terms : List Term) (wider : Widens t u) (reasons : AreAtomReasons terms t rs) where
     -- it is a lemma
-    pub stated_derives : Derives terms (derived t old) (derived u new)
+    pub stated_derives : DerivesLemmas terms (derived t old) (derived u new)
     stated_derives = record {
       table = wider.terms;
       declared = wider.declared;

@@ -16,11 +16,11 @@ use Rattle.proof_log.specs.Logs.{IsFormulaIn, AreFormulasIn}
 use Rattle.term_clauses.specs.Stating.{Widens}
 use Rattle.term_clauses.proofs.Parts.{formula_kept, signed_in}
 use Rattle.simplex_explain.specs.declared.weighted.Weighted.{Weighted}
-use Rattle.simplex_explain.specs.Reasons.{IsPut, literals_meant, denials_meant}
+use Rattle.simplex_explain.specs.Reasons.{IsDenialPut, literals_meant, denials_meant}
 
 -- a negation is put
 pub negation_put : (t u : TableView) → Widens t u → (l : Lit) (node : Node) → node.head ≡ heads.Not → node.arguments.items ≡ l.term ∷ [] → IsFormulaIn t l.term → l.positive ≡ true
-    → (r : Result TermId NoMemory) → IfOk r (λ n. IsIn u n × (term_at u n ≡ node_term t node)) → IfOk r (IsPut u (denial (literal_at t l)))
+    → (r : Result TermId NoMemory) → IfOk r (λ n. IsIn u n × (term_at u n ≡ node_term t node)) → IfOk r (IsDenialPut u (denial (literal_at t l)))
 negation_put t u wider l node head arguments formula positive (Ok n) put =
     let shape : node_term t node ≡ negated (term_at t l.term) = λ i. shape_term t (record { head = head i; arguments = arguments i }) in
     let is = put.1 ∙ shape in
@@ -29,7 +29,7 @@ negation_put t u wider l node head arguments formula positive (Ok n) put =
 negation_put t u wider l node head arguments formula positive (Err e) put = tt
 
 -- the term of a negative literal denies it
-pub negative_put : (t : TableView) (l : Lit) → IsFormulaIn t l.term → l.positive ≡ false → IsPut t (denial (literal_at t l)) l.term
+pub negative_put : (t : TableView) (l : Lit) → IsFormulaIn t l.term → l.positive ≡ false → IsDenialPut t (denial (literal_at t l)) l.term
 negative_put t l formula negative = (formula, sym (ap (λ (p : Bool). denial (record { atom = term_at t l.term; positive = p })) negative))
 
 -- one denial more
@@ -46,7 +46,7 @@ reason_formula t rs i r lt here formulas = subst (λ (r : Weighted). IsFormulaIn
 -- the terms of reasons up to one, and its own
 pub terms_more : (t u w : TableView) → Widens t u → Widens u w → (rs : List Weighted) (i : ℕ) (r : Weighted) → i < length rs → r ≡ get_or rs i r → All (λ (r : Weighted). IsFormulaIn t r.literal.term) rs
     → (ids all : List TermId) (id : TermId) → all ≡ ids ++ id ∷ [] → AreFormulasIn u ids → clause_at u ids ≡ denials_meant t (take i rs)
-    → IsPut w (denial (literal_at u r.literal)) id → AreFormulasIn w all × (clause_at w all ≡ denials_meant t (take (i + 1) rs))
+    → IsDenialPut w (denial (literal_at u r.literal)) id → AreFormulasIn w all × (clause_at w all ≡ denials_meant t (take (i + 1) rs))
 terms_more t u w wide wider rs i r lt here formulas ids all id is before says put = (
   subst (AreFormulasIn w) (sym is) (All-push (IsFormulaIn w) ids id (λ k e small. formula_kept u w wider (get_or ids k e) (before k e small)) put.0),
   ap (clause_at w) is ∙ map-append (term_at w) ids (id ∷ []) ∙ (λ j. kept j ++ last j ∷ []) ∙ sym (denials_more t rs i r lt),

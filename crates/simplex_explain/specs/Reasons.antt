@@ -35,8 +35,8 @@ abbrev pub arguments_meant : List Weighted → List Coefficient
 arguments_meant rs = map given (weights_meant rs)
 
 -- each literal is one of an atom of the table, which is one of these terms
-abbrev pub AreReasons : List Term → TableView → List Weighted → Type 0
-AreReasons ts t rs = All (λ (r : Weighted). IsAtomIn t r.literal.term × Contains ts (term_at t r.literal.term)) rs
+abbrev pub AreAtomReasons : List Term → TableView → List Weighted → Type 0
+AreAtomReasons ts t rs = All (λ (r : Weighted). IsAtomIn t r.literal.term × Contains ts (term_at t r.literal.term)) rs
 
 -- each literal is one of these
 abbrev pub AreHeld : List Lit → List Weighted → Type 0
@@ -54,5 +54,5 @@ pub record Refutes (t : TableView) (rs : List Weighted) : Type 0 where
   pub contradiction : CannotHold summands
 
 -- a formula of the table is this term
-abbrev pub IsPut : TableView → Term → TermId → Type 0
-IsPut t u id = IsFormulaIn t id × (term_at t id ≡ u)
+abbrev pub IsDenialPut : TableView → Term → TermId → Type 0
+IsDenialPut t u id = IsFormulaIn t id × (term_at t id ≡ u)

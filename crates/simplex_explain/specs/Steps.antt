@@ -34,7 +34,7 @@ abbrev pub refuting : List Ratio → List TermId → Logged
 refuting weights clause = stepped LaGeneric [] (fractions_of weights) clause
 
 -- The step that not all of the literals hold was logged last, under a number.
-pub record IsStated (t u : TableView) (old new : List Logged) (rs : List Weighted) (id : StepId) : Type 0 where
+pub record LogsRefutation (t u : TableView) (old new : List Logged) (rs : List Weighted) (id : StepId) : Type 0 where
   -- its clause
   pub clause : List TermId
   pub says : clause_at u clause ≡ denials_meant t rs

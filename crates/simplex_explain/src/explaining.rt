@@ -5,8 +5,8 @@ ghost use Rattle.spec_sorts.specs.Terms.{Term};
 ghost use Rattle.term_core.specs.declared.ids.Lit.{Lit as LitView};
 ghost use Rattle.proof_log.specs.Logs.{IsLogOf, logged_at, inference_of};
 ghost use Rattle.proof_log.specs.Clashes.{IsClash};
-ghost use Rattle.proof_log.specs.Theories.{Derives};
-ghost use Rattle.simplex_explain.specs.Reasons.{AreReasons, AreHeld, Refutes};
+ghost use Rattle.proof_log.specs.Theories.{DerivesLemmas};
+ghost use Rattle.simplex_explain.specs.Reasons.{AreAtomReasons, AreHeld, Refutes};
 ghost use Rattle.simplex_explain.specs.Steps.{derived, judged, refutation, IsCause};
 
 use crate::stating::refute;
@@ -41,9 +41,9 @@ pub fn explain(
 ) -> Result<StepId, ExplainStop>
     ghost terms: { List Term }
     requires log { IsLogOf table.old log.old }
-    requires reasons { AreReasons terms table.old reasons.now }
+    requires reasons { AreAtomReasons terms table.old reasons.now }
     requires refutes { Refutes table.old reasons.now }
-    ensures derives { OnOk result (Derives terms (derived table.old log.old) (derived table.new log.new)) }
+    ensures derives { OnOk result (DerivesLemmas terms (derived table.old log.old) (derived table.new log.new)) }
     ensures step { IfOk result (λ step. inference_of table.new (logged_at log.new step)
         ≡ refutation table.old reasons.now) }
     ensures clash { IfOk result (λ step. (held : List LitView) → AreHeld held reasons.now

@@ -3,7 +3,7 @@
 ghost use Rattle.std.specs.Prelude.{◌≡◌, map, IfOk};
 ghost use Rattle.spec_arithmetic.specs.Contradictions.{la_generic};
 ghost use Rattle.linear_form.specs.declared.coeff.Coeff.TheVariants.{Number};
-ghost use Rattle.linear_form.specs.Sums.{Judges};
+ghost use Rattle.linear_form.specs.Sums.{JudgesSum};
 ghost use Rattle.term_core.specs.Tables.{AreIn, clause_at};
 ghost use Rattle.simplex_explain.specs.Reasons.{arguments_meant};
 
@@ -31,7 +31,7 @@ pub(crate) fn judge(
     reasons: &[Weighted],
 ) -> Result<(), ArithFault>
     requires { AreIn table.now clause.now }
-    ensures { Judges (la_generic (clause_at table.now clause.now) (arguments_meant reasons.now)) result }
+    ensures { JudgesSum (la_generic (clause_at table.now clause.now) (arguments_meant reasons.now)) result }
 {
     let arguments = arguments_of(alloc, reasons)?;
     la_generic(alloc, table, clause, &arguments)

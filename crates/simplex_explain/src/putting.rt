@@ -5,7 +5,7 @@ ghost use Rattle.term_core.specs.Tables.{clause_at, literal_at};
 ghost use Rattle.spec_simplex.specs.Weights.{denial};
 ghost use Rattle.proof_log.specs.Logs.{IsFormulaIn, AreFormulasIn};
 ghost use Rattle.term_clauses.specs.Stating.{Widens};
-ghost use Rattle.simplex_explain.specs.Reasons.{IsPut, denials_meant};
+ghost use Rattle.simplex_explain.specs.Reasons.{IsDenialPut, denials_meant};
 
 use crate::weighted::Weighted;
 use std::alloc::Global;
@@ -16,7 +16,7 @@ use world_io::NoMemory;
 fn negation(alloc: Global, table: &mut TermTable, literal: Lit) -> Result<TermId, NoMemory>
     requires { IsFormulaIn table.old literal.term }
     ensures wider { Widens table.old table.new }
-    ensures means { IfOk result (IsPut table.new (denial (literal_at table.old literal))) }
+    ensures means { IfOk result (IsDenialPut table.new (denial (literal_at table.old literal))) }
 {
     if !literal.positive {
         return Ok(literal.term);

@@ -3,17 +3,17 @@
 ghost use Rattle.std.specs.Prelude.{◌≡◌, List, map, All, Ok, Err, IfOk, IfErr, OnOk, OnErr, MatchResult};
 ghost use Rattle.spec_sorts.specs.Terms.{Term};
 ghost use Rattle.spec_arithmetic.specs.Contradictions.{given, la_generic};
-ghost use Rattle.linear_form.specs.Sums.{Judges};
+ghost use Rattle.linear_form.specs.Sums.{JudgesSum};
 ghost use Rattle.term_core.specs.Tables.{clause_at};
 ghost use Rattle.term_core.specs.declared.ids.Lit.{Lit as LitView};
 ghost use Rattle.rule_bool.specs.Arguments.{fractions_of};
 ghost use Rattle.proof_log.specs.Logs.{IsFormulaIn, AreFormulasIn, IsLogOf, logged_at, inference_of};
 ghost use Rattle.proof_log.specs.Adding.{IsAdded};
 ghost use Rattle.proof_log.specs.Clashes.{IsClash};
-ghost use Rattle.proof_log.specs.Theories.{Derives};
+ghost use Rattle.proof_log.specs.Theories.{DerivesLemmas};
 ghost use Rattle.term_clauses.specs.Stating.{Widens};
-ghost use Rattle.simplex_explain.specs.Reasons.{AreReasons, AreHeld, weights_of};
-ghost use Rattle.simplex_explain.specs.Steps.{derived, judged, refuting, refutation, IsStated};
+ghost use Rattle.simplex_explain.specs.Reasons.{AreAtomReasons, AreHeld, weights_of};
+ghost use Rattle.simplex_explain.specs.Steps.{derived, judged, refuting, refutation, LogsRefutation};
 
 use crate::judging::judge;
 use crate::putting::negations;
@@ -73,9 +73,9 @@ fn stated(
     requires log { IsLogOf table.old log.old }
     requires formulas { All (λ r. IsFormulaIn table.old r.literal.term) reasons.now }
     ensures wider { Widens table.old table.new }
-    ensures stated { IfOk result (IsStated table.old table.new log.old log.new reasons.now) }
+    ensures stated { IfOk result (LogsRefutation table.old table.new log.old log.new reasons.now) }
     ensures same { OnErr result (log.new ≡ log.old) }
-    ensures fault { IfErr result (λ fault. Judges (judged table.old reasons.now) (Err fault)) }
+    ensures fault { IfErr result (λ fault. JudgesSum (judged table.old reasons.now) (Err fault)) }
 {
     logs_stand_in_grown_tables();
     let Ok(clause) = negations(alloc, table, reasons) else {
@@ -99,14 +99,14 @@ pub(crate) fn refute(
 ) -> Result<StepId, ArithFault>
     ghost terms: { List Term }
     requires log { IsLogOf table.old log.old }
-    requires reasons { AreReasons terms table.old reasons.now }
-    ensures derives { OnOk result (Derives terms (derived table.old log.old) (derived table.new log.new)) }
+    requires reasons { AreAtomReasons terms table.old reasons.now }
+    ensures derives { OnOk result (DerivesLemmas terms (derived table.old log.old) (derived table.new log.new)) }
     ensures step { IfOk result (λ step. inference_of table.new (logged_at log.new step)
         ≡ refutation table.old reasons.now) }
     ensures clash { IfOk result (λ step. (held : List LitView) → AreHeld held reasons.now
         → IsClash table.new log.new held step) }
     ensures same { OnErr result ((table.new ≡ table.old) × (log.new ≡ log.old)) }
-    ensures fault { IfErr result (λ fault. Judges (judged table.old reasons.now) (Err fault)) }
+    ensures fault { IfErr result (λ fault. JudgesSum (judged table.old reasons.now) (Err fault)) }
 {
     let terms = table.len();
     match stated(alloc, table, log, reasons) {

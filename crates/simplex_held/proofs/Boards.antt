@@ -8,10 +8,10 @@ use Rattle.term_core.specs.Tables.{TableView}
 use Rattle.simplex_bounds.specs.Held.{BoundsView}
 use Rattle.simplex_check.specs.Boards.{BoardView}
 use Rattle.simplex_atoms.specs.Grounded.{AreGrounded}
-use Rattle.simplex_atoms.specs.Atoms.{AtomsView, ground_of, IsSum, AreRight, ArePlaced}
+use Rattle.simplex_atoms.specs.Atoms.{AtomsView, ground_of, IsSum, AtomsFit, ArePlaced}
 
-pub fit : (t : TableView) (a : AtomsView) (b c : BoardView) (bounds : BoundsView) → AreRight t a b bounds → c.tableau.variables ≡ b.tableau.variables
-    → c.tableau.listed ≡ b.tableau.listed → AreRight t a c bounds
+pub fit : (t : TableView) (a : AtomsView) (b c : BoardView) (bounds : BoundsView) → AtomsFit t a b bounds → c.tableau.variables ≡ b.tableau.variables
+    → c.tableau.listed ≡ b.tableau.listed → AtomsFit t a c bounds
 fit t a b c bounds right v l = record {
   counted = right.counted ∙ sym v;
   within = subst (λ (n : ℕ). bounds.variables ≤ n) (sym v) right.within;

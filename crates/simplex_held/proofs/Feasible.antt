@@ -7,7 +7,7 @@ use Rattle.spec_tableaux.specs.Rows.{Solves}
 use Rattle.spec_tableaux.specs.Numbers.{Number, numbers}
 use Rattle.spec_tableaux.proofs.PairSolutions.{pair_parts, parts_pair}
 use Rattle.spec_simplex.specs.Constraints.{Constraint, constraint_of, form_of, HasForm, HaveForms}
-use Rattle.spec_simplex.specs.Points.{Point, Keeps, IsFeasible}
+use Rattle.spec_simplex.specs.Points.{Point, KeepsLiteral, IsFeasible}
 use Rattle.term_core.specs.declared.ids.Lit.{Lit}
 use Rattle.term_core.specs.Tables.{TableView, term_at, literal_at, positive_literal}
 use Rattle.tableau.specs.Views.{TableauView, IsTableau}
@@ -16,13 +16,13 @@ use Rattle.simplex_bounds.specs.declared.bounds.Side.{Side}
 use Rattle.simplex_bounds.specs.declared.bounds.Side.TheVariants.{Lower, Upper}
 use Rattle.simplex_bounds.specs.Deltas.{pair_of}
 use Rattle.spec_strains.specs.Points.{deltas, point_in}
-use Rattle.simplex_bounds.specs.Held.{BoundsView, is_tighter, Keeps as KeepsBound}
+use Rattle.simplex_bounds.specs.Held.{BoundsView, is_tighter, RespectsBound as KeepsBound}
 use Rattle.simplex_bounds.proofs.Keeping.{ranges_kept}
 use Rattle.simplex_check.specs.Boards.{BoardView}
 use Rattle.simplex_atoms.specs.declared.place.Place.{Place}
 use Rattle.simplex_atoms.specs.Owners.{AreOwned}
 use Rattle.simplex_atoms.specs.Places.{IsPlaced, place_in}
-use Rattle.simplex_atoms.specs.Limits.{Limit, limit_of, limits_by, violates, IsKept, AreKept}
+use Rattle.simplex_atoms.specs.Limits.{Limit, limit_of, limits_by, violates, KeepsLimit, AreLimitsKept}
 use Rattle.simplex_atoms.specs.Atoms.{AtomsView, setting_of, ground_of}
 use Rattle.simplex_atoms.specs.Watching.{IsWatched}
 use Rattle.simplex_atoms.proofs.Keeping.{kept}
@@ -43,7 +43,7 @@ side_kept Lower x y h = h
 side_kept Upper x y h = h
 
 -- what keeps a bound keeps what it means
-bound_kept : (v : ℕ → Pair Number) (b : Bound) → KeepsBound v b → IsKept v (limit_of b)
+bound_kept : (v : ℕ → Pair Number) (b : Bound) → KeepsBound v b → KeepsLimit v (limit_of b)
 bound_kept v b h = side_kept b.side (v b.variable) (pair_of b.value) h
 
 -- The place of the atom of a literal, whose form is that of what the literal says.
@@ -60,13 +60,13 @@ module _ (t : TableView) (a : AtomsView) (b : BoardView) (bounds : BoundsView) (
   pub solved : Solves deltas v b.tableau.listed
   solved = listed_solved b.tableau k.tableau v k.meets.solves
 
-  limits_kept : (l : Lit) → Contains held l → (place : Place) → place_in a.placed l.term ≡ Some place → AreKept v (limits_by place l)
-  limits_kept l h place e = all_from (IsKept v) (limits_by place l) by
+  limits_kept : (l : Lit) → Contains held l → (place : Place) → place_in a.placed l.term ≡ Some place → AreLimitsKept v (limits_by place l)
+  limits_kept l h place e = all_from (KeepsLimit v) (limits_by place l) by
     where
-      by : (x : Limit) → Contains (limits_by place l) x → IsKept v x
+      by : (x : Limit) → Contains (limits_by place l) x → KeepsLimit v x
       by x c =
           let found = held_as_bound a.placed held bounds.held k.bounds_are l h place e x c in
-          subst (IsKept v) found.2 (bound_kept v found.0 ((ranges_kept bounds.held v).0 k.meets.within found.0 found.1))
+          subst (KeepsLimit v) found.2 (bound_kept v found.0 ((ranges_kept bounds.held v).0 k.meets.within found.0 found.1))
 
   -- a held literal that says something has a place
   pub placed : (l : Lit) → Contains held l → (c : Constraint) → constraint_of (literal_at t l) ≡ Some c → IsAt t a b l c
@@ -79,7 +79,7 @@ module _ (t : TableView) (a : AtomsView) (b : BoardView) (bounds : BoundsView) (
           record { place = place; there = e; is = is; has = form_same (term_at t l.term) l.positive is.constraint c is.says f ∙ is.has }
 
   -- and is kept by each point whose values are those of the variables
-  pub literal_kept : (p : Point) → AreOwned t a.owners p v → (l : Lit) → Contains held l → Keeps p (literal_at t l)
+  pub literal_kept : (p : Point) → AreOwned t a.owners p v → (l : Lit) → Contains held l → KeepsLiteral p (literal_at t l)
   literal_kept p own l h c f =
       let x = placed l h c f in
       kept (setting_of t (ground_of a.owners b)) x.place (term_at t l.term) x.is p v own solved l (limits_kept l h x.place x.there) c f
@@ -88,5 +88,5 @@ module _ (t : TableView) (a : AtomsView) (b : BoardView) (bounds : BoundsView) (
   feasible =
       let p = point_of t a.owners v in (
         All-map HasForm (literal_at t) held (all_from (λ (l : Lit). HasForm (literal_at t l)) held (λ l h c f. let x = placed l h c f in (x.is.form, x.has))),
-        (p, All-map (Keeps p) (literal_at t) held (all_from (λ (l : Lit). Keeps p (literal_at t l)) held (literal_kept p (owned t a.owners v k.unique k.right.owners_in k.right.once)))),
+        (p, All-map (KeepsLiteral p) (literal_at t) held (all_from (λ (l : Lit). KeepsLiteral p (literal_at t l)) held (literal_kept p (owned t a.owners v k.unique k.right.owners_in k.right.once)))),
       )

@@ -9,7 +9,7 @@ use Rattle.spec_simplex.specs.Points.{Point}
 use Rattle.term_core.specs.declared.ids.TermId.{TermId}
 use Rattle.term_core.specs.Tables.{TableView, term_at, AreDifferent}
 use Rattle.spec_strains.specs.Points.{deltas}
-use Rattle.simplex_atoms.specs.Owners.{owner_at, AreOnce, AreOwnersIn, AreOwned}
+use Rattle.simplex_atoms.specs.Owners.{owner_at, AreOwnedOnce, AreOwnersIn, AreOwned}
 
 -- a variable stands for this term
 abbrev stands_for : TableView → Option TermId → Term → Bool
@@ -52,7 +52,7 @@ absent t (o ∷ os) v u h = by (stands_for t o u) refl (absent t os (λ y. v (su
     by true g r = let x = here t o u g in absurd (h zero x.0 x.1 x.2)
     by false g r = r
 
-pub owned : (t : TableView) (owners : List (Option TermId)) (v : ℕ → Pair Number) → AreDifferent t.terms → AreOwnersIn t owners → AreOnce owners → AreOwned t owners (point_of t owners v) v
+pub owned : (t : TableView) (owners : List (Option TermId)) (v : ℕ → Pair Number) → AreDifferent t.terms → AreOwnersIn t owners → AreOwnedOnce owners → AreOwned t owners (point_of t owners v) v
 owned t owners v unique in_table once y id e = sym (found t owners v (term_at t id) (v y) same y id e refl)
   where
     same : (x : ℕ) (i : TermId) → owner_at owners x ≡ Some i → term_at t i ≡ term_at t id → v x ≡ v y

@@ -10,7 +10,7 @@ use Rattle.simplex_bounds.specs.declared.bounds.Side.TheVariants.{Lower, Upper}
 use Rattle.simplex_atoms.specs.declared.place.Place.{Place}
 use Rattle.simplex_atoms.specs.Places.{place_in}
 use Rattle.simplex_atoms.specs.Limits.{Limit, limit_of, limit_on, limits_where, limits_by, side_by}
-use Rattle.simplex_reasons.specs.Stops.{IsStated, AreStated}
+use Rattle.simplex_reasons.specs.Stops.{IsStatedBound, AreStated}
 use Rattle.simplex_held.specs.Stated.{stated_at, stated_by, all_stated, AreBoundsOf}
 
 -- what holds of each item holds of all
@@ -67,7 +67,7 @@ pub bound_origin : (placed : List (ℕ × Place)) (held : List Lit) (bounds : Li
 bound_origin placed held bounds are b c = origin placed held held (limit_of b) (λ l i. i) (subst (λ (xs : List Limit). Contains xs (limit_of b)) are (to_image limit_of bounds b c))
 
 pub bounds_stated : (placed : List (ℕ × Place)) (held : List Lit) (bounds : List Bound) → AreBoundsOf placed held bounds → AreStated placed bounds
-bounds_stated placed held bounds are = all_from (IsStated placed) bounds (λ b c. let o = bound_origin placed held bounds are b c in record { place = o.place; there = o.there; states = o.states })
+bounds_stated placed held bounds are = all_from (IsStatedBound placed) bounds (λ b c. let o = bound_origin placed held bounds are b c in record { place = o.place; there = o.there; states = o.states })
 
 pub literals_held : (placed : List (ℕ × Place)) (held : List Lit) (bounds : List Bound) → AreBoundsOf placed held bounds → (b : Bound) → Contains bounds b → Contains held b.literal
 literals_held placed held bounds are b c = (bound_origin placed held bounds are b c).held_is

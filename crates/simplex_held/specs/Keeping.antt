@@ -7,14 +7,14 @@ use Rattle.tableau.specs.Views.{IsTableau}
 use Rattle.spec_strains.specs.Points.{deltas, point_in}
 use Rattle.simplex_bounds.specs.Held.{BoundsView, ranges_in}
 use Rattle.simplex_check.specs.Boards.{BoardView}
-use Rattle.simplex_atoms.specs.Atoms.{AtomsView, AreRight}
+use Rattle.simplex_atoms.specs.Atoms.{AtomsView, AtomsFit}
 use Rattle.simplex_held.specs.Stated.{AreBoundsOf, IsKnownIn}
 
 -- The values of a board keep the bounds that are held, and these are those that the held literals state.
 pub record KeepsHeld (t : TableView) (a : AtomsView) (b : BoardView) (bounds : BoundsView) (held : List Lit)
     : Type 0 where
   -- atoms fit
-  pub right : AreRight t a b bounds
+  pub right : AtomsFit t a b bounds
   -- so do rows
   pub tableau : IsTableau b.tableau
   -- different numbers mean different terms

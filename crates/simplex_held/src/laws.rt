@@ -8,17 +8,17 @@ ghost use Rattle.spec_tableaux.specs.Ranges.{Meets};
 ghost use Rattle.term_core.specs.declared.ids.Lit.{Lit};
 ghost use Rattle.term_core.specs.Tables.{TableView, literal_at};
 ghost use Rattle.sat_budget.specs.Budgets.{BudgetView};
-ghost use Rattle.proof_log.specs.Theories.{TheoryView, IsOver, terms_watched};
+ghost use Rattle.proof_log.specs.Theories.{TheoryView, IsTheoryOver, terms_watched};
 ghost use Rattle.simplex_bounds.specs.declared.bounds.Bound.{Bound};
 ghost use Rattle.spec_strains.specs.Points.{deltas, point_in, Ranges};
 ghost use Rattle.simplex_bounds.specs.Held.{BoundsView};
 ghost use Rattle.simplex_check.specs.Boards.{BoardView};
-ghost use Rattle.simplex_check.specs.Ends.{Ends};
+ghost use Rattle.simplex_check.specs.Ends.{EndsCheck};
 ghost use Rattle.simplex_check.specs.declared.check.Outcome.TheVariants.{Fine};
 ghost use Rattle.simplex_atoms.specs.declared.place.Place.{Place};
-ghost use Rattle.simplex_atoms.specs.Atoms.{AtomsView, AreRight};
+ghost use Rattle.simplex_atoms.specs.Atoms.{AtomsView, AtomsFit};
 ghost use Rattle.simplex_explain.specs.declared.weighted.Weighted.{Weighted};
-ghost use Rattle.simplex_explain.specs.Reasons.{Refutes, AreReasons, AreHeld};
+ghost use Rattle.simplex_explain.specs.Reasons.{Refutes, AreAtomReasons, AreHeld};
 ghost use Rattle.simplex_reasons.specs.Stops.{AreStated};
 ghost use Rattle.simplex_reasons.specs.Reasons.{AreOfHeld};
 ghost use Rattle.simplex_held.specs.Stated.{AreBoundsOf};
@@ -34,7 +34,7 @@ pub fn held_bounds_are_stated()
 
 /// States that the values of a board solve its rows and keep the bounds once a check finds nothing wrong.
 pub fn checked_values_keep_bounds()
-    ensures { (ranges : Ranges) (b c : BoardView) (old new : BudgetView) → Ends ranges b c old new (Ok Fine)
+    ensures { (ranges : Ranges) (b c : BoardView) (old new : BudgetView) → EndsCheck ranges b c old new (Ok Fine)
         → Meets deltas c.tableau.rows ranges (point_in c.values) }
 {}
 
@@ -56,8 +56,8 @@ pub fn refuting_reasons_are_infeasible()
 /// all held literals are.
 pub fn reasons_are_of_watched_atoms()
     ensures reasons { (t : TableView) (view : TheoryView) (placed : List (ℕ × Place)) (bounds : List Bound)
-        → (rs : List Weighted) → AreBoundsOf placed view.held bounds → AreOfHeld bounds rs → IsOver t view
-        → All (λ (l : Lit). Contains view.watched l.term) view.held → AreReasons (terms_watched t view) t rs }
+        → (rs : List Weighted) → AreBoundsOf placed view.held bounds → AreOfHeld bounds rs → IsTheoryOver t view
+        → All (λ (l : Lit). Contains view.watched l.term) view.held → AreAtomReasons (terms_watched t view) t rs }
     ensures held { (placed : List (ℕ × Place)) (held : List Lit) (bounds : List Bound) (rs : List Weighted)
         → AreBoundsOf placed held bounds → AreOfHeld bounds rs → AreHeld held rs }
 {}
@@ -65,6 +65,6 @@ pub fn reasons_are_of_watched_atoms()
 /// States that atoms that fit a board fit each with as many variables and the same rows added, in whatever solved form
 /// these are and whatever the values.
 pub fn boards_fit_by_variables_and_rows_added()
-    ensures { (t : TableView) (a : AtomsView) (b c : BoardView) (bounds : BoundsView) → AreRight t a b bounds
-        → c.tableau.variables ≡ b.tableau.variables → c.tableau.listed ≡ b.tableau.listed → AreRight t a c bounds }
+    ensures { (t : TableView) (a : AtomsView) (b c : BoardView) (bounds : BoundsView) → AtomsFit t a b bounds
+        → c.tableau.variables ≡ b.tableau.variables → c.tableau.listed ≡ b.tableau.listed → AtomsFit t a c bounds }
 {}

@@ -14,7 +14,7 @@ use Rattle.simplex_check.specs.Boards.{BoardView}
 use Rattle.simplex_check.proofs.Points.{same_point}
 use Rattle.simplex_atoms.specs.Limits.{limit_of}
 use Rattle.simplex_atoms.specs.Atoms.{AtomsView}
-use Rattle.simplex_reasons.specs.Stops.{IsStated}
+use Rattle.simplex_reasons.specs.Stops.{IsStatedBound}
 use Rattle.simplex_held.specs.Keeping.{KeepsHeld}
 use Rattle.simplex_held.proofs.Stating.{bounds_stated}
 use Rattle.simplex_held.proofs.Boards.{fit}
@@ -26,7 +26,7 @@ use Rattle.simplex_numbers.proofs.Flat.{flat_solves, flat_point, flat_within}
 module _ (t : TableView) (a : AtomsView) (b : BoardView) (bounds : BoundsView) (held : List Lit) (k : KeepsHeld t a b bounds held) (e : Number) (p : is_positive numbers e ≡ true) where
   bounds_inward : (x : Bound) → Contains bounds.held x → IsInward x.side (pair_of x.value).tilt
   bounds_inward x c =
-      let is = All-contains (IsStated a.placed) bounds.held x (bounds_stated a.placed held bounds.held k.bounds_are) c in
+      let is = All-contains (IsStatedBound a.placed) bounds.held x (bounds_stated a.placed held bounds.held k.bounds_are) c in
       inward is.place x.literal (limit_of x) is.states
 
   pub held_at : KeepsAt e (ranges_in bounds.held) (point_in b.values) → KeepsHeld t a (board_at e b) bounds held

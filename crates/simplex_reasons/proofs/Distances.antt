@@ -4,11 +4,11 @@ use Rattle.std.proofs.lemmas.Bool.Decides.{nat_tests}
 use Rattle.std.proofs.lemmas.Bool.{and_parts, not-true}
 use Rattle.spec_numbers.specs.Fractions.{opposite}
 use Rattle.spec_tableaux.specs.Fields.{is_positive}
-use Rattle.spec_tableaux.specs.Spaces.{Pair, minus, as_space}
+use Rattle.spec_tableaux.specs.Spaces.{Pair, space_difference, as_space}
 use Rattle.spec_tableaux.specs.Rows.{Entry, Row, Holds, Solves, sum_of, row_of, is_basic}
 use Rattle.spec_tableaux.specs.SolvedForms.{IsTidy, IsSolved}
 use Rattle.spec_tableaux.specs.Ranges.{AreStopped, stopping_bound, is_within, is_crossed, below, above, crosses}
-use Rattle.spec_tableaux.specs.LeastVariable.{State, IsSettled, Says, stuck, goes_up}
+use Rattle.spec_tableaux.specs.LeastVariable.{State, IsNonbasicFeasible, RuleSays, stuck, goes_up}
 use Rattle.spec_tableaux.specs.Numbers.{Number, numbers, fractions}
 use Rattle.spec_tableaux.proofs.Numbers.{numbers_are_ordered_field}
 use Rattle.spec_tableaux.proofs.Signs.{opposite_twice}
@@ -27,11 +27,11 @@ use Rattle.simplex_reasons.specs.Stops.{stop_of, AreAllStopped, value_of, all_be
 use Rattle.spec_causes.specs.Reasons.{directed, with_basic, unit_entries}
 use Rattle.simplex_check.proofs.Points.{deltas_are_space, deltas_are_ordered}
 
--- minus one, by which values are negated
+-- space_difference one, by which values are negated
 abbrev minus_one : Number
 minus_one = numbers.opposite numbers.one
 
--- the value, or minus it where up is false
+-- the value, or space_difference it where up is false
 abbrev turned : Bool → Pair Number → Pair Number
 turned true x = x
 turned false x = deltas.scale minus_one x
@@ -39,7 +39,7 @@ turned false x = deltas.scale minus_one x
 twice : (x : Pair Number) → deltas.scale minus_one (deltas.scale minus_one x) ≡ x
 twice x = sym (opposite_scale deltas deltas_are_space minus_one x) ∙ ap (λ k. deltas.scale k x) (opposite_twice numbers numbers_are_ordered_field numbers.one) ∙ deltas_are_space.one_scale x
 
-minus_turned : (x y : Pair Number) → deltas.scale minus_one (minus deltas x y) ≡ minus deltas y x
+minus_turned : (x y : Pair Number) → deltas.scale minus_one (space_difference deltas x y) ≡ space_difference deltas y x
 minus_turned x y = deltas_are_space.scale_plus minus_one x _ ∙ ap (deltas.plus (deltas.scale minus_one x)) (twice y) ∙ deltas_are_space.plus_commutative _ y
 
 turned_plus : (up : Bool) (x y : Pair Number) → deltas.plus (turned up x) (turned up y) ≡ turned up (deltas.plus x y)
@@ -86,27 +86,27 @@ are_all_stopped held up v from (e ∷ es) s t =
     (record { entry = t.1; bound = at.bound; is = at.is }, are_all_stopped held up v _ es s.1 t.2)
 
 all_beyond_is : (held : List Bound) (up : Bool) (v q : ℕ → Pair Number) (es : List (Entry Number)) → AreStopped deltas (ranges_in held) v up es
-    → all_beyond held up q es ≡ turned up (sum_of deltas (λ y. minus deltas (q y) (v y)) es)
+    → all_beyond held up q es ≡ turned up (sum_of deltas (λ y. space_difference deltas (q y) (v y)) es)
 all_beyond_is held up v q [] s = turned_origin up
 all_beyond_is held up v q (e ∷ es) s =
     let at = is_at (stop_of held up e) (v e.variable) (stop_bound held up e ∙ s.0) in
-    let first = ap (λ x. deltas.scale (directed up e.coefficient) (minus deltas (q e.variable) x)) at.value ∙ directed_scale up e.coefficient (minus deltas (q e.variable) (v e.variable)) in
+    let first = ap (λ x. deltas.scale (directed up e.coefficient) (space_difference deltas (q e.variable) x)) at.value ∙ directed_scale up e.coefficient (space_difference deltas (q e.variable) (v e.variable)) in
     (λ i. deltas.plus (first i) (all_beyond_is held up v q es s.1 i))
-    ∙ turned_plus up (deltas.scale e.coefficient (minus deltas (q e.variable) (v e.variable))) (sum_of deltas (λ y. minus deltas (q y) (v y)) es)
+    ∙ turned_plus up (deltas.scale e.coefficient (space_difference deltas (q e.variable) (v e.variable))) (sum_of deltas (λ y. space_difference deltas (q y) (v y)) es)
 
--- the basic variable, with minus one
-basic_beyond : (up : Bool) (x g : Pair Number) → deltas.scale (directed up minus_one) (minus deltas x g) ≡ turned up (minus deltas g x)
-basic_beyond up x g = directed_scale up minus_one (minus deltas x g) ∙ ap (turned up) (minus_turned x g)
+-- the basic variable, with space_difference one
+basic_beyond : (up : Bool) (x g : Pair Number) → deltas.scale (directed up minus_one) (space_difference deltas x g) ≡ turned up (space_difference deltas g x)
+basic_beyond up x g = directed_scale up minus_one (space_difference deltas x g) ∙ ap (turned up) (minus_turned x g)
 
 row_beyond : (held : List Bound) (up : Bool) (v q : ℕ → Pair Number) (r : Row Number) → AreStopped deltas (ranges_in held) v up r.entries → Holds deltas q r → Holds deltas v r
-    → all_beyond held up q (with_basic r.basic r.entries) ≡ turned up (minus deltas (value_of (stop_of held up (record { variable = r.basic; coefficient = minus_one }))) (v r.basic))
+    → all_beyond held up q (with_basic r.basic r.entries) ≡ turned up (space_difference deltas (value_of (stop_of held up (record { variable = r.basic; coefficient = minus_one }))) (v r.basic))
 row_beyond held up v q r s hq hv =
     let g = value_of (stop_of held up (record { variable = r.basic; coefficient = minus_one })) in
     (λ i. deltas.plus (basic_beyond up (q r.basic) g i) (all_beyond_is held up v q r.entries s i))
-    ∙ turned_plus up (minus deltas g (q r.basic)) (sum_of deltas (λ y. minus deltas (q y) (v y)) r.entries) ∙ ap (turned up) (row_explains deltas deltas_are_space q v r g hq hv)
+    ∙ turned_plus up (space_difference deltas g (q r.basic)) (sum_of deltas (λ y. space_difference deltas (q y) (v y)) r.entries) ∙ ap (turned up) (row_explains deltas deltas_are_space q v r g hq hv)
 
--- a greater value minus a lesser one is above the origin
-above_origin : (x y : Pair Number) → deltas.less x y ≡ true → deltas.less deltas.origin (minus deltas y x) ≡ true
+-- a greater value space_difference a lesser one is above the origin
+above_origin : (x y : Pair Number) → deltas.less x y ≡ true → deltas.less deltas.origin (space_difference deltas y x) ≡ true
 above_origin x y h =
     (λ i. deltas.less (sym (none x) i) (deltas_are_space.plus_commutative y (deltas.scale minus_one x) i)) ∙ deltas_are_ordered.less_plus (deltas.scale minus_one x) x y ∙ h
   where
@@ -132,25 +132,25 @@ pub record Contradicts (held : List Bound) (up : Bool) (listed : List (Row Numbe
 record IsOut (held : List Bound) (up : Bool) (b : ℕ) (x : Pair Number) : Type 0 where
   bound : Bound
   is : stop_of held up (record { variable = b; coefficient = minus_one }) ≡ Some bound
-  above : deltas.less deltas.origin (turned up (minus deltas (value_of (stop_of held up (record { variable = b; coefficient = minus_one }))) x)) ≡ true
+  above : deltas.less deltas.origin (turned up (space_difference deltas (value_of (stop_of held up (record { variable = b; coefficient = minus_one }))) x)) ≡ true
 
 basic_stop : (held : List Bound) (up : Bool) (b : ℕ) → stop_of held up (record { variable = b; coefficient = minus_one }) ≡ strongest (side_by (not up)) b held
 basic_stop held up b = ap (λ p. strongest (side_by (cond p up (not up))) b held) minus_one_below
 
-out_below : (o : Option Bound) (x : Pair Number) → below deltas x (value_in o) ≡ true → (bound : Bound) × (o ≡ Some bound) × (deltas.less deltas.origin (minus deltas (value_of o) x) ≡ true)
+out_below : (o : Option Bound) (x : Pair Number) → below deltas x (value_in o) ≡ true → (bound : Bound) × (o ≡ Some bound) × (deltas.less deltas.origin (space_difference deltas (value_of o) x) ≡ true)
 out_below None x h = absurd (cc)
 out_below (Some b) x h = (b, refl, above_origin x (pair_of b.value) h)
 
-out_above : (o : Option Bound) (x : Pair Number) → above deltas x (value_in o) ≡ true → (bound : Bound) × (o ≡ Some bound) × (deltas.less deltas.origin (turned false (minus deltas (value_of o) x)) ≡ true)
+out_above : (o : Option Bound) (x : Pair Number) → above deltas x (value_in o) ≡ true → (bound : Bound) × (o ≡ Some bound) × (deltas.less deltas.origin (turned false (space_difference deltas (value_of o) x)) ≡ true)
 out_above None x h = absurd (cc)
 out_above (Some b) x h = (b, refl, ap (deltas.less deltas.origin) (minus_turned (pair_of b.value) x) ∙ above_origin (pair_of b.value) x h)
 
 out_by : (held : List Bound) (up : Bool) (b : ℕ) (x : Pair Number)
-    → ((bound : Bound) × (strongest (side_by (not up)) b held ≡ Some bound) × (deltas.less deltas.origin (turned up (minus deltas (value_of (strongest (side_by (not up)) b held)) x)) ≡ true)) → IsOut held up b x
+    → ((bound : Bound) × (strongest (side_by (not up)) b held ≡ Some bound) × (deltas.less deltas.origin (turned up (space_difference deltas (value_of (strongest (side_by (not up)) b held)) x)) ≡ true)) → IsOut held up b x
 out_by held up b x h = record {
   bound = h.0;
   is = basic_stop held up b ∙ h.1;
-  above = ap (λ o. deltas.less deltas.origin (turned up (minus deltas (value_of o) x))) (basic_stop held up b) ∙ h.2;
+  above = ap (λ o. deltas.less deltas.origin (turned up (space_difference deltas (value_of o) x))) (basic_stop held up b) ∙ h.2;
 }
 
 is_out_by : (held : List Bound) (b : ℕ) (x : Pair Number) (up : Bool) → below deltas x (range_in held b).lower ≡ up → not (below deltas x (range_in held b).lower || above deltas x (range_in held b).upper) ≡ false → IsOut held up b x
@@ -168,7 +168,7 @@ row_contradicts : (held : List Bound) (up : Bool) (listed : List (Row Number)) (
     → Contradicts held up listed (with_basic r.basic r.entries)
 row_contradicts held up listed v r out s t hv all = record {
   stopped = (record { entry = minus_one_not_zero; bound = out.bound; is = out.is }, are_all_stopped held up v 0 r.entries s t);
-  total = turned up (minus deltas (value_of (stop_of held up (record { variable = r.basic; coefficient = minus_one }))) (v r.basic));
+  total = turned up (space_difference deltas (value_of (stop_of held up (record { variable = r.basic; coefficient = minus_one }))) (v r.basic));
   above = out.above;
   same = λ q h. row_beyond held up v q r s (all q h) hv;
 }
@@ -192,7 +192,7 @@ named_holds q b rs i h = record { is = ap q (sym (row_named b rs)) ∙ (row_hold
 
 -- where the rule is stuck
 pub stuck_contradicts : (held : List Bound) (listed : List (Row Number)) (t : State Number (Pair Number)) (b : ℕ) → IsSolved numbers t.rows
-    → ((v : ℕ → Number) → Solves (as_space numbers) v t.rows ↔ Solves (as_space numbers) v listed) → IsSettled deltas (ranges_in held) t → Says deltas (ranges_in held) t (stuck b)
+    → ((v : ℕ → Number) → Solves (as_space numbers) v t.rows ↔ Solves (as_space numbers) v listed) → IsNonbasicFeasible deltas (ranges_in held) t → RuleSays deltas (ranges_in held) t (stuck b)
     → Contradicts held (goes_up deltas (ranges_in held) t b) listed (with_basic b (row_of b t.rows).entries)
 stuck_contradicts held listed t b solved same settled says =
     let up = goes_up deltas (ranges_in held) t b in
@@ -235,7 +235,7 @@ crossing_contradicts held listed y h = crossing_by held listed y (strongest Uppe
 
 -- the same by the words of the code
 pub row_contradiction : (held : List Bound) (listed : List (Row Number)) (t : State Number (Pair Number)) (b : ℕ) (up : Bool) (es : List (Entry Number)) → up ≡ goes_up deltas (ranges_in held) t b → es ≡ (row_of b t.rows).entries
-    → IsSolved numbers t.rows → ((v : ℕ → Number) → Solves (as_space numbers) v t.rows ↔ Solves (as_space numbers) v listed) → IsSettled deltas (ranges_in held) t → Says deltas (ranges_in held) t (stuck b)
+    → IsSolved numbers t.rows → ((v : ℕ → Number) → Solves (as_space numbers) v t.rows ↔ Solves (as_space numbers) v listed) → IsNonbasicFeasible deltas (ranges_in held) t → RuleSays deltas (ranges_in held) t (stuck b)
     → Contradicts held up listed (with_basic b es)
 row_contradiction held listed t b up es e k solved same settled says =
     subst (λ u. Contradicts held u listed (with_basic b es)) (sym e) (subst (λ r. Contradicts held (goes_up deltas (ranges_in held) t b) listed (with_basic b r)) (sym k) (stuck_contradicts held listed t b solved same settled says))

@@ -32,15 +32,15 @@ use Rattle.simplex_atoms.specs.declared.place.Kind.{Kind}
 use Rattle.simplex_atoms.specs.declared.place.Kind.TheVariants as kinds
 use Rattle.simplex_atoms.specs.declared.place.Place.{Place}
 use Rattle.simplex_atoms.specs.Owners.{AreOwned}
-use Rattle.simplex_atoms.specs.Places.{Setting, relation_meant, relation_by, IsPlaced, place_in}
+use Rattle.simplex_atoms.specs.Places.{AtomSetting, relation_meant, relation_by, IsPlaced, place_in}
 use Rattle.simplex_atoms.specs.Limits.{Limit, limit_of, limits_where, limits_by, side_by, signed_by, weight_of, is_strict}
 use Rattle.simplex_atoms.proofs.Values.{form_comes}
 use Rattle.simplex_atoms.proofs.Weighing.{weighs, size_reduced}
 use Rattle.simplex_explain.specs.declared.weighted.Weighted.{Weighted}
-use Rattle.simplex_reasons.specs.Stops.{IsStated, AreStated, stopping_side, stop_of, IsStopped, value_of, beyond}
+use Rattle.simplex_reasons.specs.Stops.{IsStatedBound, AreStated, stopping_side, stop_of, IsStopped, value_of, beyond}
 use Rattle.spec_causes.specs.Reasons.{directed}
 use Rattle.simplex_atoms.proofs.Keeping.{kind_below, kind_at_most, positively}
-use Rattle.simplex_reasons.specs.Reasons.{Footing, weight_by, IsReason}
+use Rattle.simplex_reasons.specs.Reasons.{Footing, weight_by, IsBoundReason}
 
 -- What bounds are that literals state.
 pub record LimitLaws : Type 0 where
@@ -202,7 +202,7 @@ abbrev pub flat : (ℕ → Number) → ℕ → Pair Number
 flat v y = record { base = v y; tilt = numbers.zero }
 
 -- A literal with its weight, and what it adds to the sum.
-pub record Piece (t : TableView) (s : Setting) (held : List Bound) (up : Bool) (e : Entry Number) (w : Weighted) : Type 0 where
+pub record Piece (t : TableView) (s : AtomSetting) (held : List Bound) (up : Bool) (e : Entry Number) (w : Weighted) : Type 0 where
   pub summand : Summand
   pub fits : IsSummand summand
   pub literal : summand.literal ≡ literal_at t w.literal
@@ -216,8 +216,8 @@ relation_there None up place l b h = absurd (none b h)
 relation_there (Some r) up place l b h = (r, refl)
 
 -- the bound that stops an entry is one that its literal states, on the place that the reason names
-module _ (laws : LimitLaws) (t : TableView) (s : Setting) (f : Footing) (up : Bool) (e : Entry Number) (w : Weighted) (stated : AreStated f.placed f.held)
-    (placed : (l : Lit) (place : Place) → place_in f.placed l.term ≡ Some place → IsPlaced s place (term_at t l.term)) (stopped : IsStopped f.held up e) (reason : IsReason f up e w) where
+module _ (laws : LimitLaws) (t : TableView) (s : AtomSetting) (f : Footing) (up : Bool) (e : Entry Number) (w : Weighted) (stated : AreStated f.placed f.held)
+    (placed : (l : Lit) (place : Place) → place_in f.placed l.term ≡ Some place → IsPlaced s place (term_at t l.term)) (stopped : IsStopped f.held up e) (reason : IsBoundReason f up e w) where
   abbrev place : Place
   place = reason.place
 
@@ -233,7 +233,7 @@ module _ (laws : LimitLaws) (t : TableView) (s : Setting) (f : Footing) (up : Bo
 
   states : Contains (limits_by place l) (limit_of reason.bound)
   states =
-      let own = All-contains (IsStated f.placed) f.held reason.bound stated is_held.0 in
+      let own = All-contains (IsStatedBound f.placed) f.held reason.bound stated is_held.0 in
       subst (λ q. Contains (limits_by q l) (limit_of reason.bound)) (same_Some own.place place (sym own.there ∙ reason.there)) own.states
 
   is_placed : IsPlaced s place (term_at t l.term)

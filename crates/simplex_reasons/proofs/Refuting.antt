@@ -22,7 +22,7 @@ use Rattle.spec_strains.specs.Points.{deltas}
 use Rattle.simplex_atoms.specs.declared.place.Place.{Place}
 use Rattle.simplex_atoms.specs.Owners.{AreOwned}
 use Rattle.simplex_atoms.specs.Grounded.{AreGrounded}
-use Rattle.simplex_atoms.specs.Places.{Setting, IsPlaced, place_in}
+use Rattle.simplex_atoms.specs.Places.{AtomSetting, IsPlaced, place_in}
 use Rattle.simplex_explain.specs.declared.weighted.Weighted.{Weighted}
 use Rattle.simplex_explain.specs.Reasons.{literals_meant, weights_meant, Refutes}
 use Rattle.simplex_reasons.specs.Stops.{AreStated, AreAllStopped, beyond, all_beyond}
@@ -32,7 +32,7 @@ use Rattle.simplex_reasons.proofs.Distances.{Contradicts}
 use Rattle.simplex_reasons.proofs.Pieces.{LimitLaws, Piece, piece, flat}
 
 -- Literals with weights, and what they sum up to.
-record Pieces (t : TableView) (s : Setting) (held : List Bound) (up : Bool) (es : List (Entry Number)) (ws : List Weighted) : Type 0 where
+record Pieces (t : TableView) (s : AtomSetting) (held : List Bound) (up : Bool) (es : List (Entry Number)) (ws : List Weighted) : Type 0 where
   summands : List Summand
   fit : All IsSummand summands
   literals : map (λ (x : Summand). x.literal) summands ≡ literals_meant t ws
@@ -58,7 +58,7 @@ strict_parts x xs h = by (is_strict_by x.constraint.relation x.weight) (has_stri
     by false q h = (refl, h)
     by true q h = absurd (cc)
 
-pieces_more : (t : TableView) (s : Setting) (held : List Bound) (up : Bool) (e : Entry Number) (es : List (Entry Number)) (w : Weighted) (ws : List Weighted)
+pieces_more : (t : TableView) (s : AtomSetting) (held : List Bound) (up : Bool) (e : Entry Number) (es : List (Entry Number)) (w : Weighted) (ws : List Weighted)
     → Piece t s held up e w → Pieces t s held up es ws → Pieces t s held up (e ∷ es) (w ∷ ws)
 pieces_more t s held up e es w ws p ps = record {
   summands = p.summand ∷ ps.summands;
@@ -69,7 +69,7 @@ pieces_more t s held up e es w ws p ps = record {
   tilts = λ h v. let parts = strict_parts p.summand ps.summands h in (λ i. numbers.plus (p.tilts parts.0 v i) (ps.tilts parts.1 v i)) ∙ numbers_are_ordered_field.sum_zero numbers.zero;
 }
 
-module _ (laws : LimitLaws) (t : TableView) (s : Setting) (f : Footing) (up : Bool) (stated : AreStated f.placed f.held)
+module _ (laws : LimitLaws) (t : TableView) (s : AtomSetting) (f : Footing) (up : Bool) (stated : AreStated f.placed f.held)
     (placed : (l : Lit) (place : Place) → place_in f.placed l.term ≡ Some place → IsPlaced s place (term_at t l.term)) where
   pieces : (es : List (Entry Number)) (ws : List Weighted) → AreAllStopped f.held up es → AreReasonsFor f up es ws → Pieces t s f.held up es ws
   pieces [] [] st r = record {
@@ -111,7 +111,7 @@ pub refutes : LimitLaws → (t : TableView) (owners : List (Option TermId)) (lis
     → ((l : Lit) (place : Place) → place_in f.placed l.term ≡ Some place → IsPlaced (record { table = t; owners = owners; listed = listed }) place (term_at t l.term))
     → Contradicts f.held up listed es → AreReasonsFor f up es ws → Refutes t ws
 refutes laws t owners listed from to f up es ws grounded stated placed c reasons =
-    let s : Setting = record { table = t; owners = owners; listed = listed } in
+    let s : AtomSetting = record { table = t; owners = owners; listed = listed } in
     let ps = pieces laws t s f up stated placed es ws c.stopped reasons in
     let solves : (v : ℕ → Number) → Solves (as_space numbers) v listed → Solves deltas (flat v) listed = λ v h. parts_pair numbers (flat v) listed h (zero_solves listed) in
     record {

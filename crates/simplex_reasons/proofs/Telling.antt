@@ -20,8 +20,8 @@ use Rattle.simplex_bounds.proofs.Keeping.{strongest_is_held}
 use Rattle.simplex_atoms.specs.declared.place.Place.{Place}
 use Rattle.simplex_atoms.specs.Places.{place_in}
 use Rattle.simplex_explain.specs.declared.weighted.Weighted.{Weighted}
-use Rattle.simplex_reasons.specs.Stops.{IsStated, AreStated, stopping_side, IsStopped, AreAllStopped}
-use Rattle.simplex_reasons.specs.Reasons.{Footing, IsReason, AreReasonsFor, IsOfHeld, AreOfHeld, StrainsReason, StrainsReasons}
+use Rattle.simplex_reasons.specs.Stops.{IsStatedBound, AreStated, stopping_side, IsStopped, AreAllStopped}
+use Rattle.simplex_reasons.specs.Reasons.{Footing, IsBoundReason, AreReasonsFor, IsOfHeld, AreOfHeld, StrainsReason, StrainsReasons}
 
 -- sizes
 
@@ -44,7 +44,7 @@ size_of_other x h = λ i. record { num = sym (size_same x.fraction.num h) i; den
 
 pub place_there : (placed : List (ℕ × Place)) (held : List Bound) (side : Side) (y : ℕ) (b : Bound) → AreStated placed held → strongest side y held ≡ Some b → place_in placed b.literal.term ≡ None → ⊥
 place_there placed held side y b stated is none =
-    let own = All-contains (IsStated placed) held b stated (strongest_is_held side y held b is).0 in
+    let own = All-contains (IsStatedBound placed) held b stated (strongest_is_held side y held b is).0 in
     none-some own.place (sym none ∙ own.there)
 
 -- the loop
@@ -55,10 +55,10 @@ pub record Told (f : Footing) (up : Bool) (whole rest : List (Entry Number)) (ws
   pub stopped : AreAllStopped f.held up rest
   pub among : (e : Entry Number) → Contains rest e → Contains whole e
 
-pub told_first : (f : Footing) (up : Bool) (e : Entry Number) (es : List (Entry Number)) (w : Weighted) → AreAllStopped f.held up (e ∷ es) → IsReason f up e w → Told f up (e ∷ es) es (w ∷ [])
+pub told_first : (f : Footing) (up : Bool) (e : Entry Number) (es : List (Entry Number)) (w : Weighted) → AreAllStopped f.held up (e ∷ es) → IsBoundReason f up e w → Told f up (e ∷ es) es (w ∷ [])
 told_first f up e es w st r = record { reasons = λ later h. (r, h); stopped = st.1; among = λ x c. later e es x c }
 
-pub told_more : (f : Footing) (up : Bool) (whole rest : List (Entry Number)) (e : Entry Number) (es : List (Entry Number)) (ws : List Weighted) (w : Weighted) → rest ≡ e ∷ es → Told f up whole rest ws → IsReason f up e w
+pub told_more : (f : Footing) (up : Bool) (whole rest : List (Entry Number)) (e : Entry Number) (es : List (Entry Number)) (ws : List Weighted) (w : Weighted) → rest ≡ e ∷ es → Told f up whole rest ws → IsBoundReason f up e w
     → Told f up whole es (ws ++ w ∷ [])
 told_more f up whole rest e es ws w is told r =
     let now = subst (λ r. Told f up whole r ws) is told in

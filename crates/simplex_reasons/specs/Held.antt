@@ -4,7 +4,7 @@ use Rattle.term_core.specs.declared.ids.TermId.{TermId}
 use Rattle.simplex_bounds.specs.declared.bounds.Bound.{Bound}
 use Rattle.simplex_atoms.specs.declared.place.Place.{Place}
 use Rattle.simplex_atoms.specs.Places.{place_in}
-use Rattle.simplex_reasons.specs.Stops.{IsStated}
+use Rattle.simplex_reasons.specs.Stops.{IsStatedBound}
 
 -- bounds can be held of the variable of each place
 abbrev pub AreReached : List (ℕ × Place) → ℕ → Type 0
@@ -16,6 +16,6 @@ IsUnder n None = Unit {0}
 IsUnder n (Some b) = b.variable < n
 
 -- a bound, if there is one, is stated by its literal
-abbrev pub Fits : List (ℕ × Place) → Option Bound → Type 0
-Fits placed None = Unit {0}
-Fits placed (Some b) = IsStated placed b
+abbrev pub IsBoundStated : List (ℕ × Place) → Option Bound → Type 0
+IsBoundStated placed None = Unit {0}
+IsBoundStated placed (Some b) = IsStatedBound placed b

@@ -43,7 +43,7 @@ weight_by (Some r) place s = weight_of r place s
 weight_by None place s = (numbers.times s (numbers.inverse (number_of place.factor))).fraction
 
 -- A reason is the literal of the bound that stops the variable of an entry, with its weight.
-pub record IsReason (f : Footing) (up : Bool) (e : Entry Number) (w : Weighted) : Type 0 where
+pub record IsBoundReason (f : Footing) (up : Bool) (e : Entry Number) (w : Weighted) : Type 0 where
   -- the bound
   pub bound : Bound
   pub stops : stop_of f.held up e ≡ Some bound
@@ -57,7 +57,7 @@ pub record IsReason (f : Footing) (up : Bool) (e : Entry Number) (w : Weighted) 
 -- there is a reason for each entry, in their order
 abbrev pub AreReasonsFor : Footing → Bool → List (Entry Number) → List Weighted → Type 0
 AreReasonsFor f up [] [] = Unit {0}
-AreReasonsFor f up (e ∷ es) (w ∷ ws) = IsReason f up e w × AreReasonsFor f up es ws
+AreReasonsFor f up (e ∷ es) (w ∷ ws) = IsBoundReason f up e w × AreReasonsFor f up es ws
 AreReasonsFor f up _ _ = ⊥
 
 -- A reason's literal is that of a bound that is held.
@@ -87,6 +87,6 @@ abbrev pub StrainsReasons : Footing → Bool → List (Entry Number) → Overflo
 StrainsReasons f up es o = (e : Entry Number) × Contains es e × StrainsReason f up e o
 
 -- where the stop is an overflow, p holds of it
-abbrev pub OnWide : (Overflow → Type 0) → ReasonStop → Type 0
-OnWide p (Wide w) = p (overflow w)
-OnWide p Memory = Unit {0}
+abbrev pub OnReasonOverflow : (Overflow → Type 0) → ReasonStop → Type 0
+OnReasonOverflow p (Wide w) = p (overflow w)
+OnReasonOverflow p Memory = Unit {0}

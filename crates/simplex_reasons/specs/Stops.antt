@@ -1,7 +1,7 @@
 -- The bounds that stop the variables of a sum.
 use Rattle.std.specs.Prelude.{◌≡◌, ℕ, Bool, false, not, cond, List, [], ◌∷◌, Option, Some, None, All, Contains}
 use Rattle.spec_tableaux.specs.Fields.{is_positive}
-use Rattle.spec_tableaux.specs.Spaces.{Pair, minus}
+use Rattle.spec_tableaux.specs.Spaces.{Pair, space_difference}
 use Rattle.spec_tableaux.specs.Rows.{Entry}
 use Rattle.spec_tableaux.specs.Numbers.{Number, numbers}
 use Rattle.spec_causes.specs.Reasons.{directed}
@@ -17,7 +17,7 @@ use Rattle.simplex_atoms.specs.Places.{place_in}
 use Rattle.simplex_atoms.specs.Limits.{side_by, limit_of, limits_by}
 
 -- A bound is one of those that its literal states.
-pub record IsStated (placed : List (ℕ × Place)) (b : Bound) : Type 0 where
+pub record IsStatedBound (placed : List (ℕ × Place)) (b : Bound) : Type 0 where
   -- the place of the literal's atom
   pub place : Place
   pub there : place_in placed b.literal.term ≡ Some place
@@ -25,7 +25,7 @@ pub record IsStated (placed : List (ℕ × Place)) (b : Bound) : Type 0 where
 
 -- each of the bounds is stated by its literal
 abbrev pub AreStated : List (ℕ × Place) → List Bound → Type 0
-AreStated placed held = All (IsStated placed) held
+AreStated placed held = All (IsStatedBound placed) held
 
 -- the factor of each place is not 0
 abbrev pub HaveFactors : List (ℕ × Place) → Type 0
@@ -60,7 +60,7 @@ value_of (Some b) = pair_of b.value
 -- how far values are beyond the stop of an entry, times the coefficient, with its sign by the direction
 abbrev pub beyond : List Bound → Bool → (ℕ → Pair Number) → Entry Number → Pair Number
 beyond held up v e =
-    deltas.scale (directed up e.coefficient) (minus deltas (v e.variable) (value_of (stop_of held up e)))
+    deltas.scale (directed up e.coefficient) (space_difference deltas (v e.variable) (value_of (stop_of held up e)))
 
 -- the sum of this over entries
 abbrev pub all_beyond : List Bound → Bool → (ℕ → Pair Number) → List (Entry Number) → Pair Number

@@ -3,16 +3,16 @@
 ghost use Rattle.std.specs.Prelude.{◌≡◌, true, IfOk, IfErr};
 ghost use Rattle.spec_tableaux.specs.Rows.{row_of};
 ghost use Rattle.spec_tableaux.specs.Ranges.{is_crossed};
-ghost use Rattle.spec_tableaux.specs.LeastVariable.{Says, IsSettled, goes_up, stuck};
+ghost use Rattle.spec_tableaux.specs.LeastVariable.{RuleSays, IsNonbasicFeasible, goes_up, stuck};
 ghost use Rattle.term_core.specs.Tables.{TableView};
 ghost use Rattle.spec_strains.specs.Points.{deltas};
 ghost use Rattle.simplex_bounds.specs.Held.{ranges_in};
 ghost use Rattle.simplex_check.specs.Boards.{state_of};
-ghost use Rattle.simplex_atoms.specs.Atoms.{AreRight};
+ghost use Rattle.simplex_atoms.specs.Atoms.{AtomsFit};
 ghost use Rattle.simplex_explain.specs.Reasons.{Refutes};
 ghost use Rattle.simplex_reasons.specs.Stops.{AreStated};
 ghost use Rattle.spec_causes.specs.Reasons.{with_basic, unit_entries};
-ghost use Rattle.simplex_reasons.specs.Reasons.{Meaning, footing, AreReasonsFor, AreOfHeld, StrainsReasons, OnWide};
+ghost use Rattle.simplex_reasons.specs.Reasons.{Meaning, footing, AreReasonsFor, AreOfHeld, StrainsReasons, OnReasonOverflow};
 
 use crate::rows::{crossed_reasons, stuck_reasons};
 use crate::stop::ReasonStop;
@@ -45,16 +45,16 @@ pub fn row_reasons(
     b: u64,
 ) -> Result<Vec<Weighted>, ReasonStop>
     ghost t: { TableView }
-    requires right { AreRight t atoms.now board.now bounds.now }
+    requires right { AtomsFit t atoms.now board.now bounds.now }
     requires stated { AreStated atoms.now.placed bounds.now.held }
-    requires settled { IsSettled deltas (ranges_in bounds.now.held) (state_of board.now) }
-    requires says { Says deltas (ranges_in bounds.now.held) (state_of board.now) (stuck b) }
+    requires settled { IsNonbasicFeasible deltas (ranges_in bounds.now.held) (state_of board.now) }
+    requires says { RuleSays deltas (ranges_in bounds.now.held) (state_of board.now) (stuck b) }
     ensures reasons { IfOk result (λ reasons. AreReasonsFor (footing atoms.now bounds.now)
         (goes_up deltas (ranges_in bounds.now.held) (state_of board.now) b)
         (with_basic b (row_of b board.now.tableau.rows).entries) reasons.items) }
     ensures refutes { IfOk result (λ reasons. Refutes t reasons.items) }
     ensures held { IfOk result (λ reasons. AreOfHeld bounds.now.held reasons.items) }
-    ensures wide { IfErr result (OnWide (StrainsReasons (footing atoms.now bounds.now)
+    ensures wide { IfErr result (OnReasonOverflow (StrainsReasons (footing atoms.now bounds.now)
         (goes_up deltas (ranges_in bounds.now.held) (state_of board.now) b)
         (with_basic b (row_of b board.now.tableau.rows).entries))) }
 {
@@ -81,14 +81,14 @@ pub fn crossing_reasons(
     y: u64,
 ) -> Result<Vec<Weighted>, ReasonStop>
     ghost of: { Meaning }
-    requires right { AreRight of.table atoms.now of.board bounds.now }
+    requires right { AtomsFit of.table atoms.now of.board bounds.now }
     requires stated { AreStated atoms.now.placed bounds.now.held }
     requires crossed { is_crossed deltas (ranges_in bounds.now.held) y ≡ true }
     ensures reasons { IfOk result (λ reasons. AreReasonsFor (footing atoms.now bounds.now) true
         (with_basic y (unit_entries y)) reasons.items) }
     ensures refutes { IfOk result (λ reasons. Refutes of.table reasons.items) }
     ensures held { IfOk result (λ reasons. AreOfHeld bounds.now.held reasons.items) }
-    ensures wide { IfErr result (OnWide (StrainsReasons (footing atoms.now bounds.now) true
+    ensures wide { IfErr result (OnReasonOverflow (StrainsReasons (footing atoms.now bounds.now) true
         (with_basic y (unit_entries y)))) }
 {
     bounds_have_weights();

@@ -3,13 +3,13 @@
 ghost use Rattle.std.specs.Prelude.{◌≡◌, true, IfOk, IfErr};
 ghost use Rattle.spec_tableaux.specs.Rows.{row_of};
 ghost use Rattle.spec_tableaux.specs.Ranges.{is_crossed};
-ghost use Rattle.spec_tableaux.specs.LeastVariable.{Says, IsSettled, goes_up, stuck};
+ghost use Rattle.spec_tableaux.specs.LeastVariable.{RuleSays, IsNonbasicFeasible, goes_up, stuck};
 ghost use Rattle.spec_strains.specs.Points.{deltas};
 ghost use Rattle.simplex_bounds.specs.Held.{ranges_in};
 ghost use Rattle.simplex_check.specs.Boards.{state_of};
 ghost use Rattle.simplex_reasons.specs.Stops.{AreStated, HaveFactors};
 ghost use Rattle.spec_causes.specs.Reasons.{with_basic, unit_entries};
-ghost use Rattle.simplex_reasons.specs.Reasons.{footing, AreReasonsFor, AreOfHeld, StrainsReasons, OnWide};
+ghost use Rattle.simplex_reasons.specs.Reasons.{footing, AreReasonsFor, AreOfHeld, StrainsReasons, OnReasonOverflow};
 
 use crate::stop::ReasonStop;
 use crate::sums::reasons_for;
@@ -34,13 +34,13 @@ pub(crate) fn stuck_reasons(
 ) -> Result<Vec<Weighted>, ReasonStop>
     requires stated { AreStated atoms.now.placed bounds.now.held }
     requires factors { HaveFactors atoms.now.placed }
-    requires settled { IsSettled deltas (ranges_in bounds.now.held) (state_of board.now) }
-    requires says { Says deltas (ranges_in bounds.now.held) (state_of board.now) (stuck b) }
+    requires settled { IsNonbasicFeasible deltas (ranges_in bounds.now.held) (state_of board.now) }
+    requires says { RuleSays deltas (ranges_in bounds.now.held) (state_of board.now) (stuck b) }
     ensures reasons { IfOk result (λ reasons. AreReasonsFor (footing atoms.now bounds.now)
         (goes_up deltas (ranges_in bounds.now.held) (state_of board.now) b)
         (with_basic b (row_of b board.now.tableau.rows).entries) reasons.items) }
     ensures held { IfOk result (λ reasons. AreOfHeld bounds.now.held reasons.items) }
-    ensures wide { IfErr result (OnWide (StrainsReasons (footing atoms.now bounds.now)
+    ensures wide { IfErr result (OnReasonOverflow (StrainsReasons (footing atoms.now bounds.now)
         (goes_up deltas (ranges_in bounds.now.held) (state_of board.now) b)
         (with_basic b (row_of b board.now.tableau.rows).entries))) }
 {
@@ -70,7 +70,7 @@ pub(crate) fn crossed_reasons(
     ensures reasons { IfOk result (λ reasons. AreReasonsFor (footing atoms.now bounds.now) true
         (with_basic y (unit_entries y)) reasons.items) }
     ensures held { IfOk result (λ reasons. AreOfHeld bounds.now.held reasons.items) }
-    ensures wide { IfErr result (OnWide (StrainsReasons (footing atoms.now bounds.now) true
+    ensures wide { IfErr result (OnReasonOverflow (StrainsReasons (footing atoms.now bounds.now) true
         (with_basic y (unit_entries y)))) }
 {
     let unit = [Entry {

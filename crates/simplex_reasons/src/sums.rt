@@ -4,7 +4,7 @@ ghost use Rattle.std.specs.Prelude.{IfOk, IfErr};
 ghost use Rattle.tableau.specs.Entries.{entries_of};
 ghost use Rattle.simplex_reasons.specs.Stops.{AreStated, HaveFactors, AreAllStopped};
 ghost use Rattle.spec_causes.specs.Reasons.{with_basic};
-ghost use Rattle.simplex_reasons.specs.Reasons.{footing, AreReasonsFor, StrainsReasons, OnWide};
+ghost use Rattle.simplex_reasons.specs.Reasons.{footing, AreReasonsFor, StrainsReasons, OnReasonOverflow};
 
 use crate::stop::ReasonStop;
 use crate::weights::reason_for;
@@ -32,7 +32,7 @@ pub(crate) fn reasons_for(
     requires factors { HaveFactors atoms.now.placed }
     ensures reasons { IfOk result (λ reasons. AreReasonsFor (footing atoms.now bounds.now) up
         (with_basic basic (entries_of entries.now)) reasons.items) }
-    ensures wide { IfErr result (OnWide (StrainsReasons (footing atoms.now bounds.now) up
+    ensures wide { IfErr result (OnReasonOverflow (StrainsReasons (footing atoms.now bounds.now) up
         (with_basic basic (entries_of entries.now)))) }
 {
     let mut reasons = Vec::new(alloc);

@@ -12,7 +12,7 @@ ghost use Rattle.simplex_atoms.specs.Places.{relation_by};
 ghost use Rattle.spec_causes.specs.Reasons as causes;
 ghost use Rattle.simplex_reasons.specs.Stops as stops;
 ghost use Rattle.simplex_reasons.specs.Stops.{AreStated, HaveFactors, IsStopped};
-ghost use Rattle.simplex_reasons.specs.Reasons.{weight_by, footing, IsReason, StrainsReason};
+ghost use Rattle.simplex_reasons.specs.Reasons.{weight_by, footing, IsBoundReason, StrainsReason};
 
 use ratio128::{Ratio, Wide};
 use simplex_atoms::{Atoms, Kind, Place};
@@ -87,7 +87,7 @@ pub(crate) fn reason_for(
     requires stopped { IsStopped bounds.now.held up (entry_of entry) }
     requires stated { AreStated atoms.now.placed bounds.now.held }
     requires factors { HaveFactors atoms.now.placed }
-    ensures reason { IfOk result (IsReason (footing atoms.now bounds.now) up (entry_of entry)) }
+    ensures reason { IfOk result (IsBoundReason (footing atoms.now bounds.now) up (entry_of entry)) }
     ensures wide { IfErr result (λ w. StrainsReason (footing atoms.now bounds.now) up (entry_of entry) (overflow w)) }
 {
     let side = stopping_side(up, entry.coefficient);

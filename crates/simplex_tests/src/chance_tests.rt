@@ -1,7 +1,7 @@
 //! Rows and bounds by chance, with marks and going back, checked on two boards and by an elimination of variables.
 
 ghost use Rattle.std.specs.Prelude.{◌≡◌, ◌<◌, true};
-ghost use Rattle.spec_tableaux.specs.SolvedForms.{IsOver};
+ghost use Rattle.spec_tableaux.specs.SolvedForms.{AllVariables};
 ghost use Rattle.tableau.specs.Entries.{entries_of};
 
 use crate::checked::{Tally, check_both};
@@ -96,7 +96,7 @@ fn unit(n: u64) -> Form {
 
 /// Says whether each variable is below a number.
 fn are_below(entries: &[Entry], number: u64) -> bool
-    ensures { result ≡ true → IsOver (λ y. y < number) (entries_of entries.now) }
+    ensures { result ≡ true → AllVariables (λ y. y < number) (entries_of entries.now) }
 {
     let mut rest = entries;
     while let Some((e, more)) = rest.split_first() {

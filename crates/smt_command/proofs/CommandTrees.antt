@@ -13,7 +13,7 @@ use Rattle.spec_commands.specs.Commands.{command_of}
 use Rattle.spec_commands.specs.Stack.{Stack, empty_stack, performed, step}
 use Rattle.smt_sexpr.specs.declared.sexpr.Sexpr.{Sexpr}
 use Rattle.smt_sexpr.specs.Items.{text_of, start_of, tree_of}
-use Rattle.smt_command.specs.Commands.{listed}
+use Rattle.smt_command.specs.Commands.{command_in_list}
 
 -- an atom is none
 pub atom_command : (t : Tree) (at : ℕ) (k : Kind) (n : List ℕ) → atom at k n ≡ t → command_of t ≡ refused at BadShape
@@ -21,12 +21,12 @@ unfolding command_of
 atom_command t at k n e = ap command_of (sym e)
 
 -- a list's
-listed_is : (at : ℕ) (ts : Trees) (end : ℕ) → command_of (list at ts end) ≡ listed at ts
+listed_is : (at : ℕ) (ts : Trees) (end : ℕ) → command_of (list at ts end) ≡ command_in_list at ts
 unfolding command_of
 listed_is at none end = refl
 listed_is at (more head us) end = refl
 
-pub list_command : (t : Tree) (at : ℕ) (ts : Trees) (end : ℕ) → list at ts end ≡ t → command_of t ≡ listed at ts
+pub list_command : (t : Tree) (at : ℕ) (ts : Trees) (end : ℕ) → list at ts end ≡ t → command_of t ≡ command_in_list at ts
 list_command t at ts end e = ap command_of (sym e) ∙ listed_is at ts end
 
 -- what is no command cannot be taken

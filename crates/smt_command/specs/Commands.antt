@@ -68,9 +68,9 @@ is_named (atom at k n) = false
 is_named (list at ts end) = is_some (named_parts ts)
 
 -- the command of a list at an offset
-abbrev pub listed : ℕ → Trees → Answer Command
-listed at none = refused at BadShape
-listed at (more head us) = command_as at (offset_of head) (verb_of head) us
+abbrev pub command_in_list : ℕ → Trees → Answer Command
+command_in_list at none = refused at BadShape
+command_in_list at (more head us) = command_as at (offset_of head) (verb_of head) us
 
 -- a fault of a command, in the words of the definitions
 abbrev pub located : CommandFault → Located
@@ -82,8 +82,8 @@ Gives view (Ok x) read = read ≡ Ok (view x)
 Gives view (Err f) read = read ≡ Err (located f)
 
 -- The command that an s-expression is; or its fault, with the place in its text. It never lacks memory.
-abbrev pub Reads : Sexpr → Result CodeCommand Refused → Type 0
-Reads x (Ok c) = command_of (tree_of x) ≡ Ok (command_view c)
-Reads x (Err (refusals.Fault r)) =
+abbrev pub ReadsScriptCommand : Sexpr → Result CodeCommand Refused → Type 0
+ReadsScriptCommand x (Ok c) = command_of (tree_of x) ≡ Ok (command_view c)
+ReadsScriptCommand x (Err (refusals.Fault r)) =
     (command_of (tree_of x) ≡ Err (record { offset = r.place.offset; fault = r.fault })) × IsPlaceOf (text_of x) r.place
-Reads x (Err refusals.Memory) = ⊥
+ReadsScriptCommand x (Err refusals.Memory) = ⊥

@@ -6,7 +6,7 @@ ghost use Rattle.spec_text.specs.Places.{IsPlaceOf};
 ghost use Rattle.spec_text.specs.Trees.{offset_of};
 ghost use Rattle.spec_commands.specs.Commands.{command_as, command_of, verb_of};
 ghost use Rattle.smt_sexpr.specs.Items.{trees_meant, tree_meant, text_of, start_of};
-ghost use Rattle.smt_command.specs.Commands.{command_view, listed, Gives, Reads};
+ghost use Rattle.smt_command.specs.Commands.{command_view, command_in_list, Gives, ReadsScriptCommand};
 
 use crate::commands::{Command, verb_of};
 use crate::shapes::by_verb;
@@ -52,7 +52,7 @@ fn command_as<'a>(at: u64, head: Trees<'a>, rest: Trees<'a>) -> Result<Command<'
 
 /// Reads the command of a list at an offset.
 fn in_list(at: u64, trees: Trees<'_>) -> Result<Command<'_>, CommandFault>
-    ensures { Gives command_view result (listed at (trees_meant trees.entry)) }
+    ensures { Gives command_view result (command_in_list at (trees_meant trees.entry)) }
 {
     match split(trees) {
         None => Err(misshapen(at)),
@@ -88,7 +88,7 @@ fn place_in(sexpr: &Sexpr<'_>, offset: u64) -> Place
 /// `UnknownCommand` at the first of a list that is not the word of a command, or has bars; `BadShape` at the parenthesis of a
 /// list whose parts are not those of its command. `Memory` never comes. Source: SMT-LIB 2.6, section 3.9.
 pub fn command<'a>(sexpr: &'a Sexpr<'_>) -> Result<Command<'a>, Refused>
-    ensures { Reads sexpr.now result }
+    ensures { ReadsScriptCommand sexpr.now result }
 {
     spec_commands::faults_stand_in_their_command();
     sexpr.offsets_have_places();

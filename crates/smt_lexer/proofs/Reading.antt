@@ -8,8 +8,8 @@ use Rattle.smt_lexer.specs.declared.pieces.What.{What}
 use Rattle.smt_lexer.specs.declared.pieces.What.TheVariants as whats
 use Rattle.smt_lexer.specs.declared.TokenKind.{TokenKind}
 use Rattle.smt_lexer.specs.declared.TokenKind.TheVariants as kinds
-use Rattle.smt_lexer.specs.Pieces.{lexeme_of, IsWithin}
-use Rattle.smt_lexer.specs.Tokens.{Stands, IsToken, piece_from}
+use Rattle.smt_lexer.specs.Pieces.{lexeme_of, IsPieceWithin}
+use Rattle.smt_lexer.specs.Tokens.{IsFirstLexeme, IsToken, piece_from}
 use Rattle.spec_text.specs.Lexemes.{Lexeme, blank, opens, closes, word, wrong, Piece, piece, first_piece, before, lexemes, lexemes_from}
 use Rattle.spec_text.proofs.Printing.{lexemes_skip}
 
@@ -29,7 +29,7 @@ module _ (text : List ℕ) (at : ℕ) (lt : at < length text) where
   one_less n some = omega arith
 
   -- what stands there, as the code has it
-  module _ (w : What) (n : ℕ) (within : IsWithin w n (length text - at)) (e : piece (lexeme_of w) n ≡ first_piece (get_or text at 0) (drop (at + 1) text)) where
+  module _ (w : What) (n : ℕ) (within : IsPieceWithin w n (length text - at)) (e : piece (lexeme_of w) n ≡ first_piece (get_or text at 0) (drop (at + 1) text)) where
     pub blank_here : w ≡ whats.Blank → lexemes_from text at ≡ lexemes_from text (at + n)
     blank_here is =
         let some = rw is at within in
@@ -40,7 +40,7 @@ module _ (text : List ℕ) (at : ℕ) (lt : at < length text) where
 
     -- the token that it is, from an offset before it on
     module _ (from : ℕ) (place after : Place) (behind : from ≤ place.offset) (passed : lexemes_from text from ≡ lexemes_from text at) (here : place.offset ≡ at) (size : after.offset ≡ at + n) where
-      stands : (x : Lexeme) → 0 < n → piece x n ≡ piece_from text at → lexemes_from text at ≡ (at, x) ∷ lexemes_from text (at + n) → Stands text from place after x
+      stands : (x : Lexeme) → 0 < n → piece x n ≡ piece_from text at → lexemes_from text at ≡ (at, x) ∷ lexemes_from text (at + n) → IsFirstLexeme text from place after x
       stands x some p f = record {
         first = passed ∙ f ∙ rw (here, size) refl;
         behind = behind;

@@ -41,9 +41,9 @@ IsBody bytes None = string_body bytes ≡ None
 IsBody bytes (Some n) = (n < length bytes) × (string_body bytes ≡ Some (take n bytes))
 
 -- it has one byte at least and not more than so many; as many at most stand before a fault
-abbrev pub IsWithin : What → ℕ → ℕ → Type 0
-IsWithin (whats.Wrong f) size n = size ≤ n
-IsWithin whats.Blank size n = (0 < size) × (size ≤ n)
-IsWithin whats.Open size n = (0 < size) × (size ≤ n)
-IsWithin whats.Close size n = (0 < size) × (size ≤ n)
-IsWithin (whats.Word k bytes) size n = (0 < size) × (size ≤ n)
+abbrev pub IsPieceWithin : What → ℕ → ℕ → Type 0
+IsPieceWithin (whats.Wrong f) size n = size ≤ n
+IsPieceWithin whats.Blank size n = (0 < size) × (size ≤ n)
+IsPieceWithin whats.Open size n = (0 < size) × (size ≤ n)
+IsPieceWithin whats.Close size n = (0 < size) × (size ≤ n)
+IsPieceWithin (whats.Word k bytes) size n = (0 < size) × (size ≤ n)

@@ -13,7 +13,7 @@ abbrev pub piece_from : List ℕ → ℕ → Piece
 piece_from text at = first_piece (slice_index text at) (drop (at + 1) text)
 
 -- The first lexeme from an offset on stands at a place, up to another place, and the others stand from there on. Before it stands nothing but white space and comments, for `lexemes_from` passes over nothing else.
-pub record Stands (text : List ℕ) (from : ℕ) (place after : Place) (x : Lexeme) : Type 0 where
+pub record IsFirstLexeme (text : List ℕ) (from : ℕ) (place after : Place) (x : Lexeme) : Type 0 where
   -- it is the first, and the others are those after it
   pub first : lexemes_from text from ≡ (place.offset, x) ∷ lexemes_from text after.offset
   -- it stands at the offset or after it
@@ -26,19 +26,19 @@ pub record Stands (text : List ℕ) (from : ℕ) (place after : Place) (x : Lexe
   pub ends : after.offset ≡ place.offset + (piece_from text place.offset).size
 
 -- no lexeme stands from an offset on, and the place is the end of the text
-pub record Ends (text : List ℕ) (from : ℕ) (place after : Place) : Type 0 where
+pub record EndsLexemes (text : List ℕ) (from : ℕ) (place after : Place) : Type 0 where
   pub nothing : lexemes_from text from ≡ []
   pub place_end : place.offset ≡ length text
   pub after_end : after ≡ place
 
 -- the token that begins at a place, up to another, is the next from an offset on
 abbrev pub IsToken : List ℕ → ℕ → Place → Place → TokenKind → Type 0
-IsToken text from place after Open = Stands text from place after opens
-IsToken text from place after Close = Stands text from place after closes
-IsToken text from place after (Word k bytes) = Stands text from place after (word k bytes.now)
-IsToken text from place after End = Ends text from place after
+IsToken text from place after Open = IsFirstLexeme text from place after opens
+IsToken text from place after Close = IsFirstLexeme text from place after closes
+IsToken text from place after (Word k bytes) = IsFirstLexeme text from place after (word k bytes.now)
+IsToken text from place after End = EndsLexemes text from place after
 
 -- the next token from a place on with the place after it, or the fault that stands there before any token
-abbrev pub IsNext : List ℕ → Place → Result (Token × Place) Refusal → Type 0
-IsNext text at (Ok r) = IsToken text at.offset r.0.place r.1 r.0.kind × IsPlaceOf text r.0.place × IsPlaceOf text r.1
-IsNext text at (Err r) = (lexemes_from text at.offset ≡ (r.place.offset, wrong r.fault) ∷ []) × IsPlaceOf text r.place
+abbrev pub IsNextToken : List ℕ → Place → Result (Token × Place) Refusal → Type 0
+IsNextToken text at (Ok r) = IsToken text at.offset r.0.place r.1 r.0.kind × IsPlaceOf text r.0.place × IsPlaceOf text r.1
+IsNextToken text at (Err r) = (lexemes_from text at.offset ≡ (r.place.offset, wrong r.fault) ∷ []) × IsPlaceOf text r.place

@@ -6,7 +6,7 @@
 
 ghost use Rattle.std.specs.Prelude.{◌≡◌};
 ghost use Rattle.spec_text.specs.Places.{IsPlaceOf};
-ghost use Rattle.smt_lexer.specs.Tokens.{IsNext};
+ghost use Rattle.smt_lexer.specs.Tokens.{IsNextToken};
 ghost use Rattle.smt_lexer.specs.declared.Refused.TheVariants as reasons;
 
 use std::alloc::{AllocError, AllocFailed};
@@ -99,7 +99,7 @@ pub struct Token<'a> {
 /// Source: SMT-LIB 2.6, section 3.1.
 pub fn next<'a>(bytes: &'a [u8], at: Place) -> Result<(Token<'a>, Place), Refusal>
     requires { IsPlaceOf bytes.now at }
-    ensures { IsNext bytes.now at result }
+    ensures { IsNextToken bytes.now at result }
 {
     let mut place = at;
     while place.offset < bytes.len() as u64 {

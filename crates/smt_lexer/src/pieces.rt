@@ -3,7 +3,7 @@
 ghost use Rattle.std.specs.Prelude.{◌≡◌, ℕ, ◌+◌, ◌-◌, ◌^◌, ◌<◌, ◌≤◌, length, take, drop, slice_index, Some, None};
 ghost use Rattle.spec_text.specs.Bytes as names;
 ghost use Rattle.spec_text.specs.Lexemes as lexicon;
-ghost use Rattle.smt_lexer.specs.Pieces.{piece_of, head_at, IsBody, IsWithin};
+ghost use Rattle.smt_lexer.specs.Pieces.{piece_of, head_at, IsBody, IsPieceWithin};
 
 use crate::bytes::{Class, front_len, is_blank_byte, is_of_symbols};
 use crate::words::is_reserved;
@@ -83,7 +83,7 @@ fn head_of(b: u8) -> Head
 
 /// Gives a fault after so many bytes.
 fn fault_at<'a>(fault: Fault, size: usize) -> Found<'a>
-    ensures within { (n : ℕ) → size ≤ n → IsWithin result.what result.size n }
+    ensures within { (n : ℕ) → size ≤ n → IsPieceWithin result.what result.size n }
     ensures piece { piece_of result ≡ lexicon.piece (lexicon.wrong fault) size }
 {
     Found {
@@ -96,7 +96,7 @@ fn fault_at<'a>(fault: Fault, size: usize) -> Found<'a>
 fn ended<'a>(bytes: &'a [u8], size: usize, kind: Kind) -> Found<'a>
     requires some { 0 < size }
     requires within { size ≤ length bytes.now }
-    ensures within { IsWithin result.what result.size (length bytes.now) }
+    ensures within { IsPieceWithin result.what result.size (length bytes.now) }
     ensures piece { piece_of result
         ≡ lexicon.ended (drop size bytes.now) size (lexicon.word kind (take size bytes.now)) }
 {
@@ -113,7 +113,7 @@ fn ended<'a>(bytes: &'a [u8], size: usize, kind: Kind) -> Found<'a>
 fn number<'a>(bytes: &'a [u8], digits: usize) -> Found<'a>
     requires some { 0 < digits }
     requires within { digits ≤ length bytes.now }
-    ensures within { IsWithin result.what result.size (length bytes.now) }
+    ensures within { IsPieceWithin result.what result.size (length bytes.now) }
     ensures piece { piece_of result ≡ lexicon.number (take digits bytes.now) (drop digits bytes.now) }
 {
     if digits == bytes.len() || bytes[digits] != b'.' {
@@ -147,7 +147,7 @@ fn body_len(bytes: &[u8]) -> Option<usize>
 /// Reads a string after its opening quote. Source: SMT-LIB 2.6, section 3.1.
 fn string<'a>(rest: &'a [u8]) -> Found<'a>
     requires { length rest.now + 1 < 2 ^ 64 }
-    ensures within { (n : ℕ) → 1 + length rest.now ≤ n → IsWithin result.what result.size n }
+    ensures within { (n : ℕ) → 1 + length rest.now ≤ n → IsPieceWithin result.what result.size n }
     ensures piece { piece_of result ≡ lexicon.string (lexicon.string_body rest.now) }
 {
     match body_len(rest) {
@@ -161,7 +161,7 @@ fn string<'a>(rest: &'a [u8]) -> Found<'a>
 
 /// Reads a quoted symbol after its opening bar. Source: SMT-LIB 2.6, section 3.1.
 fn quoted<'a>(rest: &'a [u8]) -> Found<'a>
-    ensures within { (n : ℕ) → 1 + length rest.now ≤ n → IsWithin result.what result.size n }
+    ensures within { (n : ℕ) → 1 + length rest.now ≤ n → IsPieceWithin result.what result.size n }
     ensures piece { piece_of result
         ≡ lexicon.quoted (names.front names.is_in_bars rest.now)
         (drop (length (names.front names.is_in_bars rest.now)) rest.now) }
@@ -181,7 +181,7 @@ fn quoted<'a>(rest: &'a [u8]) -> Found<'a>
 
 /// Reads a keyword after its colon. Source: SMT-LIB 2.6, section 3.1.
 fn keyword<'a>(rest: &'a [u8]) -> Found<'a>
-    ensures within { (n : ℕ) → 1 + length rest.now ≤ n → IsWithin result.what result.size n }
+    ensures within { (n : ℕ) → 1 + length rest.now ≤ n → IsPieceWithin result.what result.size n }
     ensures piece { piece_of result ≡ lexicon.keyword (names.front names.is_symbol_byte rest.now) }
 {
     let n = front_len(rest, Class::Symbol);
@@ -198,7 +198,7 @@ fn keyword<'a>(rest: &'a [u8]) -> Found<'a>
 fn symbol<'a>(bytes: &'a [u8], size: usize) -> Found<'a>
     requires some { 0 < size }
     requires within { size ≤ length bytes.now }
-    ensures within { IsWithin result.what result.size (length bytes.now) }
+    ensures within { IsPieceWithin result.what result.size (length bytes.now) }
     ensures piece { piece_of result ≡ lexicon.symbol (take size bytes.now) }
 {
     let name = &bytes[..size];
@@ -216,7 +216,7 @@ fn symbol<'a>(bytes: &'a [u8], size: usize) -> Found<'a>
 /// Reads what bytes begin with, as long as it can be. Source: SMT-LIB 2.6, section 3.1.
 fn first_piece<'a>(bytes: &'a [u8]) -> Found<'a>
     requires { 0 < length bytes.now }
-    ensures within { IsWithin result.what result.size (length bytes.now) }
+    ensures within { IsPieceWithin result.what result.size (length bytes.now) }
     ensures piece { piece_of result ≡ lexicon.first_piece (slice_index bytes.now 0) (drop 1 bytes.now) }
 {
     let rest = &bytes[1..];
@@ -239,7 +239,7 @@ fn first_piece<'a>(bytes: &'a [u8]) -> Found<'a>
 /// Reads what the bytes from an offset on begin with. Source: SMT-LIB 2.6, section 3.1.
 pub fn piece_at<'a>(bytes: &'a [u8], at: usize) -> Found<'a>
     requires { at < length bytes.now }
-    ensures within { IsWithin result.what result.size (length bytes.now - at) }
+    ensures within { IsPieceWithin result.what result.size (length bytes.now - at) }
     ensures piece { piece_of result ≡ lexicon.first_piece (slice_index bytes.now at) (drop (at + 1) bytes.now) }
 {
     first_piece(&bytes[at..])

@@ -16,7 +16,7 @@ use Rattle.assertion_stack.specs.Stacks.{Standing}
 use Rattle.check_evidence.specs.Evidence.{limits_meant, check_on, checked_on, IsHeld}
 use Rattle.smt_session.specs.declared.responses.Response.{Response as CodeResponse}
 use Rattle.smt_session.specs.declared.responses.Response.TheVariants as responses
-use Rattle.smt_session.specs.Sessions.{SessionView, stated, IsResponse, IsResponseOf, IsAskedOf, LearnsBy, KeepsBudget, IsTaken, HasLists, ResponseMeans, IsAnswered}
+use Rattle.smt_session.specs.Sessions.{SessionView, stated, IsResponse, IsResponseOf, IsAskedOf, LearnsBy, KeepsBudget, AnswersCommand, HasLists, ResponseMeans, IsAnswered}
 
 -- what a response says of the lists of a budget
 keeps_lists : (text : List ℕ) (r : CodeResponse) (a : Answered) (old new : SessionView) → IsResponse new.table text new.budget r a.response → LearnsBy (limits_meant old.limits) new.table a.response a.stack new.budget → KeepsBudget (Ok r) old.budget new.budget → HasLists a.response a.stack old new
@@ -53,7 +53,7 @@ means_so law limits s t a answers asked kept = by_step (step limits.terms s t) a
     by_step (Err f) (is, same) = subst ResponseMeans (sym is) tt
 
 -- a command that was taken is answered
-pub is_answered : MeansSo → (s : Stack) (x : Sexpr) (r : CodeResponse) (old new : SessionView) (taken : IsTaken (limits_meant old.limits) s x r (stated new) new.budget) → new.limits ≡ old.limits → KeepsBudget (Ok r) old.budget new.budget → IsAnswered s x old new taken.a
+pub is_answered : MeansSo → (s : Stack) (x : Sexpr) (r : CodeResponse) (old new : SessionView) (taken : AnswersCommand (limits_meant old.limits) s x r (stated new) new.budget) → new.limits ≡ old.limits → KeepsBudget (Ok r) old.budget new.budget → IsAnswered s x old new taken.a
 is_answered law s x r old new taken same kept = record {
   answers = taken.answers;
   stands = subst (λ (l : CodeLimits). IsHeld l.terms (stated new) taken.a.stack) (sym same) taken.held;
@@ -67,7 +67,7 @@ pub checked_is : (s : Stack) (x : Checked) → x.check ≡ check_on s → x ≡ 
 checked_is s x e = ap (λ c. record { check = c; found = x.found }) e
 
 -- what is written for it is its response
-pub is_response : (limits : Limits) (s : Stack) (x : Sexpr) (r : CodeResponse) (z : Standing) (budget : BudgetView) (taken : IsTaken limits s x r z budget) → IsResponseOf z (text_of x) budget r taken.a
+pub is_response : (limits : Limits) (s : Stack) (x : Sexpr) (r : CodeResponse) (z : Standing) (budget : BudgetView) (taken : AnswersCommand limits s x r z budget) → IsResponseOf z (text_of x) budget r taken.a
 is_response limits s x r z budget taken = record {
   is = taken.is;
   asked = taken.asked;

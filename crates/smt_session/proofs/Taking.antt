@@ -5,7 +5,7 @@ use Rattle.std.specs.Prelude.{Result, Ok, Err}
 use Rattle.spec_text.specs.Lexemes.{Lexeme, lexemes_from}
 use Rattle.spec_text.specs.Trees.{Tree, spelled}
 use Rattle.spec_commands.specs.Stack.{Stack, Effect, Taken, empty_stack, signature_of, step}
-use Rattle.spec_commands.specs.Kept.{IsAsserted, IsKept}
+use Rattle.spec_commands.specs.Kept.{IsAsserted, IsSoundStack}
 use Rattle.spec_proof_texts.specs.ReadBack.{AreScriptNames}
 use Rattle.spec_sessions.specs.Evidence.{Limits}
 use Rattle.spec_sessions.specs.Responses.{Response, rejected, Answered, Responds, AnswersBy, Answers}
@@ -22,10 +22,10 @@ use Rattle.assertion_stack.specs.Stacks.{Standing, standing, IsStack, Steps}
 use Rattle.spec_readable.specs.Readable.{AreReadable}
 use Rattle.check_evidence.specs.Evidence.{check_on, IsHeld}
 use Rattle.smt_session.specs.declared.responses.Response.{Response as CodeResponse}
-use Rattle.smt_session.specs.Sessions.{KeepsBudget, Rejects, Takes}
+use Rattle.smt_session.specs.Sessions.{KeepsBudget, Rejects, TakesScriptCommand}
 
 -- nothing is stated at first
-pub first_held : (limit : ℕ) (t : TableView) (x : CodeStack) → t ≡ record { sorts = []; symbols = []; terms = [] } → ((u : TableView) → u.sorts ≡ [] → u.symbols ≡ [] → IsStack limit (standing u x) empty_stack) → IsKept limit empty_stack → AreScriptNames (signature_of empty_stack) → AreReadable (signature_of empty_stack) → IsHeld limit (standing t x) empty_stack
+pub first_held : (limit : ℕ) (t : TableView) (x : CodeStack) → t ≡ record { sorts = []; symbols = []; terms = [] } → ((u : TableView) → u.sorts ≡ [] → u.symbols ≡ [] → IsStack limit (standing u x) empty_stack) → IsSoundStack limit empty_stack → AreScriptNames (signature_of empty_stack) → AreReadable (signature_of empty_stack) → IsHeld limit (standing t x) empty_stack
 first_held limit t x e stands kept names readable = record {
   stack = stands t (ap (λ (u : TableView). u.sorts) e) (ap (λ (u : TableView). u.symbols) e);
   kept = record { stack = kept; assumptions = All-nil (IsAsserted limit (signature_of empty_stack)); names = names };
@@ -34,7 +34,7 @@ first_held limit t x e stands kept names readable = record {
 
 -- the laws on commands: what they leave is kept, and its names can be printed
 abbrev pub NextIsKept : Type 0
-NextIsKept = (limit : ℕ) (s : Stack) (t : Tree) (d : Taken) → step limit s t ≡ Ok d → IsKept limit s → IsKept limit d.stack
+NextIsKept = (limit : ℕ) (s : Stack) (t : Tree) (d : Taken) → step limit s t ≡ Ok d → IsSoundStack limit s → IsSoundStack limit d.stack
 
 abbrev pub NextHasNames : Type 0
 NextHasNames = (limit : ℕ) (s : Stack) (text : List ℕ) (from : ℕ) (t : Tree) (rest : List (ℕ × Lexeme)) (d : Taken) → lexemes_from text from ≡ spelled t ++ rest → step limit s t ≡ Ok d → AreScriptNames (signature_of s) → AreScriptNames (signature_of d.stack)
@@ -56,10 +56,10 @@ pub back : (t u : TableView) (x y : CodeStack) → standing u x ≡ standing t (
 back t u x y e = ap (λ (z : Standing). record z.stack { started = y.started }) e
 
 -- a command that was not taken
-pub refused_as : (limits : Limits) (s : Stack) (x : Sexpr) (stop : Refused) (z : Standing) (budget : BudgetView) (result : Result CodeResponse NoMemory) → IsHeld limits.terms z s → Steps limits.terms (step limits.terms s (tree_of x)) x z (Err stop) → Rejects stop result → Takes limits s x result z budget
+pub refused_as : (limits : Limits) (s : Stack) (x : Sexpr) (stop : Refused) (z : Standing) (budget : BudgetView) (result : Result CodeResponse NoMemory) → IsHeld limits.terms z s → Steps limits.terms (step limits.terms s (tree_of x)) x z (Err stop) → Rejects stop result → TakesScriptCommand limits s x result z budget
 refused_as limits s x (refusals.Fault r) z budget result held d is =
     let a : Answered = record { response = rejected (record { offset = r.place.offset; fault = r.fault }); stack = s } in
-    subst (λ y. Takes limits s x y z budget) (sym is) (record {
+    subst (λ y. TakesScriptCommand limits s x y z budget) (sym is) (record {
       a = a;
       answers = subst (λ y. AnswersBy limits s y a) (sym d.0) (refl, refl);
       is = (refl, d.1);

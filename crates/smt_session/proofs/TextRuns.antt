@@ -8,7 +8,7 @@ use Rattle.spec_text.specs.declared.Place.{Place}
 use Rattle.spec_text.specs.Faults.{Located}
 use Rattle.spec_text.specs.Places.{IsPlaceOf, column_of, name_of}
 use Rattle.spec_text.specs.Lexemes.{lexemes_from}
-use Rattle.spec_text.specs.Readings.{Stops, kept, is_long, limited}
+use Rattle.spec_text.specs.Readings.{EndsTrees, kept, is_long, limited}
 use Rattle.spec_replies.specs.Lines.{error_text}
 use Rattle.spec_commands.specs.Stack.{Stack, empty_stack}
 use Rattle.spec_sessions.specs.Evidence.{Limits}
@@ -18,7 +18,7 @@ use Rattle.spec_sessions.proofs.Running.{answers_more, Going, going_begins, answ
 use Rattle.smt_lexer.specs.declared.Refusal.{Refusal}
 use Rattle.smt_sexpr.specs.declared.sexpr.Sexpr.{Sexpr}
 use Rattle.smt_sexpr.specs.Items.{text_of, tree_of}
-use Rattle.smt_sexpr.specs.Reads.{Reads}
+use Rattle.smt_sexpr.specs.Reads.{ReadsSexpr}
 use Rattle.smt_sexpr.specs.Limited.{refusal_meant, IsStopped}
 use Rattle.smt_sexpr.proofs.Limits.{stops_in}
 use Rattle.check_evidence.specs.Evidence.{limits_meant}
@@ -99,7 +99,7 @@ module _ (limits : Limits) (mode : Mode) (text : List ℕ) (old : SinkView) wher
     failed y new d = second_fails written y old now new i.written.sent d
 
     -- what stops the text, where it has no more commands
-    module _ (stop : Option Located) (stops : Stops (length bytes) (lexemes_from bytes from.offset) stop) where
+    module _ (stop : Option Located) (stops : EndsTrees (length bytes) (lexemes_from bytes from.offset) stop) where
       -- nothing stops it but its end
       pub ends_plain : limited (is_long text) stop ≡ None → RunsText limits mode text (ended_by refused) old now
       ends_plain e =
@@ -144,7 +144,7 @@ module _ (limits : Limits) (mode : Mode) (text : List ℕ) (old : SinkView) wher
     pub ends_stopped : (r : Refusal) (new : SinkView) (status : Status) → IsStopped text 0 (lexemes_from bytes from.offset) r → Ended r status now new → RunsText limits mode text status old new
     ends_stopped r new status h done = ends_at h.stop (stops_in (length bytes) (lexemes_from bytes from.offset) h.stop h.stops) r new status h.is h.place done
 
-    module _ (s : Sexpr) (after : Place) (r : Reads bytes from 0 s after) (y : SessionView) (new : SinkView) (a : Answered) (answer : IsAnswered i.stack s x y a) (same : (y.limits ≡ x.limits) × (y.mode ≡ x.mode)) where
+    module _ (s : Sexpr) (after : Place) (r : ReadsSexpr bytes from 0 s after) (y : SessionView) (new : SinkView) (a : Answered) (answer : IsAnswered i.stack s x y a) (same : (y.limits ≡ x.limits) × (y.mode ≡ x.mode)) where
       -- the text of the response, as one of the bytes
       response : written_for x s a ≡ response_text mode bytes a
       response = ap (λ m. response_text m (text_of s) a) i.mode_is ∙ ap (λ b. response_text mode b a) r.is.text_is

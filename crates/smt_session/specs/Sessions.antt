@@ -76,7 +76,7 @@ KeepsBudget (Ok (responses.Answered e)) old new = Unit {0}
 KeepsBudget _ old new = new ≡ old
 
 -- A command is answered after a stack, and the script stands for the stack after it.
-pub record IsTaken (limits : Limits) (s : Stack) (c : Sexpr) (response : CodeResponse) (x : Standing) (budget : BudgetView) : Type 0 where
+pub record AnswersCommand (limits : Limits) (s : Stack) (c : Sexpr) (response : CodeResponse) (x : Standing) (budget : BudgetView) : Type 0 where
   -- what it is answered
   pub a : Answered
   -- that is so
@@ -91,9 +91,9 @@ pub record IsTaken (limits : Limits) (s : Stack) (c : Sexpr) (response : CodeRes
   pub learned : LearnsBy limits x.table a.response a.stack budget
 
 -- a command is answered after a stack; or memory ran out, and the script stands for this stack
-abbrev pub Takes : Limits → Stack → Sexpr → Result CodeResponse NoMemory → Standing → BudgetView → Type 0
-Takes limits s c (Ok response) x budget = IsTaken limits s c response x budget
-Takes limits s c (Err _) x budget = IsHeld limits.terms x s
+abbrev pub TakesScriptCommand : Limits → Stack → Sexpr → Result CodeResponse NoMemory → Standing → BudgetView → Type 0
+TakesScriptCommand limits s c (Ok response) x budget = AnswersCommand limits s c response x budget
+TakesScriptCommand limits s c (Err _) x budget = IsHeld limits.terms x s
 
 -- a command that was not taken is refused with its fault, or memory ran out
 abbrev pub Rejects : Refused → Result CodeResponse NoMemory → Type 0

@@ -6,7 +6,7 @@ ghost use Rattle.spec_commands.specs.Stack.{Stack as ScriptStack, empty_stack};
 ghost use Rattle.assertion_stack.specs.Stacks.{standing};
 ghost use Rattle.search_loop.specs.Rounds.{HasLimits};
 ghost use Rattle.check_evidence.specs.Evidence.{limits_meant, IsHeld, HoldsSome};
-ghost use Rattle.smt_session.specs.Sessions.{IsSession, Takes, KeepsBudget, Rejects, Stepped};
+ghost use Rattle.smt_session.specs.Sessions.{IsSession, TakesScriptCommand, KeepsBudget, Rejects, Stepped};
 
 use crate::mode::Mode;
 use crate::responses::{Response, after_of, send_response};
@@ -160,7 +160,7 @@ fn take<'a>(
 ) -> Result<Response<'a>, NoMemory>
     requires { HoldsSome limits.now.terms (standing table.old stack.old) }
     ensures takes { (s : ScriptStack) → IsHeld limits.now.terms (standing table.old stack.old) s
-        → Takes (limits_meant limits.now) s command.now result (standing table.new stack.new) budget.new }
+        → TakesScriptCommand (limits_meant limits.now) s command.now result (standing table.new stack.new) budget.new }
     ensures table { OnErr result (table.new ≡ table.old) }
     ensures stack { OnErr result (stack.new ≡ stack.old) }
     ensures budget { KeepsBudget result budget.old budget.new }

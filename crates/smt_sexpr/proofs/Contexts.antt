@@ -7,7 +7,7 @@ use Rattle.spec_text.specs.Trees.{Tree, Trees, atom, list, none, more, spelled, 
 use Rattle.smt_sexpr.specs.Means.{flat, flat_all}
 use Rattle.smt_sexpr.specs.declared.items.Item.{Item}
 use Rattle.smt_sexpr.specs.declared.items.Item.TheVariants.{List as Group}
-use Rattle.smt_sexpr.specs.Open.{Context, top, inside, add, push, closed, spelled_in, flat_in, open_in, Holds}
+use Rattle.smt_sexpr.specs.Open.{Context, top, inside, add, push, closed, spelled_in, flat_in, open_in, HoldsContext}
 
 flat_add : (ts : Trees) (t : Tree) → flat_all (add ts t) ≡ flat_all ts ++ flat t
 flat_add none t = append-nil (flat t)
@@ -29,13 +29,13 @@ pub open_push : (c : Context) (t : Tree) → open_in (push c t) ≡ open_in c
 open_push (top rows) t = refl
 open_push (inside outer at rows) t = refl
 
-pub holds_word : (c : Context) (its next : List Item) (places bytes : List ℕ) (k : Kind) (at : ℕ) → next ≡ its ++ flat (atom at k bytes) → Holds c its places → Holds (push c (atom at k bytes)) next places
+pub holds_word : (c : Context) (its next : List Item) (places bytes : List ℕ) (k : Kind) (at : ℕ) → next ≡ its ++ flat (atom at k bytes) → HoldsContext c its places → HoldsContext (push c (atom at k bytes)) next places
 holds_word c its next places bytes k at n h = record {
   items_are = n ∙ ap (λ r. r ++ flat (atom at k bytes)) h.items_are ∙ sym (flat_push c (atom at k bytes));
   open_are = h.open_are ∙ sym (open_push c (atom at k bytes));
 }
 
-pub holds_begun : (c : Context) (its next : List Item) (places : List ℕ) (index at : ℕ) → next ≡ its ++ Group at 0 0 ∷ [] → index ≡ length its → Holds c its places → Holds (inside c at none) next (places ++ index ∷ [])
+pub holds_begun : (c : Context) (its next : List Item) (places : List ℕ) (index at : ℕ) → next ≡ its ++ Group at 0 0 ∷ [] → index ≡ length its → HoldsContext c its places → HoldsContext (inside c at none) next (places ++ index ∷ [])
 holds_begun c its next places index at n i h = record {
   items_are = n ∙ ap (λ r. r ++ Group at 0 0 ∷ []) h.items_are;
   open_are = ap (λ r. r ++ index ∷ []) h.open_are ∙ ap (λ m. open_in c ++ m ∷ []) (i ∙ ap length h.items_are);
@@ -52,7 +52,7 @@ snoc_same (z ∷ a) (w ∷ b) x y e =
     (cc, r.1)
 
 -- the item of the list that ends
-pub begun_at : (c : Context) (its : List Item) (places : List ℕ) (place : ℕ) (d : Item) → Holds c its (places ++ place ∷ []) → (at : ℕ) × (get_or its place d ≡ Group at 0 0) × ((end : ℕ) → Holds (closed c end) (set its place (Group at end (length its - place - 1))) places)
+pub begun_at : (c : Context) (its : List Item) (places : List ℕ) (place : ℕ) (d : Item) → HoldsContext c its (places ++ place ∷ []) → (at : ℕ) × (get_or its place d ≡ Group at 0 0) × ((end : ℕ) → HoldsContext (closed c end) (set its place (Group at end (length its - place - 1))) places)
 begun_at (top rows) its places place d h = absurd (omega (arith, ap length h.open_are, length-append places (place ∷ [])))
 begun_at (inside outer at rows) its places place d h =
     let s = snoc_same places (open_in outer) place (length (flat_in outer)) h.open_are in
@@ -70,7 +70,7 @@ begun_at (inside outer at rows) its places place d h =
 group_begin : {a e n b f m : ℕ} → Group a e n ≡ Group b f m → a ≡ b
 group_begin e = cc
 
-pub holds_ended : (c : Context) (its : List Item) (places : List ℕ) (place end end' at e n below : ℕ) (d : Item) → d ≡ get_or its place d → d ≡ Group at e n → end' ≡ end → below ≡ length its - place - 1 → Holds c its (places ++ place ∷ []) → Holds (closed c end) (set its place (Group at end' below)) places
+pub holds_ended : (c : Context) (its : List Item) (places : List ℕ) (place end end' at e n below : ℕ) (d : Item) → d ≡ get_or its place d → d ≡ Group at e n → end' ≡ end → below ≡ length its - place - 1 → HoldsContext c its (places ++ place ∷ []) → HoldsContext (closed c end) (set its place (Group at end' below)) places
 holds_ended c its places place end end' at e n below d stored is same b h =
     let g = begun_at c its places place d h in
     let begin : at ≡ g.0 = group_begin (sym is ∙ stored ∙ g.1) in

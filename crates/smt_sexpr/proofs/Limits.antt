@@ -4,7 +4,7 @@ use Rattle.std.proofs.lemmas.Bool.Decides.{nat_tests}
 use Rattle.spec_text.specs.declared.Fault.{Fault}
 use Rattle.spec_text.specs.Faults.{Located}
 use Rattle.spec_text.specs.Lexemes.{Lexeme, lexemes_from}
-use Rattle.spec_text.specs.Readings.{Stops, text_limit, kept, is_long}
+use Rattle.spec_text.specs.Readings.{EndsTrees, text_limit, kept, is_long}
 use Rattle.smt_lexer.specs.declared.Refusal.{Refusal}
 use Rattle.smt_sexpr.specs.Reads.{Breaks}
 use Rattle.smt_sexpr.specs.Limited.{refusal_meant, CutsOff, StopsIn, IsStopped}
@@ -28,6 +28,6 @@ stopped text bytes at n r cut e b c =
     record { stop = Some (refusal_meant r); stops = k.0; is = ap Some (sym c.0); place = c.1 k.1 }
 
 -- what stops the lexemes in no list stops the text
-pub stops_in : (end : ℕ) (rest : List (ℕ × Lexeme)) (stop : Option Located) → StopsIn end 0 rest stop → Stops end rest stop
+pub stops_in : (end : ℕ) (rest : List (ℕ × Lexeme)) (stop : Option Located) → StopsIn end 0 rest stop → EndsTrees end rest stop
 stops_in end rest None h = h.1
 stops_in end rest (Some f) h = h

@@ -17,7 +17,7 @@ use Rattle.smt_sexpr.specs.declared.items.Item.{Item}
 use Rattle.smt_sexpr.specs.declared.items.Item.TheVariants.{List as Group}
 use Rattle.smt_sexpr.specs.declared.sexpr.Sexpr.{Sexpr}
 use Rattle.smt_sexpr.specs.Items.{text_of, items_of, start_of, tree_of, IsWithin}
-use Rattle.smt_sexpr.specs.Open.{Context, top, inside, add, push, closed, spelled_in, flat_in, open_in, IsUnfinished, Holds}
+use Rattle.smt_sexpr.specs.Open.{Context, top, inside, add, push, closed, spelled_in, flat_in, open_in, IsUnfinished, HoldsContext}
 use Rattle.smt_sexpr.specs.Reads.{BeginsWith, IsFirst}
 use Rattle.smt_sexpr.proofs.Broken.{broken_in}
 use Rattle.smt_sexpr.proofs.Contexts.{spelled_push, open_push, holds_word, holds_begun}
@@ -86,7 +86,7 @@ pub record Reading (text : List ℕ) (n : ℕ) (xs : List (ℕ × Lexeme)) (item
   pub context : Context
   pub unfinished : IsUnfinished context
   pub shallow : IsShallow (nesting_limit - n) context
-  pub holds : Holds context items places
+  pub holds : HoldsContext context items places
   pub read : xs ≡ spelled_in context ++ lexemes_from text at
   pub faults : fault_at_depth text n xs ≡ fault_at_depth text (n + length places) (lexemes_from text at)
 
@@ -165,7 +165,7 @@ module _ (text : List ℕ) (n : ℕ) (xs : List (ℕ × Lexeme)) (items : List I
         moved closes e ∙ rw one refl
 
     pub closed_within : lexemes_from text at ≡ (place, closes) ∷ lexemes_from text after → (next : List Item) (open_at : List ℕ)
-        → length places ≡ length open_at + 1 → 0 < length open_at → Holds (closed r.context place) next open_at → Reading text n xs next open_at after
+        → length places ≡ length open_at + 1 → 0 < length open_at → HoldsContext (closed r.context place) next open_at → Reading text n xs next open_at after
     closed_within e next open_at m some h = record {
       context = closed r.context place;
       unfinished = go r.context r.unfinished (omega (arith, ap length r.holds.open_are)) h;
@@ -175,12 +175,12 @@ module _ (text : List ℕ) (n : ℕ) (xs : List (ℕ × Lexeme)) (items : List I
       faults = close_fault e open_at m;
     }
       where
-        go : (c : Context) → IsUnfinished c → 0 < length (open_in c) → Holds (closed c place) next open_at → IsUnfinished (closed c place)
+        go : (c : Context) → IsUnfinished c → 0 < length (open_in c) → HoldsContext (closed c place) next open_at → IsUnfinished (closed c place)
         go (top rows) u k g = absurd (omega arith)
         go (inside outer b rows) u k g = unfinished_push outer (list b rows place) u (omega (arith, ap length (g.open_are ∙ open_push outer (list b rows place))))
 
     -- the end of the one list that is open
-    pub closed_whole : (end : Place) → end.offset ≡ after → IsPlaceOf text end → lexemes_from text at ≡ (place, closes) ∷ lexemes_from text after → (next : List Item) → length places ≡ 1 → Holds (closed r.context place) next [] → BeginsWith text n xs next end
+    pub closed_whole : (end : Place) → end.offset ≡ after → IsPlaceOf text end → lexemes_from text at ≡ (place, closes) ∷ lexemes_from text after → (next : List Item) → length places ≡ 1 → HoldsContext (closed r.context place) next [] → BeginsWith text n xs next end
     closed_whole end end_is place_is e next m h = go r.context r.unfinished (omega (arith, ap length r.holds.open_are)) h (shallow_closed r.context place (nesting_limit - n) r.shallow) (close_read e (omega arith))
       where
         whole_push : (c : Context) (t : Tree) → IsUnfinished c → open_in c ≡ [] → push c t ≡ top (more t none)
@@ -188,7 +188,7 @@ module _ (text : List ℕ) (n : ℕ) (xs : List (ℕ × Lexeme)) (items : List I
         whole_push (top (more v vs)) t u k = absurd u
         whole_push (inside outer b rows) t u k = absurd (omega (arith, ap length k, length-append (open_in outer) (length (flat_in outer) ∷ [])))
 
-        go : (c : Context) → IsUnfinished c → 0 < length (open_in c) → Holds (closed c place) next [] → IsShallow (nesting_limit - n) (closed c place) → xs ≡ spelled_in (closed c place) ++ lexemes_from text after → BeginsWith text n xs next end
+        go : (c : Context) → IsUnfinished c → 0 < length (open_in c) → HoldsContext (closed c place) next [] → IsShallow (nesting_limit - n) (closed c place) → xs ≡ spelled_in (closed c place) ++ lexemes_from text after → BeginsWith text n xs next end
         go (top rows) u k g s read = absurd (omega arith)
         go (inside outer b rows) u k g s read =
             let t = list b rows place in

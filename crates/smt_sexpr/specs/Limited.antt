@@ -12,7 +12,7 @@ use Rattle.smt_sexpr.specs.declared.limited.LimitedText.{LimitedText}
 use Rattle.smt_sexpr.specs.declared.reader.Next.{Next}
 use Rattle.smt_sexpr.specs.declared.reader.Next.TheVariants as next
 use Rattle.smt_sexpr.specs.declared.sexpr.Sexpr.{Sexpr}
-use Rattle.smt_sexpr.specs.Reads.{Reads, Closes}
+use Rattle.smt_sexpr.specs.Reads.{ReadsSexpr, Closes}
 
 -- the whole text
 abbrev pub whole_of : LimitedText → List ℕ
@@ -44,7 +44,7 @@ pub record IsStopped (text : List ℕ) (n : ℕ) (xs : List (ℕ × Lexeme)) (r 
 
 -- an s-expression, or the end of the innermost open list, or the end of the whole text, or a fault of it
 abbrev pub ReadsNextOf : List ℕ → Place → ℕ → Result Next Refused → Type 0
-ReadsNextOf text from n (Ok (next.One s after)) = Reads (kept text) from n s after
+ReadsNextOf text from n (Ok (next.One s after)) = ReadsSexpr (kept text) from n s after
 ReadsNextOf text from n (Ok (next.Close after)) = Closes (kept text) from n after
 ReadsNextOf text from n (Ok next.End) = (n ≡ 0) × (lexemes_from (kept text) from.offset ≡ []) × (is_long text ≡ false)
 ReadsNextOf text from n (Err (refused.Fault r)) = IsStopped text n (lexemes_from (kept text) from.offset) r
@@ -52,7 +52,7 @@ ReadsNextOf text from n (Err refused.Memory) = Unit {0}
 
 -- the same where no list is open
 abbrev pub ReadsOneOf : List ℕ → Place → Result (Option (Sexpr × Place)) Refused → Type 0
-ReadsOneOf text from (Ok (Some x)) = Reads (kept text) from 0 x.0 x.1
+ReadsOneOf text from (Ok (Some x)) = ReadsSexpr (kept text) from 0 x.0 x.1
 ReadsOneOf text from (Ok None) = (lexemes_from (kept text) from.offset ≡ []) × (is_long text ≡ false)
 ReadsOneOf text from (Err (refused.Fault r)) = IsStopped text 0 (lexemes_from (kept text) from.offset) r
 ReadsOneOf text from (Err refused.Memory) = Unit {0}

@@ -48,7 +48,7 @@ IsUnfinished (top (more t ts)) = ⊥
 IsUnfinished (inside outer at rows) = IsUnfinished outer
 
 -- items and open places are those of the context
-pub record Holds (context : Context) (its : List Item) (open_at : List ℕ) : Type 0 where
+pub record HoldsContext (context : Context) (its : List Item) (open_at : List ℕ) : Type 0 where
   -- the items are the context's
   pub items_are : its ≡ flat_in context
   -- and so are the places of the open lists' items

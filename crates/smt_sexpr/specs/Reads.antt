@@ -35,7 +35,7 @@ pub record IsFirst (text : List ℕ) (n : ℕ) (xs : List (ℕ × Lexeme)) (s : 
   pub place : IsPlaceOf text after
 
 -- in n open lists an s-expression stands from a place on up to another
-pub record Reads (text : List ℕ) (from : Place) (n : ℕ) (s : Sexpr) (after : Place) : Type 0 where
+pub record ReadsSexpr (text : List ℕ) (from : Place) (n : ℕ) (s : Sexpr) (after : Place) : Type 0 where
   -- its tree is the first from there on
   pub is : IsFirst text n (lexemes_from text from.offset) s after
   -- it has one byte at least
@@ -62,7 +62,7 @@ Breaks text n xs r = IsBroken (length text) n xs (record { offset = r.place.offs
 
 -- an s-expression, or the end of the innermost open list, or nothing but white space and comments, or a fault
 abbrev pub ReadsNext : List ℕ → Place → ℕ → Result Next Refused → Type 0
-ReadsNext text from n (Ok (next.One s after)) = Reads text from n s after
+ReadsNext text from n (Ok (next.One s after)) = ReadsSexpr text from n s after
 ReadsNext text from n (Ok (next.Close after)) = Closes text from n after
 ReadsNext text from n (Ok next.End) = (n ≡ 0) × (lexemes_from text from.offset ≡ [])
 ReadsNext text from n (Err (refused.Fault r)) = Breaks text n (lexemes_from text from.offset) r

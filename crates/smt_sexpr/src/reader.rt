@@ -6,7 +6,7 @@ ghost use Rattle.spec_text.specs.Trees.{atom};
 ghost use Rattle.spec_text.specs.Faults.{nesting_limit};
 ghost use Rattle.smt_sexpr.specs.Means.{flat};
 ghost use Rattle.smt_sexpr.specs.declared.items.Item.TheVariants as item;
-ghost use Rattle.smt_sexpr.specs.Open.{Context, closed, Holds};
+ghost use Rattle.smt_sexpr.specs.Open.{Context, closed, HoldsContext};
 ghost use Rattle.smt_sexpr.specs.Reads.{ReadsNext, ReadsList};
 ghost use Rattle.smt_lexer.specs.declared.Refused.TheVariants as refused;
 
@@ -54,8 +54,8 @@ fn begin_list(items: &mut Vec<Item>, at: u64) -> Result<usize, AllocError>
 fn end_list(items: &mut Vec<Item>, index: usize, end: u64)
     requires end { end < 2 ^ 32 }
     requires few { length items.old.items < 2 ^ 32 }
-    ensures ended { (context : Context) (open_at : List ℕ) → Holds context items.old.items (open_at ++ index ∷ [])
-        → Holds (closed context end) items.new.items open_at }
+    ensures ended { (context : Context) (open_at : List ℕ) → HoldsContext context items.old.items (open_at ++ index ∷ [])
+        → HoldsContext (closed context end) items.new.items open_at }
     ensures count { length items.new.items ≡ length items.old.items }
 {
     if index < items.len() {

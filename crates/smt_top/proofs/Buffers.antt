@@ -16,7 +16,7 @@ use Rattle.smt_session.specs.Runs.{Delivered}
 use Rattle.smt_session.proofs.Delivering.{flushed, not_flushed}
 use Rattle.smt_top.specs.Arguments.{Asked, runs, checks, limits_by}
 use Rattle.smt_top.specs.Output.{longest_line}
-use Rattle.smt_top.specs.Ends.{Holdings, Ends, IsUnread, is_answered}
+use Rattle.smt_top.specs.Ends.{Holdings, RunMeans, IsUnread, is_answered}
 
 -- a whole transcript is one that was begun
 whole_is_begun : (limits : Limits) (mode : Mode) (text : List ℕ) (refused : Bool) (P Q : List ℕ → Type 0) → ((all : List ℕ) → P all → Q all) → OnTranscript limits mode text refused P → OnBegun limits mode text Q
@@ -32,7 +32,7 @@ module _ (holds : Holdings) (old mid new : SinkView) where
     kept_all x d = record { sent = flushed x old mid new d.sent f; passed_on = λ e. f.emptied }
 
     -- what waited was passed on, and nothing else is changed
-    pub ends_kept : (status : Status) (asked : Option Asked) → is_answered status ≡ true → Ends status asked holds old mid → Ends status asked holds old new
+    pub ends_kept : (status : Status) (asked : Option Asked) → is_answered status ≡ true → RunMeans status asked holds old mid → RunMeans status asked holds old new
     ends_kept Done None e r = absurd r
     ends_kept Done (Some (checks n)) e (script, proof, s, p, (valid, w)) = (script, proof, s, p, (valid, kept _ w))
     ends_kept Done (Some (runs mode name budgets)) e (text, held, (all, t, say, w)) = (text, held, (all, t, say, kept_all all w))
@@ -56,7 +56,7 @@ module _ (holds : Holdings) (old mid new : SinkView) where
     no_room n x s l room = f.room (room_for_less mid (n - length x) 0 (omega arith) (s.room n room l))
 
     -- what waited could not be passed on
-    pub ends_cut : (status : Status) (asked : Option Asked) → is_answered status ≡ true → Ends status asked holds old mid → Ends WriteFault asked holds old new
+    pub ends_cut : (status : Status) (asked : Option Asked) → is_answered status ≡ true → RunMeans status asked holds old mid → RunMeans WriteFault asked holds old new
     ends_cut Done None e r = absurd r
     ends_cut Done (Some (checks n)) e (script, proof, s, p, (valid, w)) = ((script, proof, s, p, (None, valid.verdict, cut _ w.0)), no_room longest_line _ w.0 (omega arith))
     ends_cut Done (Some (runs mode name budgets)) e (text, held, t) = (text, held, whole_is_begun (limits_by budgets) mode text false _ _ (λ all d. cut all d.sent) t)

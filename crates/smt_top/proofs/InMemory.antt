@@ -7,10 +7,10 @@ use Rattle.world_io.specs.Outside.{Rose}
 use Rattle.world_io.specs.Writing.{SinkView, IsRoomFor, HasRoom, Sent, NotSent}
 use Rattle.smt_session.specs.declared.status.Status.{Status}
 use Rattle.smt_session.specs.declared.status.Status.TheVariants.{Done, Refused, Words, Memory, ReadFault, WriteFault}
-use Rattle.smt_top.specs.Arguments.{Names, Asked, runs, checks, limits_by}
+use Rattle.smt_top.specs.Arguments.{ProofNames, Asked, runs, checks, limits_by}
 use Rattle.smt_top.specs.Output.{longest_line}
-use Rattle.smt_top.specs.Ends.{Holdings, ScriptRun, CheckEnds, ScriptEnds, Ends, AreHeld, BothHold, IsUnread}
-use Rattle.smt_top.specs.InMemory.{Grows, LacksRoom, GrowsByPrefix, CheckEndsInMemory, ScriptEndsInMemory, UsageEndsInMemory, EndsInMemory}
+use Rattle.smt_top.specs.Ends.{Holdings, ScriptRun, CheckMeans, ScriptMeans, RunMeans, AreHeld, BothHold, IsUnread}
+use Rattle.smt_top.specs.InMemory.{WritesBytes, LacksRoom, GrowsByPrefix, CheckEndsInMemory, ScriptEndsInMemory, UsageEndsInMemory, EndsInMemory}
 
 -- a text that is known, and is this one
 known_is : (o : Option (List ℕ)) (text : List ℕ) → IsSome o → IfSome o (λ t. t ≡ text) → o ≡ Some text
@@ -39,13 +39,13 @@ module _ (texts : List Text) (old new : SinkState) where
   lacks_room : (n : ℕ) → (HasRoom before n → ⊥) → LacksRoom old n
   lacks_room n h = lacks old.failing old.most old.room n h
 
-  grows : (x : List ℕ) → Sent x before after → Grows old new x
+  grows : (x : List ℕ) → Sent x before after → WritesBytes old new x
   grows x s = s.appended
 
   cut : (x : List ℕ) → NotSent x before after → GrowsByPrefix old new x
   cut x s = (s.prefix, lacks_room (length x) s.room)
 
-  usage_ends : (status : Status) → CheckEnds status None (text_named texts) before after → UsageEndsInMemory status old new
+  usage_ends : (status : Status) → CheckMeans status None (text_named texts) before after → UsageEndsInMemory status old new
   usage_ends Done h = h
   usage_ends Refused h = h
   usage_ends Words h = grows _ h.1.0
@@ -53,7 +53,7 @@ module _ (texts : List Text) (old new : SinkState) where
   usage_ends ReadFault h = absurd (false≢true h.0)
   usage_ends WriteFault h = (cut _ h.0, lacks_room longest_line h.1)
 
-  checked : (status : Status) (n : Names) → CheckEnds status (Some n) (text_named texts) before after
+  checked : (status : Status) (n : ProofNames) → CheckMeans status (Some n) (text_named texts) before after
       → BothHold (Some n) (text_named texts) ⊎ IsUnread status before after → CheckEndsInMemory status n texts old new
   checked Done n (script, proof, s, p, (valid, w)) (inl held) = (script, proof, known_is _ script held.0 s, known_is _ proof held.1 p, (valid, grows _ w.0))
   checked Done n h (inr (inl e, same)) = cc
@@ -69,7 +69,7 @@ module _ (texts : List Text) (old new : SinkState) where
   checked WriteFault n h (inr (inl e, same)) = cc
   checked WriteFault n h (inr (inr e, same)) = cc
 
-  ran : (status : Status) (r : ScriptRun) → ScriptEnds status r (text_named texts) before after
+  ran : (status : Status) (r : ScriptRun) → ScriptMeans status r (text_named texts) before after
       → IsSome (text_named texts r.name) ⊎ IsUnread status before after → ScriptEndsInMemory status r texts old new
   ran Done r (text, e, (all, t, say, d)) (inl held) = (text, known_is _ text held e, (all, t, say, grows all d.sent))
   ran Done r h (inr (inl e, same)) = cc
@@ -86,14 +86,14 @@ module _ (texts : List Text) (old new : SinkState) where
   ran WriteFault r h (inr (inl e, same)) = cc
   ran WriteFault r h (inr (inr e, same)) = cc
 
-  pub ends_in_memory : (status : Status) (asked : Option Asked) → Ends status asked (text_named texts) before after
+  pub ends_in_memory : (status : Status) (asked : Option Asked) → RunMeans status asked (text_named texts) before after
       → AreHeld asked (text_named texts) ⊎ IsUnread status before after → EndsInMemory status asked texts old new
   ends_in_memory status None h found = usage_ends status h
   ends_in_memory status (Some (checks n)) h found = checked status n h found
   ends_in_memory status (Some (runs mode name budgets)) h found = ran status (record { mode = mode; name = name; limits = limits_by budgets }) h found
 
 -- where the sink failed, its count of faults rose
-pub fault_counted : (asked : Option Asked) (holds : Holdings) (old new : SinkView) → Ends WriteFault asked holds old new → Rose old.faults new.faults
+pub fault_counted : (asked : Option Asked) (holds : Holdings) (old new : SinkView) → RunMeans WriteFault asked holds old new → Rose old.faults new.faults
 fault_counted None holds old new h = h.0.failed
 fault_counted (Some (checks n)) holds old new ((script, proof, s, p, (found, v, w)), room) = w.failed
 fault_counted (Some (runs mode name budgets)) holds old new (text, e, (begun, t, say, d)) = d.failed

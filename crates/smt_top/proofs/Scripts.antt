@@ -10,7 +10,7 @@ use Rattle.smt_session.specs.declared.status.Status.TheVariants.{Done, Refused, 
 use Rattle.spec_sessions.specs.Statements.{OnTranscript, OnBegun}
 use Rattle.smt_session.specs.Runs.{EndsText}
 use Rattle.smt_session.proofs.Saying.{WholeSays, BegunSays}
-use Rattle.smt_top.specs.Ends.{Holdings, ScriptEnds}
+use Rattle.smt_top.specs.Ends.{Holdings, ScriptMeans}
 
 -- that a transcript needs a prefix of the text alone, whole and cut short
 abbrev pub WholePrefix : Type 0
@@ -31,7 +31,7 @@ module _ (whole_front : WholePrefix) (begun_front : BegunPrefix) (whole_says : W
       (begun, w, begun_says limits mode text begun w, p)
 
   -- the name's text is known, and its prefix was run
-  pub script_ends : (status : Status) (name : List ℕ) (holds : Holdings) (old new : SinkView) → IfSome (holds name) (λ t. t ≡ text) → EndsText limits mode (prefix text) status old new → ScriptEnds status (record { mode = mode; name = name; limits = limits }) holds old new
+  pub script_ends : (status : Status) (name : List ℕ) (holds : Holdings) (old new : SinkView) → IfSome (holds name) (λ t. t ≡ text) → EndsText limits mode (prefix text) status old new → ScriptMeans status (record { mode = mode; name = name; limits = limits }) holds old new
   script_ends Done name holds old new held r = (text, held, on_transcript _ _ r)
   script_ends Refused name holds old new held r = (text, held, on_transcript _ _ r)
   script_ends Words name holds old new held r = absurd r

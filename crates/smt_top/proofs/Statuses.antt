@@ -3,13 +3,13 @@ use Rattle.std.proofs.Common.{◌≡◌, ℕ, List, Some, IfSome}
 use Rattle.world_io.specs.Writing.{SinkView}
 use Rattle.smt_session.specs.declared.status.Status.{Status}
 use Rattle.smt_session.specs.declared.status.Status.TheVariants.{Done, Refused, Words, Memory, ReadFault, WriteFault}
-use Rattle.smt_top.specs.Arguments.{Names}
-use Rattle.smt_top.specs.Ends.{Holdings, CheckEnds}
+use Rattle.smt_top.specs.Arguments.{ProofNames}
+use Rattle.smt_top.specs.Ends.{Holdings, CheckMeans}
 use Rattle.smt_top.specs.Calls.{Reports}
 
 -- the names are known, and the texts are those that they hold
-pub ends_with : (status : Status) (n : Names) (holds : Holdings) (old new : SinkView) (script proof : List ℕ) → IfSome (holds n.script) (λ t. t ≡ script) → IfSome (holds n.proof) (λ t. t ≡ proof)
-    → Reports status script n.at proof old new → CheckEnds status (Some n) holds old new
+pub ends_with : (status : Status) (n : ProofNames) (holds : Holdings) (old new : SinkView) (script proof : List ℕ) → IfSome (holds n.script) (λ t. t ≡ script) → IfSome (holds n.proof) (λ t. t ≡ proof)
+    → Reports status script n.at proof old new → CheckMeans status (Some n) holds old new
 ends_with Done n holds old new script proof s p r = (script, proof, s, p, r)
 ends_with Refused n holds old new script proof s p r = (script, proof, s, p, r)
 ends_with Words n holds old new script proof s p r = absurd r

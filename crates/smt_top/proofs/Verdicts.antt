@@ -10,9 +10,9 @@ use Rattle.spec_proofs.specs.Faults.{Fault}
 use Rattle.spec_checking.specs.Accepted.{IsAccepted, IsVerdict}
 use Rattle.alethe_reader.specs.declared.errors.ProofStop.{ProofStop}
 use Rattle.alethe_reader.specs.declared.errors.ProofStop.TheVariants as stops
-use Rattle.alethe_check.specs.Verdicts.{Answers, fault_view}
+use Rattle.alethe_check.specs.Verdicts.{AnswersVerdict, fault_view}
 use Rattle.smt_top.specs.Ends.{IsValid}
-use Rattle.smt_top.specs.Calls.{Judges}
+use Rattle.smt_top.specs.Calls.{JudgesProof}
 
 -- that a verdict needs the prefixes alone, that without a fault the proof is accepted, and that nothing is then true
 abbrev pub PrefixLaw : Type 0
@@ -46,13 +46,13 @@ valid_by fronts accepts sound script proof at h =
     let accepted = (accepts script proof at).0 verdict in
     record { verdict = verdict; accepted = accepted; no_model = sound script proof at accepted }
 
-fault_by : PrefixLaw → (script proof : List ℕ) (at : ℕ) (stop : ProofStop) → Answers (prefix script) at (prefix proof) (Err stop) → Answers script at proof (Err stop)
+fault_by : PrefixLaw → (script proof : List ℕ) (at : ℕ) (stop : ProofStop) → AnswersVerdict (prefix script) at (prefix proof) (Err stop) → AnswersVerdict script at proof (Err stop)
 fault_by fronts script proof at (stops.Fault f) h = (fronts script proof at (Some (fault_view f)) h.0, place_in_text (text_limit + 1) proof f.place h.1)
 fault_by fronts script proof at stops.Memory h = tt
 
-pub judged_by : PrefixLaw → AcceptedLaw → SoundLaw → (at : ℕ) (a b : List ℕ) (r : Result (Unit {0}) ProofStop) → Answers a at b r → (script proof : List ℕ) → a ≡ prefix script → b ≡ prefix proof → Judges script at proof r
-judged_by fronts accepts sound at a b r h script proof e f = go r (subst (λ (x : List ℕ). Answers (prefix script) at x r) f (subst (λ (x : List ℕ). Answers x at b r) e h))
+pub judged_by : PrefixLaw → AcceptedLaw → SoundLaw → (at : ℕ) (a b : List ℕ) (r : Result (Unit {0}) ProofStop) → AnswersVerdict a at b r → (script proof : List ℕ) → a ≡ prefix script → b ≡ prefix proof → JudgesProof script at proof r
+judged_by fronts accepts sound at a b r h script proof e f = go r (subst (λ (x : List ℕ). AnswersVerdict (prefix script) at x r) f (subst (λ (x : List ℕ). AnswersVerdict x at b r) e h))
   where
-    go : (r : Result (Unit {0}) ProofStop) → Answers (prefix script) at (prefix proof) r → Judges script at proof r
+    go : (r : Result (Unit {0}) ProofStop) → AnswersVerdict (prefix script) at (prefix proof) r → JudgesProof script at proof r
     go (Ok u) h = valid_by fronts accepts sound script proof at h
     go (Err stop) h = fault_by fronts script proof at stop h

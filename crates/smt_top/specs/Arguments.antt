@@ -9,7 +9,7 @@ use Rattle.spec_sessions.specs.Evidence.{Limits}
 use Rattle.spec_sessions.specs.Responses.{Mode, solve, certify}
 
 -- The names of a script and of a proof, and the check that is meant.
-pub record Names : Type 0 where
+pub record ProofNames : Type 0 where
   -- the script's name
   pub script : List ℕ
   -- the proof's name
@@ -33,7 +33,7 @@ pub data Asked : Type 0 where
   -- a script is to be run: how much is written, its name, and what each search of a check may spend
   runs : Mode → List ℕ → Budgets → Asked
   -- a proof is to be judged against a script
-  checks : Names → Asked
+  checks : ProofNames → Asked
 
 -- an option of this name, with any word as its value
 abbrev pub option_named : Text → Rule
@@ -107,12 +107,12 @@ abbrev pub run_in : Mode → List Row → Option Asked
 run_in mode rows = option_map (runs mode (unwrap_or (first_of (codes "name") rows) [])) (budgets_in rows)
 
 -- all three are there
-abbrev pub all_three : Option Text → Option Text → Option ℕ → Option Names
+abbrev pub all_three : Option Text → Option Text → Option ℕ → Option ProofNames
 all_three (Some script) (Some proof) (Some at) = Some (record { script = script; proof = proof; at = at })
 all_three _ _ _ = None
 
 -- the values of `script`, `proof` and `at` of a command's matches
-abbrev pub names_in : List Row → Option Names
+abbrev pub names_in : List Row → Option ProofNames
 names_in rows = all_three (first_of (codes "script") rows) (first_of (codes "proof") rows) (number_or 1 (first_of (codes "at") rows))
 
 -- what a command asks for, by its name and its matches

@@ -4,7 +4,7 @@ use Rattle.world_io.specs.Writing.{SinkView, HasRoom, NotSent}
 use Rattle.spec_proofs.specs.Faults.{Fault}
 use Rattle.spec_checking.specs.Accepted.{IsVerdict}
 use Rattle.alethe_reader.specs.declared.errors.ProofStop.{ProofStop}
-use Rattle.alethe_check.specs.Verdicts.{Answers}
+use Rattle.alethe_check.specs.Verdicts.{AnswersVerdict}
 use Rattle.smt_session.specs.declared.status.Status.{Status}
 use Rattle.smt_session.specs.declared.status.Status.TheVariants.{Done, Refused, Memory, WriteFault}
 use Rattle.smt_session.specs.Sessions.{mode_meant, Delivers}
@@ -15,13 +15,13 @@ use Rattle.smt_top.specs.declared.arguments.Request.TheVariants as request
 use Rattle.smt_top.specs.declared.arguments.ArgumentsStop.{ArgumentsStop}
 use Rattle.smt_top.specs.declared.arguments.ArgumentsStop.TheVariants as stop
 use Rattle.smt_top.specs.Ends.{IsValid, IsRefused, ScriptRun}
-use Rattle.smt_top.specs.Arguments.{Names, Budgets, Asked, runs, checks, limits_by}
+use Rattle.smt_top.specs.Arguments.{ProofNames, Budgets, Asked, runs, checks, limits_by}
 use Rattle.smt_top.specs.Output.{valid, output_of, longest_line}
 
 -- what was judged of a proof of a check of a script, and for an accepted one that nothing makes true what is asserted there
-abbrev pub Judges : List ℕ → ℕ → List ℕ → Result (Unit {0}) ProofStop → Type 0
-Judges script at proof (Ok u) = IsValid script at proof
-Judges script at proof (Err stop) = Answers script at proof (Err stop)
+abbrev pub JudgesProof : List ℕ → ℕ → List ℕ → Result (Unit {0}) ProofStop → Type 0
+JudgesProof script at proof (Ok u) = IsValid script at proof
+JudgesProof script at proof (Err stop) = AnswersVerdict script at proof (Err stop)
 
 -- what is written for the texts, by how that ends
 abbrev pub Reports : Status → List ℕ → ℕ → List ℕ → SinkView → SinkView → Type 0
@@ -33,7 +33,7 @@ Reports WriteFault script at proof old new =
 Reports _ script at proof old new = ⊥
 
 -- the texts that a request to judge a proof names
-abbrev pub names_of : CheckRequest → Names
+abbrev pub names_of : CheckRequest → ProofNames
 names_of r = record { script = r.names.script.now; proof = r.names.proof.now; at = r.at }
 
 -- what each search of a check may spend, by a request

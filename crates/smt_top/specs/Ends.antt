@@ -13,7 +13,7 @@ use Rattle.spec_sessions.specs.Responses.{Mode}
 use Rattle.smt_session.specs.Sessions.{Delivers}
 use Rattle.spec_sessions.specs.Statements.{OnTranscript, OnBegun}
 use Rattle.smt_session.specs.Runs.{Delivered}
-use Rattle.smt_top.specs.Arguments.{Names, Asked, runs, checks, limits_by}
+use Rattle.smt_top.specs.Arguments.{ProofNames, Asked, runs, checks, limits_by}
 use Rattle.smt_top.specs.Output.{usage, valid, error_line, output_of, longest_line}
 
 -- what each name holds, where that is known
@@ -36,14 +36,14 @@ pub record IsValid (script : List ℕ) (at : ℕ) (proof : List ℕ) : Type 0 wh
 
 -- the arguments are accepted, and P is true of the check that is meant, and of a script and a proof that are those of the two names,
 -- where these are known
-abbrev pub OnTexts : Option Names → Holdings → (List ℕ → ℕ → List ℕ → Type 0) → Type 0
+abbrev pub OnTexts : Option ProofNames → Holdings → (List ℕ → ℕ → List ℕ → Type 0) → Type 0
 OnTexts None holds P = ⊥
 OnTexts (Some n) holds P =
     (script : List ℕ) × (proof : List ℕ)
     × IfSome (holds n.script) (λ t. t ≡ script) × IfSome (holds n.proof) (λ t. t ≡ proof) × P script n.at proof
 
 -- both names hold a text, where the arguments are accepted
-abbrev pub BothHold : Option Names → Holdings → Type 0
+abbrev pub BothHold : Option ProofNames → Holdings → Type 0
 BothHold None holds = ⊤
 BothHold (Some n) holds = IsSome (holds n.script) × IsSome (holds n.proof)
 
@@ -58,12 +58,12 @@ TakesText (Some old) None = ⊥
 TakesText (Some old) (Some new) = (taken : List ℕ) × (old ≡ taken ++ new) × (length taken ≤ most_taken)
 
 -- the proof was read last: what is left on the shelf is what is left of it, where that is known
-abbrev pub ProofIsLast : Option Names → Holdings → Option (List ℕ) → Type 0
+abbrev pub ProofIsLast : Option ProofNames → Holdings → Option (List ℕ) → Type 0
 ProofIsLast None holds left = ⊤
 ProofIsLast (Some n) holds left = TakesText (holds n.proof) left
 
 -- a prefix of a right output was written, for which the sink had no room as a whole: of the usage text, or of a verdict on the texts
-abbrev pub WritesPrefix : Option Names → Holdings → SinkView → SinkView → Type 0
+abbrev pub WritesPrefix : Option ProofNames → Holdings → SinkView → SinkView → Type 0
 WritesPrefix None holds old new = NotSent usage old new
 WritesPrefix (Some n) holds old new =
     OnTexts (Some n) holds (λ script at proof. (found : Option Fault) × IsVerdict script at proof found × NotSent (output_of proof found) old new)
@@ -79,13 +79,13 @@ pub record IsRefused (script : List ℕ) (at : ℕ) (proof : List ℕ) (f : Faul
 
 -- how a run that judges a proof ends, by its status; or one of which the arguments are not accepted. The sink fails only where it has
 -- no room for the longest line
-abbrev pub CheckEnds : Status → Option Names → Holdings → SinkView → SinkView → Type 0
-CheckEnds Done names holds old new = OnTexts names holds (λ script at proof. IsValid script at proof × Delivers valid (Ok tt) old new)
-CheckEnds Refused names holds old new = OnTexts names holds (λ script at proof. (f : Fault) × IsRefused script at proof f old new)
-CheckEnds Words names holds old new = (names ≡ None) × Delivers usage (Ok tt) old new
-CheckEnds Memory names holds old new = new ≡ old
-CheckEnds ReadFault names holds old new = IsSome names × (new ≡ old)
-CheckEnds WriteFault names holds old new = WritesPrefix names holds old new × (HasRoom old longest_line → ⊥)
+abbrev pub CheckMeans : Status → Option ProofNames → Holdings → SinkView → SinkView → Type 0
+CheckMeans Done names holds old new = OnTexts names holds (λ script at proof. IsValid script at proof × Delivers valid (Ok tt) old new)
+CheckMeans Refused names holds old new = OnTexts names holds (λ script at proof. (f : Fault) × IsRefused script at proof f old new)
+CheckMeans Words names holds old new = (names ≡ None) × Delivers usage (Ok tt) old new
+CheckMeans Memory names holds old new = new ≡ old
+CheckMeans ReadFault names holds old new = IsSome names × (new ≡ old)
+CheckMeans WriteFault names holds old new = WritesPrefix names holds old new × (HasRoom old longest_line → ⊥)
 
 -- P is true of a text that is the name's, where that is known
 abbrev pub OnText : List ℕ → Holdings → (List ℕ → Type 0) → Type 0
@@ -104,14 +104,14 @@ pub record ScriptRun : Type 0 where
 -- were run, where memory ran out; or a prefix of that, where the sink failed and had no room for all of it; where memory ran out or the
 -- shelf failed before the text was read, nothing was. What the answers say is so: the limits of a run have the limit on terms under
 -- which proofs are checked
-abbrev pub ScriptEnds : Status → ScriptRun → Holdings → SinkView → SinkView → Type 0
-ScriptEnds Done r holds old new = OnText r.name holds (λ text. OnTranscript r.limits r.mode text false (λ all. Delivered all old new))
-ScriptEnds Refused r holds old new = OnText r.name holds (λ text. OnTranscript r.limits r.mode text true (λ all. Delivered all old new))
-ScriptEnds Words r holds old new = ⊥
-ScriptEnds Memory r holds old new =
+abbrev pub ScriptMeans : Status → ScriptRun → Holdings → SinkView → SinkView → Type 0
+ScriptMeans Done r holds old new = OnText r.name holds (λ text. OnTranscript r.limits r.mode text false (λ all. Delivered all old new))
+ScriptMeans Refused r holds old new = OnText r.name holds (λ text. OnTranscript r.limits r.mode text true (λ all. Delivered all old new))
+ScriptMeans Words r holds old new = ⊥
+ScriptMeans Memory r holds old new =
     OnText r.name holds (λ text. OnBegun r.limits r.mode text (λ begun. Delivered begun old new)) ⊎ (new ≡ old)
-ScriptEnds ReadFault r holds old new = new ≡ old
-ScriptEnds WriteFault r holds old new = OnText r.name holds (λ text. OnBegun r.limits r.mode text (λ begun. NotSent begun old new))
+ScriptMeans ReadFault r holds old new = new ≡ old
+ScriptMeans WriteFault r holds old new = OnText r.name holds (λ text. OnBegun r.limits r.mode text (λ begun. NotSent begun old new))
 
 -- all that was to be written was written
 abbrev pub is_answered : Status → Bool
@@ -121,11 +121,11 @@ is_answered Words = true
 is_answered _ = false
 
 -- how a run ends, by what its arguments ask for and its status
-abbrev pub Ends : Status → Option Asked → Holdings → SinkView → SinkView → Type 0
-Ends status None holds old new = CheckEnds status None holds old new
-Ends status (Some (checks n)) holds old new = CheckEnds status (Some n) holds old new
-Ends status (Some (runs mode name budgets)) holds old new =
-    ScriptEnds status (record { mode = mode; name = name; limits = limits_by budgets }) holds old new
+abbrev pub RunMeans : Status → Option Asked → Holdings → SinkView → SinkView → Type 0
+RunMeans status None holds old new = CheckMeans status None holds old new
+RunMeans status (Some (checks n)) holds old new = CheckMeans status (Some n) holds old new
+RunMeans status (Some (runs mode name budgets)) holds old new =
+    ScriptMeans status (record { mode = mode; name = name; limits = limits_by budgets }) holds old new
 
 -- the texts that are asked for are held
 abbrev pub AreHeld : Option Asked → Holdings → Type 0

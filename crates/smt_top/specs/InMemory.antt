@@ -6,18 +6,18 @@ use Rattle.spec_checking.specs.Accepted.{IsVerdict}
 use Rattle.smt_session.specs.declared.status.Status.{Status}
 use Rattle.smt_session.specs.declared.status.Status.TheVariants.{Done, Refused, Words, Memory, ReadFault, WriteFault}
 use Rattle.spec_sessions.specs.Statements.{OnTranscript, OnBegun}
-use Rattle.smt_top.specs.Arguments.{Names, Asked, runs, checks, limits_by}
+use Rattle.smt_top.specs.Arguments.{ProofNames, Asked, runs, checks, limits_by}
 use Rattle.smt_top.specs.Ends.{IsValid, ScriptRun}
 use Rattle.smt_top.specs.Output.{usage, valid, error_line, output_of, longest_line}
 
 -- both names have texts, and P is true of these and of the check that is meant
-abbrev pub OnNamed : Names → List Text → (List ℕ → ℕ → List ℕ → Type 0) → Type 0
+abbrev pub OnNamed : ProofNames → List Text → (List ℕ → ℕ → List ℕ → Type 0) → Type 0
 OnNamed n texts P =
     (script : List ℕ) × (proof : List ℕ) × (text_named texts n.script ≡ Some script) × (text_named texts n.proof ≡ Some proof) × P script n.at proof
 
 -- the bytes were written
-abbrev pub Grows : SinkState → SinkState → List ℕ → Type 0
-Grows old new bytes = new.written ≡ old.written ++ bytes
+abbrev pub WritesBytes : SinkState → SinkState → List ℕ → Type 0
+WritesBytes old new bytes = new.written ≡ old.written ++ bytes
 
 -- a sink of which no write is to fail has no room for so many bytes
 abbrev pub LacksRoom : SinkState → ℕ → Type 0
@@ -28,10 +28,10 @@ abbrev pub GrowsByPrefix : SinkState → SinkState → List ℕ → Type 0
 GrowsByPrefix old new bytes = ((n : ℕ) × (n ≤ length bytes) × (new.written ≡ old.written ++ take n bytes)) × LacksRoom old (length bytes)
 
 -- how a run that judges a proof ends, by its status
-abbrev pub CheckEndsInMemory : Status → Names → List Text → SinkState → SinkState → Type 0
-CheckEndsInMemory Done n texts old new = OnNamed n texts (λ script at proof. IsValid script at proof × Grows old new valid)
+abbrev pub CheckEndsInMemory : Status → ProofNames → List Text → SinkState → SinkState → Type 0
+CheckEndsInMemory Done n texts old new = OnNamed n texts (λ script at proof. IsValid script at proof × WritesBytes old new valid)
 CheckEndsInMemory Refused n texts old new =
-    OnNamed n texts (λ script at proof. (f : Fault) × IsVerdict script at proof (Some f) × Grows old new (error_line proof f))
+    OnNamed n texts (λ script at proof. (f : Fault) × IsVerdict script at proof (Some f) × WritesBytes old new (error_line proof f))
 CheckEndsInMemory Words n texts old new = ⊥
 CheckEndsInMemory Memory n texts old new = new.written ≡ old.written
 CheckEndsInMemory ReadFault n texts old new = new.written ≡ old.written
@@ -45,17 +45,17 @@ OnScript name texts P = (text : List ℕ) × (text_named texts name ≡ Some tex
 
 -- how the run of a script ends, by its status
 abbrev pub ScriptEndsInMemory : Status → ScriptRun → List Text → SinkState → SinkState → Type 0
-ScriptEndsInMemory Done r texts old new = OnScript r.name texts (λ text. OnTranscript r.limits r.mode text false (Grows old new))
-ScriptEndsInMemory Refused r texts old new = OnScript r.name texts (λ text. OnTranscript r.limits r.mode text true (Grows old new))
+ScriptEndsInMemory Done r texts old new = OnScript r.name texts (λ text. OnTranscript r.limits r.mode text false (WritesBytes old new))
+ScriptEndsInMemory Refused r texts old new = OnScript r.name texts (λ text. OnTranscript r.limits r.mode text true (WritesBytes old new))
 ScriptEndsInMemory Words r texts old new = ⊥
 ScriptEndsInMemory Memory r texts old new =
-    OnScript r.name texts (λ text. OnBegun r.limits r.mode text (Grows old new)) ⊎ (new.written ≡ old.written)
+    OnScript r.name texts (λ text. OnBegun r.limits r.mode text (WritesBytes old new)) ⊎ (new.written ≡ old.written)
 ScriptEndsInMemory ReadFault r texts old new = new.written ≡ old.written
 ScriptEndsInMemory WriteFault r texts old new = OnScript r.name texts (λ text. OnBegun r.limits r.mode text (GrowsByPrefix old new))
 
 -- how a run whose arguments are not accepted ends, by its status
 abbrev pub UsageEndsInMemory : Status → SinkState → SinkState → Type 0
-UsageEndsInMemory Words old new = Grows old new usage
+UsageEndsInMemory Words old new = WritesBytes old new usage
 UsageEndsInMemory Memory old new = new.written ≡ old.written
 UsageEndsInMemory WriteFault old new = GrowsByPrefix old new usage × LacksRoom old longest_line
 UsageEndsInMemory _ old new = ⊥

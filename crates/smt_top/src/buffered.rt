@@ -3,7 +3,7 @@
 ghost use Rattle.std.specs.Prelude.{◌≡◌, ◌≢◌, ◌≤◌, ◌⊎◌, ℕ, List, [], None, IsSome};
 ghost use Rattle.world_io.specs.Outside.{Rose};
 ghost use Rattle.smt_top.specs.Arguments.{asked};
-ghost use Rattle.smt_top.specs.Ends.{Ends, AreHeld, LastIsRead, IsUnread, is_answered, through};
+ghost use Rattle.smt_top.specs.Ends.{RunMeans, AreHeld, LastIsRead, IsUnread, is_answered, through};
 
 use crate::run;
 use smt_session::Status;
@@ -20,7 +20,7 @@ pub fn run_buffered<F: Shelf, K: Sink + Drop>(
     shelf: &mut F,
     out: &mut BufferedSink<K>,
 ) -> Status
-    ensures ends { Ends result (asked arguments.now) (F.holds shelf.old) (through K.state out.old)
+    ensures ends { RunMeans result (asked arguments.now) (F.holds shelf.old) (through K.state out.old)
         (through K.state out.new) }
     ensures passed_on { (result ≡ Status.Done) ⊎ ((result ≡ Status.Refused) ⊎ (result ≡ Status.Words))
         → (through K.state out.new).pending ≡ [] }

@@ -4,7 +4,7 @@ ghost use Rattle.std.specs.Prelude.{◌≡◌, ◌≢◌, ℕ, ◌≤◌, ◌⊎
 ghost use Rattle.world_io.specs.Outside.{Rose};
 ghost use Rattle.smt_top.specs.Arguments.{asked};
 ghost use Rattle.smt_top.specs.Calls.{names_of, run_of};
-ghost use Rattle.smt_top.specs.Ends.{Holdings, BothHold, ProofIsLast, TakesText, CheckEnds, ScriptEnds, Ends, AreHeld, LastIsRead, IsUnread};
+ghost use Rattle.smt_top.specs.Ends.{Holdings, BothHold, ProofIsLast, TakesText, CheckMeans, ScriptMeans, RunMeans, AreHeld, LastIsRead, IsUnread};
 
 use crate::arguments::{ArgumentsStop, CheckRequest, Request, RunRequest, request_from};
 use crate::output::write_usage;
@@ -26,7 +26,7 @@ fn run_check<F: Shelf, K: Sink>(
     shelf: &mut F,
     out: &mut K,
 ) -> Status
-    ensures ends { CheckEnds result (Some (names_of request.entry)) (F.holds shelf.old) (K.state out.old)
+    ensures ends { CheckMeans result (Some (names_of request.entry)) (F.holds shelf.old) (K.state out.old)
         (K.state out.new) }
     ensures read_fault { result ≡ Status.ReadFault → Rose (F.faults shelf.old) (F.faults shelf.new) }
     ensures read { F.is_sound shelf.old → BothHold (Some (names_of request.entry)) (F.holds shelf.old)
@@ -53,7 +53,7 @@ fn run_script<F: Shelf, K: Sink>(
     shelf: &mut F,
     out: &mut K,
 ) -> Status
-    ensures ends { ScriptEnds result (run_of request.entry) (F.holds shelf.old) (K.state out.old) (K.state out.new) }
+    ensures ends { ScriptMeans result (run_of request.entry) (F.holds shelf.old) (K.state out.old) (K.state out.new) }
     ensures read_fault { result ≡ Status.ReadFault → Rose (F.faults shelf.old) (F.faults shelf.new) }
     ensures read { F.is_sound shelf.old → IsSome (F.holds shelf.old request.entry.name.now)
         → result ≢ Status.ReadFault }
@@ -83,7 +83,7 @@ fn run_script<F: Shelf, K: Sink>(
 
 /// Writes the usage text.
 fn run_usage<K: Sink>(out: &mut K) -> Status
-    ensures ends { (holds : Holdings) → CheckEnds result None holds (K.state out.old) (K.state out.new) }
+    ensures ends { (holds : Holdings) → CheckMeans result None holds (K.state out.old) (K.state out.new) }
     ensures no_read { (result ≡ Status.Words) ⊎ (result ≡ Status.WriteFault) }
 {
     match write_usage(out) {
@@ -116,7 +116,7 @@ pub fn run<F: Shelf, K: Sink>(
     shelf: &mut F,
     out: &mut K,
 ) -> Status
-    ensures ends { Ends result (asked arguments.now) (F.holds shelf.old) (K.state out.old) (K.state out.new) }
+    ensures ends { RunMeans result (asked arguments.now) (F.holds shelf.old) (K.state out.old) (K.state out.new) }
     ensures read_fault { result ≡ Status.ReadFault → Rose (F.faults shelf.old) (F.faults shelf.new) }
     ensures read { F.is_sound shelf.old → AreHeld (asked arguments.now) (F.holds shelf.old)
         → result ≢ Status.ReadFault }

@@ -2,7 +2,7 @@
 
 ghost use Rattle.std.specs.Prelude.{◌≡◌, ◌≢◌, ℕ, List};
 ghost use Rattle.spec_text.specs.Readings.{prefix};
-ghost use Rattle.smt_top.specs.Calls.{Judges, Reports};
+ghost use Rattle.smt_top.specs.Calls.{JudgesProof, Reports};
 
 use crate::output::{write_fault, write_valid};
 use crate::read::Texts;
@@ -16,7 +16,7 @@ use world_io::Sink;
 /// `Fault` has the first fault of the proof. `Memory` comes where an allocation was refused.
 pub(crate) fn judge(alloc: Global, texts: &Texts, at: u64) -> Result<(), ProofStop>
     ensures { (script proof : List ℕ) → texts.now.script ≡ prefix script → texts.now.proof ≡ prefix proof
-        → Judges script at proof result }
+        → JudgesProof script at proof result }
 {
     spec_checking::laws::verdicts_need_a_prefix_alone();
     spec_checking::laws::accepted_proofs_have_no_fault();
@@ -28,7 +28,7 @@ pub(crate) fn judge(alloc: Global, texts: &Texts, at: u64) -> Result<(), ProofSt
 ///
 /// Where memory ran out nothing is written.
 pub(crate) fn report<K: Sink>(verdict: Result<(), ProofStop>, out: &mut K) -> Status
-    ensures reports { (script : List ℕ) (at : ℕ) (proof : List ℕ) → Judges script at proof verdict
+    ensures reports { (script : List ℕ) (at : ℕ) (proof : List ℕ) → JudgesProof script at proof verdict
         → Reports result script at proof (K.state out.old) (K.state out.new) }
     ensures no_read { result ≢ Status.ReadFault }
 {

@@ -36,7 +36,7 @@ use Rattle.delta_num.specs.Meant.{delta}
 use Rattle.congruence_closure.specs.Closure.{TellClasses}
 use Rattle.congruence.specs.Views.{AreEqualBy}
 use Rattle.agreement.specs.declared.agreeing.Shared.{Shared}
-use Rattle.agreement.specs.Agreeing.{Concur, Clash, Agree, IsPair}
+use Rattle.agreement.specs.Agreeing.{Concur, Clash, Agree, IsDifferingPair}
 use Rattle.search_loop.specs.declared.search.Search.{Search}
 use Rattle.search_loop.specs.Asking.{HasRested}
 use Rattle.solve_core.specs.Sharing.{IsAskedOf, IsOpen}
@@ -190,7 +190,7 @@ module _ (t : TableView) (v : TheoryView) (own ids : List TermId) (classes : Lis
         subst (λ a. GoTogether a w) k.2 (subst (λ b. GoTogether (shared_at k.0) b) m.2 (concur_together k.0 m.0 k.1 m.1 x.0 y.0 x.2 y.2 (h x.0 y.0 x.1 y.1)))
 
     -- of two terms on which the theories do not agree: they are shared, and this is not said alike
-    pub pair_apart : (a b : TermId) → IsPair said a b → Contains ids a × (Contains ids b × (GoTogether (term_at t a) (term_at t b) → ⊥))
+    pub pair_apart : (a b : TermId) → IsDifferingPair said a b → Contains ids a × (Contains ids b × (GoTogether (term_at t a) (term_at t b) → ⊥))
     pair_apart a b h =
         let k = h.one_in.0 in
         let m = h.other_in.0 in

@@ -9,17 +9,17 @@ use Rattle.sat_budget.specs.declared.limits.Stop.TheVariants as stops
 use Rattle.proof_log.specs.Logs.{IsLogOf}
 use Rattle.search_loop.specs.declared.search.Search.{Search}
 use Rattle.search_loop.specs.Rounds.{Continues}
-use Rattle.search_loop.specs.Asking.{State, state}
+use Rattle.search_loop.specs.Asking.{SearchState, state}
 use Rattle.search_loop.proofs.SearchRounds.{shows_on}
 use Rattle.solve_core.specs.declared.answering.Round.{Round}
 use Rattle.solve_core.specs.declared.answering.Round.TheVariants.{Answered, Differ}
 use Rattle.solve_core.specs.Answering.{IsStoppedBy}
-use Rattle.solve_core.specs.Ending.{EndsRound, RestsRound, Answers}
+use Rattle.solve_core.specs.Ending.{EndsRound, RestsRound, AnswersStop}
 use Rattle.solve_core.proofs.SearchRounds.{asked_on}
 use Rattle.solve_core.proofs.SearchStops.{answered_on}
 
 -- what is answered to a stop, and shown of the reason, is shown of the answer
-pub answers_show : (old new : State) (ids : List TermId) (stop : Stop) (r : Result Round NoMemory) → Answers stop r → IsStoppedBy old new stop → IfOk r (EndsRound old new ids)
+pub answers_show : (old new : SearchState) (ids : List TermId) (stop : Stop) (r : Result Round NoMemory) → AnswersStop stop r → IsStoppedBy old new stop → IfOk r (EndsRound old new ids)
 answers_show old new ids (stops.Strained s) (Ok q) e h = subst (EndsRound old new ids) (sym e) h
 answers_show old new ids (stops.Strained s) (Err e) a h = tt
 answers_show old new ids (stops.Pivots n) (Ok q) e h = subst (EndsRound old new ids) (sym e) h

@@ -15,21 +15,21 @@ use Rattle.spec_sorts.specs.Literals.{Clause, Literal, literal_of, literals_of}
 use Rattle.spec_rules.specs.Truths.{Truths, term_true_by}
 use Rattle.spec_arithmetic.specs.Numbers.{number_at, IsLinear}
 use Rattle.spec_simplex.specs.Numbers.{HoldsAt}
-use Rattle.spec_congruence.specs.Congruence.{signed, IsCongruent, IsFine}
+use Rattle.spec_congruence.specs.Congruence.{signed_literal, IsCongruent, IsFine}
 use Rattle.spec_derivations.specs.Problems.{Problem, terms_of_problem, known_terms}
 use Rattle.spec_derivations.specs.Orders.{whole_terms, whole_clauses}
 use Rattle.spec_valuations.specs.Classes.{class_in, AreShared}
 use Rattle.spec_valuations.specs.Resting.{TheoryValues, values_of, RestsWithNumbers, RestsOnNumbers}
 use Rattle.term_core.specs.declared.ids.TermId.{TermId}
 use Rattle.term_core.specs.Tables.{TableView, AreDifferent, term_at, literal_at, clause_at, positive_literal}
-use Rattle.clause_literals.specs.Literals.{IsConsistent, AreOf, Means}
+use Rattle.clause_literals.specs.Literals.{IsConsistent, AreLiteralsIn, LiteralsMean}
 use Rattle.proof_log.specs.Logs.{AreFormulasIn}
 use Rattle.proof_log.specs.Theories.{TheoryView, IsTermIn, IsAtomIn, terms_watched, literals_held}
 use Rattle.congruence_closure.specs.Closure.{TellClasses}
 use Rattle.congruence_closure.specs.Listed.{no_term_id}
 use Rattle.congruence.specs.Views.{AreEqualBy}
 use Rattle.term_walks.specs.declared.values.Interp.{Interp}
-use Rattle.term_walks.specs.Valuations.{Stands}
+use Rattle.term_walks.specs.Valuations.{HasSymbolTables}
 use Rattle.spec_valuations.specs.Tables.{IsModelBy}
 use Rattle.search_model.specs.Models.{truths_of, TakeNumbersOf, IsModelOf, IsModel}
 use Rattle.search_loop.specs.declared.search.Search.{Search}
@@ -52,11 +52,11 @@ module _ (t : TableView) (differ : AreDifferent t.terms) (x : Search) (v : Theor
   abbrev truths : Truths
   truths = truths_of t x.trail.literals
 
-  pub all_held : AreOf t x.trail.literals
+  pub all_held : AreLiteralsIn t x.trail.literals
   all_held k d lt = held_in t x h.ready (get_or x.trail.literals k d) (Contains-get_or x.trail.literals k d lt)
 
   -- the number of a term of sort Bool that is no negation is an atom's
-  number_atom : (id : TermId) (u : Term) → Contains ids id → term_at t id ≡ u → sort_of u ≡ Truth → literal_of u ≡ signed u true → IsAtomIn t id
+  number_atom : (id : TermId) (u : Term) → Contains ids id → term_at t id ≡ u → sort_of u ≡ Truth → literal_of u ≡ signed_literal u true → IsAtomIn t id
   number_atom id u i e sort bare =
       let there = All-contains (IsTermIn t) ids id h.ready.atoms_are.there i in (
         (there.0, record { term = there.1; sort = ap sort_of e ∙ sort }),
@@ -64,7 +64,7 @@ module _ (t : TableView) (differ : AreDifferent t.terms) (x : Search) (v : Theor
       )
 
   -- such a term is held with its truth
-  atom_held : (u : Term) → Contains terms u → sort_of u ≡ Truth → literal_of u ≡ signed u true → Contains held (signed u (truths u))
+  atom_held : (u : Term) → Contains terms u → sort_of u ≡ Truth → literal_of u ≡ signed_literal u true → Contains held (signed_literal u (truths u))
   atom_held u i sort bare =
       let n = from_image (term_at t) ids u i in
       let a = h.assigned n.0 (h.ready.atoms_are.chosen.each n.0 n.1 (number_atom n.0 u n.1 n.2 sort bare)) in
@@ -76,7 +76,7 @@ module _ (t : TableView) (differ : AreDifferent t.terms) (x : Search) (v : Theor
   met : (c : Clause) → Contains (whole_clauses problem) c → list_any (term_true_by truths) c ≡ true
   met c i =
       let d = from_image (map (literal_at t)) x.store.clauses (literals_of c) (s.derived.base c i) in
-      let means : Means t d.0 c = record { same = d.2; there = λ k e lt. clauses_in t x h.ready d.0 (get_or d.0 k e) d.1 (Contains-get_or d.0 k e lt) } in
+      let means : LiteralsMean t d.0 c = record { same = d.2; there = λ k e lt. clauses_in t x h.ready d.0 (get_or d.0 k e) d.1 (Contains-get_or d.0 k e lt) } in
       clause_met t x.trail.literals differ all_held consistent c d.0 means (h.satisfied d.0 d.1)
 
   -- the terms are formulas, and so are those beside them
@@ -154,8 +154,8 @@ module _ (t : TableView) (differ : AreDifferent t.terms) (x : Search) (v : Theor
       }
 
     -- so tables by truths, classes and numbers are a model's
-    pub has_model : (interp : Interp) → IsModelOf t x.trail.literals ids classes (map number terms) interp → (i : Interpretation) × Stands t interp i
-        → ((i : Interpretation) → Stands t interp i → IsModelBy i (values_of given) t.symbols terms)
+    pub has_model : (interp : Interp) → IsModelOf t x.trail.literals ids classes (map number terms) interp → (i : Interpretation) × HasSymbolTables t interp i
+        → ((i : Interpretation) → HasSymbolTables t interp i → IsModelBy i (values_of given) t.symbols terms)
         → ((i : Interpretation) → IsModelBy i (values_of given) t.symbols terms → Interprets i t.symbols)
         → ((i : Interpretation) → IsModelBy i (values_of given) t.symbols terms → All (λ u. value_at i [] u ≡ truth true) (terms_of_problem problem))
         → IsModel t (terms_of_problem problem) interp

@@ -18,9 +18,9 @@ use Rattle.term_core.specs.declared.ids.TermId.{TermId}
 use Rattle.term_core.specs.declared.ids.Lit.{Lit}
 use Rattle.term_core.specs.Tables.{TableView, Extends, clause_at, literal_at, term_at}
 use Rattle.term_core.proofs.TermsExtend.{clause_at-kept}
-use Rattle.proof_log.specs.Theories.{TheoryView, IsTermIn, IsAtomIn, IsOver}
+use Rattle.proof_log.specs.Theories.{TheoryView, IsTermIn, IsAtomIn, IsTheoryOver}
 use Rattle.search_loop.specs.declared.search.Search.{Search}
-use Rattle.search_loop.specs.Search.{IsReady}
+use Rattle.search_loop.specs.Search.{SearchFits}
 use Rattle.search_loop.specs.Asking.{HasRested}
 use Rattle.search_loop.proofs.SearchReady.{Ids, atom_in, all_of_atoms}
 use Rattle.congruence_closure.specs.Closure.{TellClasses}
@@ -57,7 +57,7 @@ module _ (t : TableView) (x : Search) (v : TheoryView) (agreed : Type 0) (h : Ha
   ids = x.terms.items
 
   -- what the theory holds and watches is over the table
-  pub over_rested : IsOver t v
+  pub over_rested : IsTheoryOver t v
   over_rested = record {
     terms = subst (All (IsTermIn t)) (sym h.terms) h.ready.atoms_are.there;
     closed = subst (λ (is : List TermId). IsClosed (clause_at t is)) (sym h.terms) h.ready.atoms_are.closed;
@@ -93,9 +93,9 @@ module _ (t : TableView) (x : Search) (v : TheoryView) (agreed : Type 0) (h : Ha
     }
 
 -- the terms of a search are the same in a table that has more
-pub same_terms : (t u : TableView) → Extends t u → (x y : Search) → IsReady t x → y.terms ≡ x.terms → clause_at u y.terms.items ≡ clause_at t x.terms.items
+pub same_terms : (t u : TableView) → Extends t u → (x y : Search) → SearchFits t x → y.terms ≡ x.terms → clause_at u y.terms.items ≡ clause_at t x.terms.items
 same_terms t u g x y r same = ap (λ (is : Ids). clause_at u is.items) same ∙ clause_at-kept t u g x.terms.items (λ k d lt. (r.atoms_are.there k d lt).0)
 
 -- so those that are no numbers are none there
-pub plain_later : (t u : TableView) → Extends t u → (x y : Search) → IsReady t x → y.terms ≡ x.terms → ((w : Term) → Contains (clause_at t x.terms.items) w → sort_of w ≢ Number) → (w : Term) → Contains (clause_at u y.terms.items) w → sort_of w ≢ Number
+pub plain_later : (t u : TableView) → Extends t u → (x y : Search) → SearchFits t x → y.terms ≡ x.terms → ((w : Term) → Contains (clause_at t x.terms.items) w → sort_of w ≢ Number) → (w : Term) → Contains (clause_at u y.terms.items) w → sort_of w ≢ Number
 plain_later t u g x y r same plain = subst (λ (ts : List Term). (w : Term) → Contains ts w → sort_of w ≢ Number) (sym (same_terms t u g x y r same)) plain

@@ -10,11 +10,11 @@ use Rattle.term_core.specs.Tables.{TableView}
 use Rattle.sat_budget.specs.declared.limits.Limits.{Limits}
 use Rattle.proof_log.specs.declared.premises.StepId.{StepId}
 use Rattle.proof_log.specs.Logs.{Logged}
-use Rattle.proof_log.specs.Theories.{TheoryView, IsAtomIn, IsOver, terms_watched, Derives}
+use Rattle.proof_log.specs.Theories.{TheoryView, IsAtomIn, IsTheoryOver, terms_watched, DerivesLemmas}
 use Rattle.search_loop.specs.declared.search.Search.{Search}
 use Rattle.search_loop.specs.Waiting.{AreOfAtoms}
-use Rattle.search_loop.specs.Search.{IsReady}
-use Rattle.search_loop.specs.Rounds.{Begins, Continues, HasKept}
+use Rattle.search_loop.specs.Search.{SearchFits}
+use Rattle.search_loop.specs.Rounds.{BeginsSearch, Continues, HasKept}
 use Rattle.search_loop.proofs.SearchReady.{Ids}
 use Rattle.search_loop.proofs.SearchRounds.{continues_same, continues_on}
 use Rattle.search_loop.proofs.SearchGrown.{continues_derived, begins_derived}
@@ -39,20 +39,20 @@ related_on s t u a b c h k = record {
 }
 
 -- lemmas came into the log
-pub related_lemmas : (t u : TableView) (x : Search) (log : List Logged) (v : TheoryView) → v ≡ idle_over x → IsReady t x
-    → Derives (terms_watched t v) (record { table = t; log = x.log }) (record { table = u; log = log }) → HasRelated t u x (record x { log = log })
+pub related_lemmas : (t u : TableView) (x : Search) (log : List Logged) (v : TheoryView) → v ≡ idle_over x → SearchFits t x
+    → DerivesLemmas (terms_watched t v) (record { table = t; log = x.log }) (record { table = u; log = log }) → HasRelated t u x (record x { log = log })
 related_lemmas t u x log v is ready derives =
-    let came = subst (λ (w : TheoryView). Derives (terms_watched t w) (record { table = t; log = x.log }) (record { table = u; log = log })) is derives in
+    let came = subst (λ (w : TheoryView). DerivesLemmas (terms_watched t w) (record { table = t; log = x.log }) (record { table = u; log = log })) is derives in
     record {
       continues = continues_derived t u x ready log came;
       begins = λ p limits b. begins_derived t u x ready log came p limits b;
       atoms = refl;
     }
 
-module _ (t : TableView) (x : Search) (ready : IsReady t x) (v : TheoryView) (is : v ≡ idle_over x) where
+module _ (t : TableView) (x : Search) (ready : SearchFits t x) (v : TheoryView) (is : v ≡ idle_over x) where
   -- such a theory is over the table
-  pub idle_is_over : IsOver t v
-  idle_is_over = subst (IsOver t) (sym is) (record {
+  pub idle_is_over : IsTheoryOver t v
+  idle_is_over = subst (IsTheoryOver t) (sym is) (record {
     terms = ready.atoms_are.there;
     closed = ready.atoms_are.closed;
     atoms = All-nil (λ (l : Lit). IsAtomIn t l.term);
@@ -74,7 +74,7 @@ pair_of_atoms x p h l i = elim (Contains-push_cases (p.0 ∷ []) p.1 l i) [
 
 -- and then the clause of a step came into the store
 pub kept_related : (t u : TableView) (x y z : Search) (step : StepId) (r : Result (Unit {0}) NoMemory) → HasRelated t u x y → MatchResult r (λ _. HasKept u step y z) (λ _. z ≡ y)
-    → OnOk r (Continues u u y z) → OnOk r ((p : Problem) (limits : Limits) → Begins u p limits y → Begins u p limits z) → OnOk r (HasRelated t u x z)
+    → OnOk r (Continues u u y z) → OnOk r ((p : Problem) (limits : Limits) → BeginsSearch u p limits y → BeginsSearch u p limits z) → OnOk r (HasRelated t u x z)
 kept_related t u x y z step (Ok a) h kept on begins = related_on t u u x y z h (record { continues = on; begins = begins; atoms = ap (λ (s : Search). s.atoms) kept.0 })
 kept_related t u x y z step (Err e) h kept on begins = tt
 

@@ -31,7 +31,7 @@ use Rattle.search_loop.specs.declared.search.Search.{Search}
 use Rattle.search_loop.specs.Rounds.{IsSearch}
 use Rattle.solve_core.specs.declared.outcome.Outcome.{Outcome}
 use Rattle.solve_core.specs.Forms.{FindsOverflow}
-use Rattle.solve_core.specs.Decisions.{IsJustified, IsDecided}
+use Rattle.solve_core.specs.Decisions.{IsJustified, HasDecision}
 use Rattle.solve_core.specs.Sharing.{AreSharedOf, IsAskedOf, IsOpen, AreOpen}
 use Rattle.solve_core.specs.Rounds.{IsComparable, equality_in, equalities_of, missing, IsOpenFor, HasMoreBeside}
 use Rattle.solve_core.proofs.Missing.{missing_less, pair_among}
@@ -113,8 +113,8 @@ module _ (roots ids : List TermId) (t : TableView) (beside : List TermId) (h : I
     beside_same = clause_at-kept t u wider.terms beside (formulas_there t beside h.beside_in)
 
     -- a decision on it is one on the terms
-    pub decided_for : (limits : Limits) (d : Outcome) → IsJustified u problem limits d → IsDecided u (clause_at u roots) limits d
-    decided_for limits d justified = subst (λ ts. IsDecided u ts limits d) (sym roots_same) (record { beside = clause_at t beside; equalities = h.equalities; justified = justified })
+    pub decided_for : (limits : Limits) (d : Outcome) → IsJustified u problem limits d → HasDecision u (clause_at u roots) limits d
+    decided_for limits d justified = subst (λ ts. HasDecision u ts limits d) (sym roots_same) (record { beside = clause_at t beside; equalities = h.equalities; justified = justified })
 
     -- with more terms beside
     pub open_with : (new : List TermId) → AreFormulasIn u new → All (IsSharedEquality (subterms_in (asserting asked))) (clause_at u new) → IsOpenFor roots ids (record { table = u; beside = new })

@@ -28,9 +28,9 @@ use Rattle.search_loop.specs.declared.search.Search.{Search}
 use Rattle.search_loop.specs.declared.cdcl.Answer.{Answer}
 use Rattle.search_loop.specs.declared.cdcl.Answer.TheVariants.{Unknown}
 use Rattle.search_loop.specs.Stops.{IsStrained, reckoning, ArePivotsSpent}
-use Rattle.search_loop.specs.Search.{IsReady}
+use Rattle.search_loop.specs.Search.{SearchFits}
 use Rattle.search_loop.specs.Paying.{atoms_of, most, IsPaid}
-use Rattle.search_loop.specs.Rounds.{IsSearch, Continues, Shows}
+use Rattle.search_loop.specs.Rounds.{IsSearch, Continues, ShowsAnswer}
 use Rattle.search_loop.specs.Asking.{HasRested, HasStopped, OnStop, state}
 use Rattle.search_loop.proofs.SearchPays.{from_filter, terms_once}
 use Rattle.search_loop.proofs.SearchGrown.{spoken}
@@ -52,7 +52,7 @@ module _ (t : TableView) (x : Search) (problem : Problem) (s : IsSearch t proble
       spoken t x problem s u (subst (Contains (clause_at t x.terms.items)) n.2 (to_image (term_at t) x.terms.items n.0 (take_among k x.terms.items n.0 n.1)))
 
   -- runs that are paid for are few
-  pub are_few : AreDifferent t.terms → IsReady t x → (l runs : ℕ) → runs ≤ most_runs l (atoms_of t x) → AreFewRuns (whole_terms problem) l runs
+  pub are_few : AreDifferent t.terms → SearchFits t x → (l runs : ℕ) → runs ≤ most_runs l (atoms_of t x) → AreFewRuns (whole_terms problem) l runs
   are_few differ ready l runs le =
       let terms = clause_at t x.terms.items in
       let there = All-weaker (IsTermIn t) (IsIn t) (λ id k. k.0) x.terms.items ready.atoms_are.there in
@@ -141,7 +141,7 @@ watching_paid P t ts v es count l a is (stops.Pivots n) never h = absurd never
 watching_paid P t ts v es count l a is stops.Memory never h = tt
 
 -- a stop where a term comes to be watched
-pub watching_stops : (t : TableView) (x : Search) → AreDifferent t.terms → IsReady t x → (v : SimplexView) (n : ℕ) (stop : Stop)
+pub watching_stops : (t : TableView) (x : Search) → AreDifferent t.terms → SearchFits t x → (v : SimplexView) (n : ℕ) (stop : Stop)
     → ((ts : List Term) → AreAmong (clause_at t x.terms.items) ts → HasStoppedAt t ts v stop x.budget.exchanges (most t x x))
     → StopsBy (λ e. IsStrainAt t (clause_at t (take n x.terms.items)) e v) (λ _. ⊥) stop → IsStoppedBy (state t x) (state t x) stop
 watching_stops t x differ ready v n (stops.Strained e) came h = record {
@@ -157,13 +157,13 @@ watching_stops t x differ ready v n stops.Memory came h = tt
 
 module _ (t w : TableView) (x y : Search) where
   -- a stop where the search rests, by what computes the numbers of a model
-  pub numbers_stop : Continues t w x y → IsLogOf w y.log → (stop : Stop) → StopsBy (λ s. Shows w w y y (Unknown (reasons.Overflow s))) (λ _. ⊥) stop → IsStoppedBy (state t x) (state w y) stop
+  pub numbers_stop : Continues t w x y → IsLogOf w y.log → (stop : Stop) → StopsBy (λ s. ShowsAnswer w w y y (Unknown (reasons.Overflow s))) (λ _. ⊥) stop → IsStoppedBy (state t x) (state w y) stop
   numbers_stop on right (stops.Strained e) shows = record { right = right; limits = on.limits; shows = shows_on t w w x y y (Unknown (reasons.Overflow e)) on shows }
   numbers_stop on right (stops.Pivots n) never = absurd never
   numbers_stop on right stops.Memory none = tt
 
   -- and one of the rounds of a search, for each of its reasons
-  pub rounds_stop : AreDifferent t.terms → IsReady t x → (V : TheoryView) (v : SimplexView) (P : Type 0) (stop : Stop)
+  pub rounds_stop : AreDifferent t.terms → SearchFits t x → (V : TheoryView) (v : SimplexView) (P : Type 0) (stop : Stop)
       → ((ts : List Term) → AreAmong (clause_at t x.terms.items) ts → HasStoppedAt w ts v stop y.budget.exchanges (most t x y)) → OnStop (P × HasStopped (state t x) (state w y) V) stop
       → StopsBy (λ e. IsStrainAt w (terms_watched w V) e v) (AreSpent (NeedsMore (terms_watched w V) (standing_of w v)) y.budget) stop → IsStoppedBy (state t x) (state w y) stop
   rounds_stop differ ready V v P (stops.Strained e) came h strain = record {
@@ -185,8 +185,8 @@ module _ (t w : TableView) (x y : Search) where
   rounds_stop differ ready V v P stops.Memory came h none = tt
 
 -- a stop by what computes the numbers of a model is shown where the search rests
-pub model_stops : (t : TableView) (x : Search) (V : TheoryView) (v : SimplexView) → V ≡ v.theory → V.watched ≡ x.terms.items → AreDifferent t.terms → IsReady t x → HasCome t x v → (stop : Stop)
-    → StopsBy (λ e. IsStrainAt t (terms_watched t v.theory) e v) (λ _. ⊥) stop → StopsBy (λ e. Shows t t x x (Unknown (reasons.Overflow e))) (λ _. ⊥) stop
+pub model_stops : (t : TableView) (x : Search) (V : TheoryView) (v : SimplexView) → V ≡ v.theory → V.watched ≡ x.terms.items → AreDifferent t.terms → SearchFits t x → HasCome t x v → (stop : Stop)
+    → StopsBy (λ e. IsStrainAt t (terms_watched t v.theory) e v) (λ _. ⊥) stop → StopsBy (λ e. ShowsAnswer t t x x (Unknown (reasons.Overflow e))) (λ _. ⊥) stop
 model_stops t x V v same watched differ ready come (stops.Strained e) strain = λ problem s.
     let watches = ap (λ (z : TheoryView). z.watched) (sym same) ∙ watched in
     let few = are_few t x problem s differ ready (length x.budget.learned) in (

@@ -21,7 +21,7 @@ use Rattle.congruence.specs.Views.{AreEqualBy}
 use Rattle.simplex.specs.Views.{SimplexView}
 use Rattle.simplex.specs.Numbers.{HoldApart}
 use Rattle.agreement.specs.declared.agreeing.Shared.{Shared}
-use Rattle.agreement.specs.Agreeing.{Agree, IsPair, ArePairs}
+use Rattle.agreement.specs.Agreeing.{Agree, IsDifferingPair, ArePairs}
 use Rattle.search_loop.specs.declared.search.Search.{Search}
 use Rattle.search_loop.specs.Asking.{HasRested}
 use Rattle.solve_core.specs.Answering.{HoldTogether}
@@ -82,7 +82,7 @@ module _ (t : TableView) (differ : AreDifferent t.terms) (x : Search) (v : Theor
   pub differ_open : SidesAgree → (pairs : List (TermId × TermId)) → ArePairs said pairs → 0 < length pairs → AreOpen t ids p pairs
   differ_open sides pairs each some = (λ k d lt. one_open (get_or pairs k d) (each k d lt), some)
     where
-      one_open : (y : TermId × TermId) → IsPair said y.0 y.1 → IsOpen t ids p y
+      one_open : (y : TermId × TermId) → IsDifferingPair said y.0 y.1 → IsOpen t ids p y
       one_open y q =
           let apart = pair_apart t v own ids classes tell n.number xs n.are said are_said y.0 y.1 q in
           pair_open t differ x v agreed h ids p a consistent fine front told place linear n.number n.reduced hold n.heads sides y apart.0 apart.1.0 apart.1.1

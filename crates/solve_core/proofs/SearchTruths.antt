@@ -12,12 +12,12 @@ use Rattle.spec_rules.specs.Truths.{Truths, literal_true, term_true_by}
 use Rattle.term_core.specs.declared.ids.Lit.{Lit}
 use Rattle.term_core.specs.Tables.{TableView, term_at, IsIn, literal_at, AreDifferent}
 use Rattle.term_core.proofs.Numbers.{same_numbers}
-use Rattle.clause_literals.specs.Literals.{lit_complement, IsConsistent, AreOf, Means}
+use Rattle.clause_literals.specs.Literals.{lit_complement, IsConsistent, AreLiteralsIn, LiteralsMean}
 use Rattle.clause_literals.specs.Statuses.{IsSatisfied}
 use Rattle.search_model.specs.Models.{affirms, truths_of}
 use Rattle.search_model.proofs.LiteralTruths.{affirmed}
 
-module _ (t : TableView) (held : List Lit) (different : AreDifferent t.terms) (there : AreOf t held) (consistent : IsConsistent held) where
+module _ (t : TableView) (held : List Lit) (different : AreDifferent t.terms) (there : AreLiteralsIn t held) (consistent : IsConsistent held) where
   -- the truths of what holds
   abbrev v : Truths
   v = truths_of t held
@@ -47,7 +47,7 @@ module _ (t : TableView) (held : List Lit) (different : AreDifferent t.terms) (t
       go false e = ap not (denied l c e)
 
   -- a clause is met of which a literal holds
-  pub clause_met : (c : Clause) (d : List Lit) → Means t d c → IsSatisfied held d → list_any (term_true_by v) c ≡ true
+  pub clause_met : (c : Clause) (d : List Lit) → LiteralsMean t d c → IsSatisfied held d → list_any (term_true_by v) c ≡ true
   clause_met c d means touched =
       let l = touched.literal in
       let image = subst (λ ls. Contains ls (literal_at t l)) means.same (to_image (literal_at t) d l touched.there) in

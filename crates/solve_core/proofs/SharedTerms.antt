@@ -13,14 +13,14 @@ use Rattle.spec_sorts.proofs.WellSorted.{same_sort_is, same_sort_itself}
 use Rattle.spec_causes.specs.Shared.{IsSharedAmong, argument, value}
 use Rattle.term_core.specs.declared.ids.TermId.{TermId}
 use Rattle.term_core.specs.Tables.{TableView, IsIn, AreIn, term_at, clause_at}
-use Rattle.solve_core.specs.Sharing.{AreSharedOf, is_declared, is_real, reals_in, value_over, shared_by, Adds}
+use Rattle.solve_core.specs.Sharing.{AreSharedOf, is_declared, is_real, reals_in, value_over, shared_by, AddsSharedTerms}
 
 -- none came
-pub adds_none : (t : TableView) (ids : List TermId) → Adds t ids ids []
+pub adds_none : (t : TableView) (ids : List TermId) → AddsSharedTerms t ids ids []
 adds_none t ids = record { added = []; is = sym (append-nil ids); there = All-nil (IsIn t); are = refl }
 
 -- one more came
-pub adds_one : (t : TableView) (old now new : List TermId) (ts : List Term) (id : TermId) → IsIn t id → new ≡ now ++ id ∷ [] → Adds t old now ts → Adds t old new (ts ++ term_at t id ∷ [])
+pub adds_one : (t : TableView) (old now new : List TermId) (ts : List Term) (id : TermId) → IsIn t id → new ≡ now ++ id ∷ [] → AddsSharedTerms t old now ts → AddsSharedTerms t old new (ts ++ term_at t id ∷ [])
 adds_one t old now new ts id here e h = record {
   added = h.added ++ id ∷ [];
   is = e ∙ ap (λ (is : List TermId). is ++ id ∷ []) h.is ∙ append_assoc old h.added (id ∷ []);
@@ -29,7 +29,7 @@ adds_one t old now new ts id here e h = record {
 }
 
 -- some came, then others
-pub adds_trans : (t : TableView) (old now new : List TermId) (ts us : List Term) → Adds t old now ts → Adds t now new us → Adds t old new (ts ++ us)
+pub adds_trans : (t : TableView) (old now new : List TermId) (ts us : List Term) → AddsSharedTerms t old now ts → AddsSharedTerms t now new us → AddsSharedTerms t old new (ts ++ us)
 adds_trans t old now new ts us f g = record {
   added = f.added ++ g.added;
   is = g.is ∙ ap (λ (is : List TermId). is ++ g.added) f.is ∙ append_assoc old f.added g.added;
@@ -38,8 +38,8 @@ adds_trans t old now new ts us f g = record {
 }
 
 -- those of equal lists
-pub adds_same : (t : TableView) (old new : List TermId) (ts us : List Term) → ts ≡ us → Adds t old new ts → Adds t old new us
-adds_same t old new ts us e h = subst (Adds t old new) e h
+pub adds_same : (t : TableView) (old new : List TermId) (ts us : List Term) → ts ≡ us → AddsSharedTerms t old new ts → AddsSharedTerms t old new us
+adds_same t old new ts us e h = subst (AddsSharedTerms t old new) e h
 
 -- whether a term is Real
 real_is : (s : Sort) → s ≡ Number → same_sort Number s ≡ true
@@ -151,7 +151,7 @@ module _ (ts : List Term) where
       own (cons w ws) some real = in_reals (app (Apply s) us ∷ []) (app (Apply s) us) (first (app (Apply s) us) []) real
 
 -- so the terms that came of those among them are the shared ones
-pub are_shared : (t : TableView) (ids : List TermId) (ts marks : List Term) → AreAmong ts marks → AreAmong marks ts → Adds t [] ids (flat_map shared_by marks) → AreSharedOf t ts ids
+pub are_shared : (t : TableView) (ids : List TermId) (ts marks : List Term) → AreAmong ts marks → AreAmong marks ts → AddsSharedTerms t [] ids (flat_map shared_by marks) → AreSharedOf t ts ids
 are_shared t ids ts marks forth back h =
     let is : ids ≡ h.added = h.is in
     let terms : clause_at t ids ≡ flat_map shared_by marks = ap (clause_at t) is ∙ h.are in

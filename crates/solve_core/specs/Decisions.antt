@@ -48,7 +48,7 @@ pub record IsJustified (t : TableView) (p : Problem) (limits : Limits) (d : Outc
   pub learning : IsLearning t p d.log d.answer d.budget.learned
 
 -- Terms that are asserted are decided: with equalities of shared terms beside them, the answer has its evidence.
-pub record IsDecided (t : TableView) (ts : List Term) (limits : Limits) (d : Outcome) : Type 0 where
+pub record HasDecision (t : TableView) (ts : List Term) (limits : Limits) (d : Outcome) : Type 0 where
   -- those equalities
   pub beside : List Term
   pub equalities : All (IsSharedEquality (subterms_in (asserting ts))) beside
@@ -64,4 +64,4 @@ pub record SolverView : Type 0 where
 
 -- the terms are decided, and the solver keeps the evidence
 abbrev pub IsShownBy : TableView → List Term → Limits → SolverView → Answer → Type 0
-IsShownBy t ts limits s a = IsDecided t ts limits (record { answer = a; log = s.log; budget = s.budget })
+IsShownBy t ts limits s a = HasDecision t ts limits (record { answer = a; log = s.log; budget = s.budget })

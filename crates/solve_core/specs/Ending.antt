@@ -10,29 +10,29 @@ use Rattle.sat_budget.specs.declared.limits.Reason.TheVariants as reasons
 use Rattle.search_loop.specs.declared.search.Search.{Search}
 use Rattle.search_loop.specs.declared.cdcl.Answer.{Answer}
 use Rattle.search_loop.specs.declared.cdcl.Answer.TheVariants.{Unknown}
-use Rattle.search_loop.specs.Rounds.{Shows}
-use Rattle.search_loop.specs.Asking.{State, state}
+use Rattle.search_loop.specs.Rounds.{ShowsAnswer}
+use Rattle.search_loop.specs.Asking.{SearchState, state}
 use Rattle.solve_core.specs.declared.answering.Round.{Round}
 use Rattle.solve_core.specs.declared.answering.Round.TheVariants.{Answered, Differ}
 use Rattle.solve_core.specs.Sharing.{IsAskedOf, AreOpen}
 use Rattle.solve_core.specs.Answering.{IsAnswered}
 
 -- P is so of the answer; or the pairs are open, whatever problem with equalities of shared terms beside was asked before
-abbrev pub Ends : (old new : State) → List TermId → (Answer → Type 0) → Round → Type 0
-Ends old new ids P (Answered a) = P a
-Ends old new ids P (Differ pairs) = (p : Problem) → IsAskedOf old.table ids p old.search → AreOpen new.table ids p pairs.items
+abbrev pub AnswersOrDiffers : (old new : SearchState) → List TermId → (Answer → Type 0) → Round → Type 0
+AnswersOrDiffers old new ids P (Answered a) = P a
+AnswersOrDiffers old new ids P (Differ pairs) = (p : Problem) → IsAskedOf old.table ids p old.search → AreOpen new.table ids p pairs.items
 
 -- the answer is shown
-abbrev pub EndsRound : (old new : State) → List TermId → Round → Type 0
-EndsRound old new ids = Ends old new ids (IsAnswered old new)
+abbrev pub EndsRound : (old new : SearchState) → List TermId → Round → Type 0
+EndsRound old new ids = AnswersOrDiffers old new ids (IsAnswered old new)
 
 -- so it is where the search rests
 abbrev pub RestsRound : TableView → Search → List TermId → Round → Type 0
-RestsRound t x ids = Ends (state t x) (state t x) ids (Shows t t x x)
+RestsRound t x ids = AnswersOrDiffers (state t x) (state t x) ids (ShowsAnswer t t x x)
 
 -- what is answered to a stop: its reason, or that memory ran out
-abbrev pub Answers : Stop → Result Round NoMemory → Type 0
-Answers (stops.Strained s) (Ok r) = r ≡ Answered (Unknown (reasons.Overflow s))
-Answers (stops.Pivots n) (Ok r) = r ≡ Answered (Unknown (reasons.Pivots n))
-Answers stops.Memory (Err e) = Unit {0}
-Answers stop result = ⊥
+abbrev pub AnswersStop : Stop → Result Round NoMemory → Type 0
+AnswersStop (stops.Strained s) (Ok r) = r ≡ Answered (Unknown (reasons.Overflow s))
+AnswersStop (stops.Pivots n) (Ok r) = r ≡ Answered (Unknown (reasons.Pivots n))
+AnswersStop stops.Memory (Err e) = Unit {0}
+AnswersStop stop result = ⊥

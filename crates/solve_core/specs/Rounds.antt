@@ -14,7 +14,7 @@ use Rattle.search_loop.specs.Answered.{AreAnswered}
 use Rattle.solve_core.specs.declared.outcome.Outcome.{Outcome}
 use Rattle.solve_core.specs.Forms.{FindsOverflow}
 use Rattle.solve_core.specs.Sharing.{AreSharedOf}
-use Rattle.solve_core.specs.Decisions.{IsDecided}
+use Rattle.solve_core.specs.Decisions.{HasDecision}
 
 -- two terms of one sort
 abbrev pub IsComparable : TableView → TermId × TermId → Type 0
@@ -67,5 +67,5 @@ pub record HasMoreBeside (roots shared : List TermId) (old new : Stage) : Type 0
 
 -- what comes of a round: a decision; or more equalities
 abbrev pub IsRound : (roots shared : List TermId) → Limits → (old new : Stage) → Option Outcome → Type 0
-IsRound roots shared limits old new (Some d) = IsDecided new.table (clause_at new.table roots) limits d
+IsRound roots shared limits old new (Some d) = HasDecision new.table (clause_at new.table roots) limits d
 IsRound roots shared limits old new None = HasMoreBeside roots shared old new

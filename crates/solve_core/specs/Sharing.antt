@@ -42,7 +42,7 @@ abbrev pub shared_by : Term → List Term
 shared_by (app h us) = if is_declared h then reals_in (list_of us) ++ value_over us (app h us) else []
 
 -- Numbers came, which are those of terms, in order.
-pub record Adds (t : TableView) (old new : List TermId) (ts : List Term) : Type 0 where
+pub record AddsSharedTerms (t : TableView) (old new : List TermId) (ts : List Term) : Type 0 where
   -- these came
   pub added : List TermId
   pub is : new ≡ old ++ added

@@ -5,7 +5,7 @@ ghost use Rattle.spec_derivations.specs.Problems.{Problem};
 ghost use Rattle.ratio128.specs.Meant.{fraction};
 ghost use Rattle.sat_budget.specs.Budgets.{StopsBy};
 ghost use Rattle.proof_log.specs.Theories.{terms_watched, literals_held};
-ghost use Rattle.congruence_relation.specs.Relation.{AreOf};
+ghost use Rattle.congruence_relation.specs.Relation.{AreFactsOf};
 ghost use Rattle.congruence.specs.Views.{theory_of};
 ghost use Rattle.simplex.specs.Checks.{Suits};
 ghost use Rattle.simplex.specs.Coming.{IsStrainAt};
@@ -115,7 +115,7 @@ pub(crate) fn agreement(
     requires rested { HasRested table.now search.now (theory_of theory.now.congruence)
         (AgreeBoth (terms_watched table.now (theory_of theory.now.congruence))
         (literals_held table.now (theory_of theory.now.congruence)) theory.now) }
-    requires congruence { AreOf table.now theory.now.congruence.now.facts }
+    requires congruence { AreFactsOf table.now theory.now.congruence.now.facts }
     requires simplex { Suits theory.now.simplex table.now }
     requires asked { (p : Problem) × IsAskedOf table.now shared.now p search.now }
     ensures found { IfOk result (FindsAgreement table.now search.now (theory_of theory.now.congruence) shared.now) }

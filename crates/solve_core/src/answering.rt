@@ -8,16 +8,16 @@ ghost use Rattle.sat_budget.specs.declared.limits.Limits.{Limits};
 ghost use Rattle.sat_budget.specs.declared.limits.Reason.TheVariants.{Overflow};
 ghost use Rattle.sat_budget.specs.Budgets.{StopsBy};
 ghost use Rattle.proof_log.specs.Theories.{IsTermIn, terms_watched, literals_held};
-ghost use Rattle.congruence_relation.specs.Relation.{AreOf};
+ghost use Rattle.congruence_relation.specs.Relation.{AreFactsOf};
 ghost use Rattle.congruence.specs.Views.{theory_of};
 ghost use Rattle.simplex.specs.Checks.{Suits};
 ghost use Rattle.simplex.specs.Coming.{CameBy};
 ghost use Rattle.search_loop.specs.declared.cdcl.Answer.TheVariants.{Unknown};
-ghost use Rattle.search_loop.specs.Rounds.{Begins, Shows};
+ghost use Rattle.search_loop.specs.Rounds.{BeginsSearch, ShowsAnswer};
 ghost use Rattle.search_loop.specs.Asking.{HasRested, state};
 ghost use Rattle.solve_core.specs.Sharing.{IsAskedOf};
 ghost use Rattle.solve_core.specs.Answering.{HasNumber, AgreeBoth, HasCome, IsAnswered, IsStoppedBy};
-ghost use Rattle.solve_core.specs.Ending.{EndsRound, RestsRound, Answers};
+ghost use Rattle.solve_core.specs.Ending.{EndsRound, RestsRound, AnswersStop};
 
 use crate::agreeing::{Found, agreement};
 use crate::bounding::relate_bounds;
@@ -43,7 +43,7 @@ pub(crate) enum Round {
 
 /// Answers a stop of a theory: `Unknown` with the reason, or that memory ran out.
 fn answer_to(stop: Stop) -> Result<Round, NoMemory>
-    ensures { Answers stop result }
+    ensures { AnswersStop stop result }
 {
     match stop {
         Stop::Strained(strain) => Ok(Round::Answered(Answer::Unknown(Reason::Overflow(strain)))),
@@ -73,7 +73,7 @@ pub(crate) fn answer(
     table: &mut TermTable,
     shared: &[TermId],
 ) -> Result<Round, NoMemory>
-    requires begins { (p : Problem) × (limits : Limits) × Begins table.old p limits search.old }
+    requires begins { (p : Problem) × (limits : Limits) × BeginsSearch table.old p limits search.old }
     requires asked { (p : Problem) × IsAskedOf table.old shared.now p search.old }
     ensures grown { Extends table.old table.new }
     ensures declared { declared_in table.new ≡ declared_in table.old }
@@ -88,7 +88,7 @@ pub(crate) fn answer(
 
 /// Searches with the theory of equality and functions alone, where no term is a number.
 fn answer_classes(search: &mut Search, table: &mut TermTable) -> Result<Answer, NoMemory>
-    requires begins { (p : Problem) × (limits : Limits) × Begins table.old p limits search.old }
+    requires begins { (p : Problem) × (limits : Limits) × BeginsSearch table.old p limits search.old }
     requires plain { (u : Term) → Contains (clause_at table.old search.old.terms.items) u → sort_of u ≢ Number }
     ensures grown { Extends table.old table.new }
     ensures declared { declared_in table.new ≡ declared_in table.old }
@@ -106,10 +106,10 @@ fn search_classes(
     table: &mut TermTable,
     theory: &mut Congruence,
 ) -> Result<Answer, NoMemory>
-    requires begins { (p : Problem) × (limits : Limits) × Begins table.old p limits search.old }
+    requires begins { (p : Problem) × (limits : Limits) × BeginsSearch table.old p limits search.old }
     requires plain { (u : Term) → Contains (clause_at table.old search.old.terms.items) u → sort_of u ≢ Number }
     requires empty { theory_of theory.old ≡ record { held = []; watched = []; marks = [] } }
-    requires with { AreOf table.old theory.old.now.facts }
+    requires with { AreFactsOf table.old theory.old.now.facts }
     ensures grown { Extends table.old table.new }
     ensures declared { declared_in table.new ≡ declared_in table.old }
     ensures answered { IfOk result (IsAnswered (state table.old search.old) (state table.new search.new)) }
@@ -143,7 +143,7 @@ fn answer_numbers(
     table: &mut TermTable,
     shared: &[TermId],
 ) -> Result<Round, NoMemory>
-    requires begins { (p : Problem) × (limits : Limits) × Begins table.old p limits search.old }
+    requires begins { (p : Problem) × (limits : Limits) × BeginsSearch table.old p limits search.old }
     requires asked { (p : Problem) × IsAskedOf table.old shared.now p search.old }
     ensures grown { Extends table.old table.new }
     ensures declared { declared_in table.new ≡ declared_in table.old }
@@ -168,10 +168,10 @@ fn search_with(
     theory: &mut Combined,
     shared: &[TermId],
 ) -> Result<Round, Stop>
-    requires begins { (p : Problem) × (limits : Limits) × Begins table.old p limits search.old }
+    requires begins { (p : Problem) × (limits : Limits) × BeginsSearch table.old p limits search.old }
     requires asked { (p : Problem) × IsAskedOf table.old shared.now p search.old }
     requires empty { theory_of theory.old.congruence ≡ record { held = []; watched = []; marks = [] } }
-    requires congruence { AreOf table.old theory.old.congruence.now.facts }
+    requires congruence { AreFactsOf table.old theory.old.congruence.now.facts }
     requires simplex { Suits theory.old.simplex table.old }
     requires came { (ts : List Term) → CameBy table.old ts 0 [] theory.old.simplex }
     ensures grown { Extends table.old table.new }
@@ -206,12 +206,12 @@ fn answer_rested(
     requires rested { HasRested table.now search.now (theory_of theory.now.congruence)
         (AgreeBoth (terms_watched table.now (theory_of theory.now.congruence))
         (literals_held table.now (theory_of theory.now.congruence)) theory.now) }
-    requires congruence { AreOf table.now theory.now.congruence.now.facts }
+    requires congruence { AreFactsOf table.now theory.now.congruence.now.facts }
     requires simplex { Suits theory.now.simplex table.now }
     requires came { HasCome table.now search.now theory.now.simplex }
     requires asked { (p : Problem) × IsAskedOf table.now shared.now p search.now }
     ensures ends { IfOk result (RestsRound table.now search.now shared.now) }
-    ensures strained { IfErr result (StopsBy (λ s. Shows table.now table.now search.now search.now
+    ensures strained { IfErr result (StopsBy (λ s. ShowsAnswer table.now table.now search.now search.now
         (Unknown (Overflow s))) (λ _. ⊥)) }
 {
     theory.parts_hold_the_same();

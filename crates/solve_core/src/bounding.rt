@@ -8,7 +8,7 @@ ghost use Rattle.spec_derivations.specs.Problems.{Problem};
 ghost use Rattle.term_core.specs.Tables.{declared_in, Extends};
 ghost use Rattle.sat_budget.specs.declared.limits.Limits.{Limits as LimitsOf};
 ghost use Rattle.simplex.specs.Checks.{Suits};
-ghost use Rattle.search_loop.specs.Rounds.{Begins};
+ghost use Rattle.search_loop.specs.Rounds.{BeginsSearch};
 ghost use Rattle.bound_lemmas.specs.Pairs.{IsPairOf};
 ghost use Rattle.solve_core.specs.Relating.{HasRelated};
 
@@ -36,7 +36,7 @@ fn relate(
     theory: &mut Simplex,
     pair: (Lit, Lit),
 ) -> Result<(), NoMemory>
-    requires begins { (p : Problem) × (limits : LimitsOf) × Begins table.old p limits search.old }
+    requires begins { (p : Problem) × (limits : LimitsOf) × BeginsSearch table.old p limits search.old }
     requires idle { theory.old.theory ≡ record { held = []; watched = search.old.terms.items; marks = [] } }
     requires with { Suits theory.old table.old }
     requires pair { IsPairOf search.old.atoms.items pair }
@@ -60,7 +60,7 @@ fn relate_all(
     theory: &mut Simplex,
     pairs: &[(Lit, Lit)],
 ) -> Result<(), NoMemory>
-    requires begins { (p : Problem) × (limits : LimitsOf) × Begins table.old p limits search.old }
+    requires begins { (p : Problem) × (limits : LimitsOf) × BeginsSearch table.old p limits search.old }
     requires idle { theory.old.theory ≡ record { held = []; watched = search.old.terms.items; marks = [] } }
     requires with { Suits theory.old table.old }
     requires pairs { All (IsPairOf search.old.atoms.items) pairs.now }
@@ -78,7 +78,7 @@ fn relate_all(
 ///
 /// Where a number leaves 128 bits, no clause comes. `NoMemory` comes where memory ran out.
 pub(crate) fn relate_bounds(search: &mut Search, table: &mut TermTable) -> Result<(), NoMemory>
-    requires begins { (p : Problem) × (limits : LimitsOf) × Begins table.old p limits search.old }
+    requires begins { (p : Problem) × (limits : LimitsOf) × BeginsSearch table.old p limits search.old }
     ensures grown { Extends table.old table.new }
     ensures declared { declared_in table.new ≡ declared_in table.old }
     ensures related { OnOk result (HasRelated table.old table.new search.old search.new) }

@@ -6,7 +6,7 @@ ghost use Rattle.spec_tableaux.specs.Numbers.{numbers as exact};
 ghost use Rattle.ratio128.specs.Meant.{fraction};
 ghost use Rattle.proof_log.specs.Theories.{TheoryView, terms_watched, literals_held};
 ghost use Rattle.search_loop.specs.declared.cdcl.Answer.TheVariants.{Sat};
-ghost use Rattle.search_loop.specs.Rounds.{Shows};
+ghost use Rattle.search_loop.specs.Rounds.{ShowsAnswer};
 ghost use Rattle.search_loop.specs.Asking.{HasRested};
 ghost use Rattle.solve_core.specs.Answering.{HoldTogether};
 
@@ -49,7 +49,7 @@ pub(crate) fn model(search: &Search, table: &TermTable, said: &Said) -> Result<I
     requires rested { (v : TheoryView)
         × HasRested table.now search.now v (IsFine (terms_watched table.now v) (literals_held table.now v))
         × HoldTogether table.now search.now.terms.items v said.now.classes.items (map fraction said.now.numbers.items) }
-    ensures { IfOk result (λ interp. Shows table.now table.now search.now search.now (Sat interp)) }
+    ensures { IfOk result (λ interp. ShowsAnswer table.now table.now search.now search.now (Sat interp)) }
 {
     listed_terms_have_their_places_class();
     terms_of_linear_checks_are_linear();

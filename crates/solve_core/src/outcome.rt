@@ -4,7 +4,7 @@ ghost use Rattle.std.specs.Prelude.{◌≡◌, IfOk, OnErr};
 ghost use Rattle.search_loop.specs.Answered.{AreAnswered};
 ghost use Rattle.term_core.specs.Tables.{declared_in, Extends, clause_at};
 ghost use Rattle.proof_log.specs.Logs.{AreFormulasIn};
-ghost use Rattle.solve_core.specs.Decisions.{IsStrainedBy, IsDecided};
+ghost use Rattle.solve_core.specs.Decisions.{IsStrainedBy, HasDecision};
 ghost use Rattle.solve_core.specs.Rounds.{IsOpenFor, IsRound};
 
 use crate::answering::{Round, answer};
@@ -51,7 +51,7 @@ pub fn decide(
     requires answered { AreAnswered (clause_at table.old roots.now) }
     ensures grown { Extends table.old table.new }
     ensures declared { declared_in table.new ≡ declared_in table.old }
-    ensures decided { IfOk result (IsDecided table.new (clause_at table.old roots.now) limits.now) }
+    ensures decided { IfOk result (HasDecision table.new (clause_at table.old roots.now) limits.now) }
     ensures same { OnErr result (table.new ≡ table.old) }
 {
     let len = table.len();
@@ -146,7 +146,7 @@ fn decided(
     requires answered { AreAnswered (clause_at table.old roots.now) }
     ensures grown { Extends table.old table.new }
     ensures declared { declared_in table.new ≡ declared_in table.old }
-    ensures decided { IfOk result (IsDecided table.new (clause_at table.old roots.now) limits.now) }
+    ensures decided { IfOk result (HasDecision table.new (clause_at table.old roots.now) limits.now) }
 {
     empty_logs_are_right();
     if let Some(wide) = first_overflow(alloc, table, roots)? {

@@ -5,7 +5,7 @@ ghost use Rattle.spec_text.specs.Bytes.{Name};
 ghost use Rattle.spec_sorts.specs.Terms.{Symbol, Number, sort_of};
 ghost use Rattle.spec_sorts.specs.Subterms.{subterms_of};
 ghost use Rattle.term_core.specs.Tables.{IsIn, AreIn, term_at, clause_at, head_over};
-ghost use Rattle.solve_core.specs.Sharing.{is_declared, reals_in, shared_by, Adds, AreSharedOf};
+ghost use Rattle.solve_core.specs.Sharing.{is_declared, reals_in, shared_by, AddsSharedTerms, AreSharedOf};
 
 use std::alloc::Global;
 use std::slice;
@@ -60,7 +60,7 @@ pub(crate) fn is_declared(head: Head) -> bool
 /// another term nothing.
 fn add_shared(table: &TermTable, id: TermId, ids: &mut Vec<TermId>) -> Result<(), NoMemory>
     requires { IsIn table.now id }
-    ensures { OnOk result (Adds table.now ids.old.items ids.new.items (shared_by (term_at table.now id))) }
+    ensures { OnOk result (AddsSharedTerms table.now ids.old.items ids.new.items (shared_by (term_at table.now id))) }
 {
     let node = table.node(id);
     if !is_declared(node.head) {
@@ -78,7 +78,7 @@ fn add_shared(table: &TermTable, id: TermId, ids: &mut Vec<TermId>) -> Result<()
 /// Adds those of these terms that are Real.
 fn add_reals(table: &TermTable, terms: &[TermId], ids: &mut Vec<TermId>) -> Result<(), NoMemory>
     requires { AreIn table.now terms.now }
-    ensures { OnOk result (Adds table.now ids.old.items ids.new.items (reals_in (clause_at table.now terms.now))) }
+    ensures { OnOk result (AddsSharedTerms table.now ids.old.items ids.new.items (reals_in (clause_at table.now terms.now))) }
 {
     'terms: for id in terms.iter() {
         if !is_number(table, *id) {

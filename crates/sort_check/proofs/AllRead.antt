@@ -13,8 +13,8 @@ use Rattle.term_core.specs.declared.ids.TermId.{TermId}
 use Rattle.term_core.specs.Tables.{IsIn}
 use Rattle.term_reader.specs.declared.faults.ReadError.{ReadError}
 use Rattle.term_reader.specs.declared.faults.ReadError.TheVariants.{Fault, Memory}
-use Rattle.term_reader.specs.Building.{Keeps}
-use Rattle.term_reader.specs.Scopes.{Stands}
+use Rattle.term_reader.specs.Building.{KeepsTable}
+use Rattle.term_reader.specs.Scopes.{ScopeMeans}
 use Rattle.sort_check.specs.Reads.{all_of_sort, Store, HasFault, HasTerms}
 use Rattle.sort_check.specs.Rows.{HasOne}
 use Rattle.sort_check.specs.Walks.{AllMean}
@@ -32,16 +32,16 @@ pub record IsAll (w : Setting) (s : Signature) (sort : Sort) (texts : Trees × T
   -- the numbers of the terms
   pub terms : AllMean now.table ids done
   -- what they define is there
-  pub stands : Stands now.table now.scope (with_definitions s made)
+  pub stands : ScopeMeans now.table now.scope (with_definitions s made)
 
-pub all_begin : (w : Setting) (s : Signature) (sort : Sort) (all : Trees) (now : Store) → Stands now.table now.scope s → IsAll w s sort (all, all) now []
+pub all_begin : (w : Setting) (s : Signature) (sort : Sort) (all : Trees) (now : Store) → ScopeMeans now.table now.scope s → IsAll w s sort (all, all) now []
 unfolding ◌>>=◌
 all_begin w s sort all now h = record {
   made = [];
   done = [];
   same = go (all_of_sort w s sort all) ∙ ap (λ x. all_of_sort w x sort all >>= λ rs. Ok (record { made = [] ++ rs.made; terms = [] ++ rs.terms })) (sym (with_no s));
   terms = (All-nil (λ i. IsIn now.table i), refl);
-  stands = subst (Stands now.table now.scope) (sym (with_no s)) h;
+  stands = subst (ScopeMeans now.table now.scope) (sym (with_no s)) h;
 }
   where
     go : (a : Answer Readings) → a ≡ (a >>= λ rs. Ok (record { made = [] ++ rs.made; terms = [] ++ rs.terms }))
@@ -62,7 +62,7 @@ module _ (w : Setting) (s : Signature) (sort : Sort) (all rest after : Trees) (t
   all_stop (Fault f) e = next ∙ ap (λ a. let z : Answer Readings = (a >>= λ r. all_of_sort w (with_definitions known r.made) sort after >>= λ rs. Ok (record { made = r.made ++ rs.made; terms = r.term ∷ rs.terms })) in z >>= λ rs. Ok (record { made = h.made ++ rs.made; terms = h.done ++ rs.terms })) e
   all_stop Memory e = tt
 
-  pub all_go : (new : Store) (id : TermId) (nums : List TermId) → Keeps now.table new.table → HasOne known new (reading_of_sort w known [] sort t) (id, nums) → IsAll w s sort (all, after) new (ids ++ id ∷ [])
+  pub all_go : (new : Store) (id : TermId) (nums : List TermId) → KeepsTable now.table new.table → HasOne known new (reading_of_sort w known [] sort t) (id, nums) → IsAll w s sort (all, after) new (ids ++ id ∷ [])
   unfolding ◌>>=◌ all_of_sort
   all_go new id nums keeps k =
       let x : Reading = k.reading in
@@ -75,7 +75,7 @@ module _ (w : Setting) (s : Signature) (sort : Sort) (all rest after : Trees) (t
             ∙ further x (all_of_sort w (with_definitions known x.made) sort after)
             ∙ ap (λ y. all_of_sort w y sort after >>= λ rs. Ok (record { made = (h.made ++ x.made) ++ rs.made; terms = (h.done ++ x.term ∷ []) ++ rs.terms })) (sym (with_both s h.made x.made));
         terms = mean_push new.table ids id h.done x.term (mean_kept now.table new.table keeps ids h.done h.terms) k.term.0 k.term.1;
-        stands = subst (Stands new.table new.scope) (sym (with_both s h.made x.made)) k.stands;
+        stands = subst (ScopeMeans new.table new.scope) (sym (with_both s h.made x.made)) k.stands;
       }
     where
       further : (x : Reading) (a : Answer Readings) → (let y : Answer Readings = (let z : Answer Readings = (a >>= λ rs. Ok (record { made = x.made ++ rs.made; terms = x.term ∷ rs.terms })) in z >>= λ rs. Ok (record { made = h.made ++ rs.made; terms = h.done ++ rs.terms })) in y)

@@ -14,7 +14,7 @@ use Rattle.spec_text.specs.Bytes.{among}
 use Rattle.std.specs.Str.{bytes_eq}
 use Rattle.std.proofs.lemmas.Bool.{or_parts, cases_lt}
 use Rattle.std.proofs.lemmas.Bool.Decides.{nat_tests}
-use Rattle.sort_check.specs.Bindings.{BindingsView, with_term, bound_at, paired, waiting_at}
+use Rattle.sort_check.specs.Bindings.{BindingsView, named_term, bound_at, paired, waiting_at}
 use Rattle.sort_check.specs.Steps.{HasBound}
 
 -- a name that has a place is among them
@@ -65,21 +65,21 @@ module _ (t : TableView) where
   -- names that wait by the first of them, and the others
   pub waiting_front : (v : BindingsView) (outer more : Bound) (k : ℕ) → length outer ≡ k → waiting_at t v ≡ outer ++ more → waiting_at t (record { names = take k v.names; terms = take k v.terms }) ≡ outer
   waiting_front v outer more k l e =
-      ap (map (with_term t)) (paired_take k v.names v.terms) ∙ sym (take-map (with_term t) k (paired v.names v.terms)) ∙ ap (take k) e ∙ take_at outer more k l
+      ap (map (named_term t)) (paired_take k v.names v.terms) ∙ sym (take-map (named_term t) k (paired v.names v.terms)) ∙ ap (take k) e ∙ take_at outer more k l
 
-  pub waiting_back : (v : BindingsView) (outer more : Bound) (k : ℕ) → length v.names ≡ length v.terms → length outer ≡ k → waiting_at t v ≡ outer ++ more → map (with_term t) (paired (drop k v.names) (drop k v.terms)) ≡ more
+  pub waiting_back : (v : BindingsView) (outer more : Bound) (k : ℕ) → length v.names ≡ length v.terms → length outer ≡ k → waiting_at t v ≡ outer ++ more → map (named_term t) (paired (drop k v.names) (drop k v.terms)) ≡ more
   waiting_back v outer more k long l e =
-      ap (map (with_term t)) (paired_drop k v.names v.terms long) ∙ sym (drop-map (with_term t) k (paired v.names v.terms)) ∙ ap (drop k) e ∙ drop_at outer more k l
+      ap (map (named_term t)) (paired_drop k v.names v.terms long) ∙ sym (drop-map (named_term t) k (paired v.names v.terms)) ∙ ap (drop k) e ∙ drop_at outer more k l
 
   pub waiting_push : (v : BindingsView) (n : Name) (id : TermId) → length v.names ≡ length v.terms → waiting_at t (record { names = v.names ++ n ∷ []; terms = v.terms ++ id ∷ [] }) ≡ waiting_at t v ++ (n, term_at t id) ∷ []
-  waiting_push v n id long = ap (map (with_term t)) (paired_push v.names v.terms n id long) ∙ map-append (with_term t) (paired v.names v.terms) ((n, id) ∷ [])
+  waiting_push v n id long = ap (map (named_term t)) (paired_push v.names v.terms n id long) ∙ map-append (named_term t) (paired v.names v.terms) ((n, id) ∷ [])
 
   -- as many names as wait
   pub waiting_long : (v : BindingsView) (b : Bound) → length v.names ≡ length v.terms → waiting_at t v ≡ b → length v.names ≡ length b
-  waiting_long v b long e = sym (paired_long v.names v.terms long) ∙ sym (length-map (paired v.names v.terms) (with_term t)) ∙ ap length e
+  waiting_long v b long e = sym (paired_long v.names v.terms long) ∙ sym (length-map (paired v.names v.terms) (named_term t)) ∙ ap length e
 
   -- the names of pairs
-  names_paired : (ns : List Name) (ids : List TermId) → length ns ≡ length ids → bound_names (map (with_term t) (paired ns ids)) ≡ ns
+  names_paired : (ns : List Name) (ids : List TermId) → length ns ≡ length ids → bound_names (map (named_term t) (paired ns ids)) ≡ ns
   names_paired [] ids l = refl
   names_paired (n ∷ ns) [] l = absurd (omega (arith, l))
   names_paired (n ∷ ns) (id ∷ ids) l = ap (λ ms. n ∷ ms) (names_paired ns ids (omega (arith, l)))
@@ -94,13 +94,13 @@ module _ (t : TableView) where
   pub bound_more : (k : ℕ) (v b u c : BindingsView) (outer more bound : Bound) → HasBound k v b u c → length v.names ≡ length v.terms → length b.names ≡ length b.terms → length outer ≡ k → waiting_at t v ≡ outer ++ more → bound_at t b ≡ bound
       → bound_at t c ≡ more ++ bound
   bound_more k v b u c outer more bound h long also l e is =
-      (λ i. map (with_term t) (newest (h.bound_names i) (h.bound_terms i)))
-      ∙ ap (map (with_term t)) (newest_reversed b.names (drop k v.names) b.terms (drop k v.terms) also (dropped_long k v.names v.terms long))
-      ∙ map-append (with_term t) (paired (drop k v.names) (drop k v.terms)) (newest b.names b.terms)
+      (λ i. map (named_term t) (newest (h.bound_names i) (h.bound_terms i)))
+      ∙ ap (map (named_term t)) (newest_reversed b.names (drop k v.names) b.terms (drop k v.terms) also (dropped_long k v.names v.terms long))
+      ∙ map-append (named_term t) (paired (drop k v.names) (drop k v.terms)) (newest b.names b.terms)
       ∙ (λ i. waiting_back v outer more k long l e i ++ is i)
 
   pub waiting_less : (k : ℕ) (v b u c : BindingsView) (outer more : Bound) → HasBound k v b u c → length outer ≡ k → waiting_at t v ≡ outer ++ more → waiting_at t u ≡ outer
-  waiting_less k v b u c outer more h l e = (λ i. map (with_term t) (paired (h.names i) (h.terms i))) ∙ waiting_front v outer more k l e
+  waiting_less k v b u c outer more h l e = (λ i. map (named_term t) (paired (h.names i) (h.terms i))) ∙ waiting_front v outer more k l e
 
 -- names from a place on
 pub none_from : (ns : List Name) (n : Name) (k : ℕ) → among ns n ≡ false → among (drop k ns) n ≡ false
@@ -209,14 +209,14 @@ newest_long (n ∷ ns) (x ∷ xs) l = omega (arith, length-append (newest ns xs)
 -- the names that were bound before others
 pub bound_front : (t : TableView) (v : BindingsView) (inner outer : Bound) (k : ℕ) → length v.names ≡ length v.terms → bound_at t v ≡ inner ++ outer → length outer ≡ k → bound_at t (record { names = take k v.names; terms = take k v.terms }) ≡ outer
 bound_front t v inner outer k long e l =
-    let parts : map (with_term t) (newest (drop k v.names) (drop k v.terms)) ++ bound_at t (record { names = take k v.names; terms = take k v.terms }) ≡ inner ++ outer =
-    sym (map-append (with_term t) (newest (drop k v.names) (drop k v.terms)) (newest (take k v.names) (take k v.terms))) ∙ ap (map (with_term t)) (sym (newest_split k v.names v.terms long)) ∙ e in
-    let all : length v.names ≡ length inner + k = omega (arith, sym (newest_long v.names v.terms long) ∙ sym (length-map (newest v.names v.terms) (with_term t)) ∙ ap length e ∙ length-append inner outer, l) in
+    let parts : map (named_term t) (newest (drop k v.names) (drop k v.terms)) ++ bound_at t (record { names = take k v.names; terms = take k v.terms }) ≡ inner ++ outer =
+    sym (map-append (named_term t) (newest (drop k v.names) (drop k v.terms)) (newest (take k v.names) (take k v.terms))) ∙ ap (map (named_term t)) (sym (newest_split k v.names v.terms long)) ∙ e in
+    let all : length v.names ≡ length inner + k = omega (arith, sym (newest_long v.names v.terms long) ∙ sym (length-map (newest v.names v.terms) (named_term t)) ∙ ap length e ∙ length-append inner outer, l) in
     let taken : length (take k v.names) ≡ k = omega (arith, length-take k v.names, all) in
     let also : length (take k v.terms) ≡ k = omega (arith, length-take k v.terms, all, long) in
-    suffix_same (map (with_term t) (newest (drop k v.names) (drop k v.terms))) (bound_at t (record { names = take k v.names; terms = take k v.terms })) inner outer parts
-    (length-map (newest (take k v.names) (take k v.terms)) (with_term t) ∙ newest_long (take k v.names) (take k v.terms) (taken ∙ sym also) ∙ taken ∙ sym l)
+    suffix_same (map (named_term t) (newest (drop k v.names) (drop k v.terms))) (bound_at t (record { names = take k v.names; terms = take k v.terms })) inner outer parts
+    (length-map (newest (take k v.names) (take k v.terms)) (named_term t) ∙ newest_long (take k v.names) (take k v.terms) (taken ∙ sym also) ∙ taken ∙ sym l)
 
 -- as many terms as names are bound
 pub bound_long : (t : TableView) (v : BindingsView) (b : Bound) → length v.names ≡ length v.terms → bound_at t v ≡ b → length b ≡ length v.names
-bound_long t v b long e = ap length (sym e) ∙ length-map (newest v.names v.terms) (with_term t) ∙ newest_long v.names v.terms long
+bound_long t v b long e = ap length (sym e) ∙ length-map (newest v.names v.terms) (named_term t) ∙ newest_long v.names v.terms long

@@ -13,23 +13,23 @@ use Rattle.term_core.specs.declared.ids.TermId.{TermId}
 use Rattle.term_core.specs.Tables.{TableView, term_at, IsIn, AreIn}
 use Rattle.term_reader.specs.NameStacks.{newest}
 use Rattle.term_reader.proofs.NameStacks.{look_before, look_after}
-use Rattle.sort_check.specs.Bindings.{BindingsView, with_term, bound_at}
+use Rattle.sort_check.specs.Bindings.{BindingsView, named_term, bound_at}
 
 module _ (t : TableView) where
   -- what is found among names with numbers is found among names with terms
-  look_found : (xs : List (Name × TermId)) (n : Name) (id : TermId) → look_up xs n ≡ Some id → look_up (map (with_term t) xs) n ≡ Some (term_at t id)
+  look_found : (xs : List (Name × TermId)) (n : Name) (id : TermId) → look_up xs n ≡ Some id → look_up (map (named_term t) xs) n ≡ Some (term_at t id)
   look_found [] n id e = cc
   look_found (x ∷ xs) n id e = go (bytes_eq x.0 n) e (look_found xs n id)
     where
-      go : (b : Bool) → cond b (Some x.1) (look_up xs n) ≡ Some id → (look_up xs n ≡ Some id → look_up (map (with_term t) xs) n ≡ Some (term_at t id)) → cond b (Some (term_at t x.1)) (look_up (map (with_term t) xs) n) ≡ Some (term_at t id)
+      go : (b : Bool) → cond b (Some x.1) (look_up xs n) ≡ Some id → (look_up xs n ≡ Some id → look_up (map (named_term t) xs) n ≡ Some (term_at t id)) → cond b (Some (term_at t x.1)) (look_up (map (named_term t) xs) n) ≡ Some (term_at t id)
       go true e rec = let same : x.1 ≡ id = cc in ap (λ i. Some (term_at t i)) same
       go false e rec = rec e
 
-  look_none : (xs : List (Name × TermId)) (n : Name) → look_up xs n ≡ None → look_up (map (with_term t) xs) n ≡ None
+  look_none : (xs : List (Name × TermId)) (n : Name) → look_up xs n ≡ None → look_up (map (named_term t) xs) n ≡ None
   look_none [] n e = refl
   look_none (x ∷ xs) n e = go (bytes_eq x.0 n) e (look_none xs n)
     where
-      go : (b : Bool) → cond b (Some x.1) (look_up xs n) ≡ None → (look_up xs n ≡ None → look_up (map (with_term t) xs) n ≡ None) → cond b (Some (term_at t x.1)) (look_up (map (with_term t) xs) n) ≡ None
+      go : (b : Bool) → cond b (Some x.1) (look_up xs n) ≡ None → (look_up xs n ≡ None → look_up (map (named_term t) xs) n ≡ None) → cond b (Some (term_at t x.1)) (look_up (map (named_term t) xs) n) ≡ None
       go true e rec = cc
       go false e rec = rec e
 
@@ -61,4 +61,4 @@ module _ (t : TableView) where
 
 -- where no name is bound, none is free in a text
 pub unbound_free : (t : TableView) (v : BindingsView) (x : Tree) → length v.names ≡ 0 → mentions (bound_names (bound_at t v)) x ≡ false
-unbound_free t v x e = ap (λ ns. mentions (bound_names (map (with_term t) (newest ns v.terms))) x) (nil_from_length v.names e) ∙ none_mentioned x
+unbound_free t v x e = ap (λ ns. mentions (bound_names (map (named_term t) (newest ns v.terms))) x) (nil_from_length v.names e) ∙ none_mentioned x

@@ -10,8 +10,8 @@ use Rattle.smt_sexpr.specs.Items.{trees_meant}
 use Rattle.term_core.specs.declared.ids.TermId.{TermId}
 use Rattle.term_core.specs.Tables.{TableView, term_at, IsIn, AreIn, clause_at}
 use Rattle.term_reader.specs.declared.faults.ReadError.{ReadError}
-use Rattle.term_reader.specs.Heads.{Answers}
-use Rattle.term_reader.specs.Scopes.{Stands}
+use Rattle.term_reader.specs.Heads.{ReturnsTerm}
+use Rattle.term_reader.specs.Scopes.{ScopeMeans}
 use Rattle.term_reader.proofs.Tables.{keeps_same}
 use Rattle.term_reader.proofs.Standing.{stands_kept}
 use Rattle.sort_check.specs.declared.applied.Called.{Called}
@@ -35,7 +35,7 @@ module _ (w : Setting) (root : Level) (h : Here) (f : Frame) (k : IsWalk w root 
     meant ids is = λ i. applied known (k.bound i) c.place c.name.now c.at ((ap (clause_at h.table) is ∙ (row_values w root h f k).1) i)
 
     pub applied_closes : (t : TableView) (id : TermId) (ids : List TermId) → ids ≡ drop f.from h.values
-        → ((s : Signature) → Stands h.table h.scope s → Answers h.table t (applied s (bound_at h.table h.bound) c.place c.name.now c.at (clause_at h.table ids)) (Ok id))
+        → ((s : Signature) → ScopeMeans h.table h.scope s → ReturnsTerm h.table t (applied s (bound_at h.table h.bound) c.place c.name.now c.at (clause_at h.table ids)) (Ok id))
         → IsWalk w root (record h { table = t; values = take f.from h.values ++ id ∷ []; rest = trees_meant f.after })
     unfolding ◌>>=◌
     applied_closes t id ids is answers =
@@ -55,7 +55,7 @@ module _ (w : Setting) (root : Level) (h : Here) (f : Frame) (k : IsWalk w root 
         k.known (mean_kept h.table t a.keeps h.named (terms_of_definitions k.total) k.named)
 
     pub applied_stops : (t : TableView) (ids : List TermId) → ids ≡ drop f.from h.values → (stop : ReadError)
-        → ((s : Signature) → Stands h.table h.scope s → Answers h.table t (applied s (bound_at h.table h.bound) c.place c.name.now c.at (clause_at h.table ids)) (Err stop))
+        → ((s : Signature) → ScopeMeans h.table h.scope s → ReturnsTerm h.table t (applied s (bound_at h.table h.bound) c.place c.name.now c.at (clause_at h.table ids)) (Err stop))
         → HasFault (readings_in w root.base) stop
     unfolding ◌>>=◌
     applied_stops t ids is stop answers =

@@ -30,8 +30,8 @@ use Rattle.term_core.proofs.NamesApart.{bytes_eq-sym}
 use Rattle.term_reader.specs.declared.scope.Macro.{Macro}
 use Rattle.term_reader.specs.declared.scope.Function.TheVariants.{Defined}
 use Rattle.term_reader.specs.declared.faults.ReadError.{ReadError}
-use Rattle.term_reader.specs.Building.{Keeps, Means}
-use Rattle.term_reader.specs.Scopes.{ScopeView, Stands, IsMacro, SortStands, sort_under}
+use Rattle.term_reader.specs.Building.{KeepsTable, MeansTerm}
+use Rattle.term_reader.specs.Scopes.{ScopeView, ScopeMeans, IsMacro, SortStands, sort_under}
 use Rattle.term_reader.proofs.Standing.{known_last, function_added}
 use Rattle.sort_check.specs.Reads.{Room, within, roomy_definitions, Store, HasFault, EndsDefinition}
 use Rattle.sort_check.specs.Rows.{EndsRoom}
@@ -118,13 +118,13 @@ module _ (w : Setting) (s : Signature) (d : Parts) where
           unfolding ◌>>=◌
           whole_read = from_the_body ∙ ap (λ a. a >>= λ r. all_made ps result r) body
 
-          pub whole_stands : (t : TableView) (v : ScopeView) → Stands t v (with_definitions s r.made) → AreWellSorted s → (m : Macro) → IsMacro t m this → length v.names ≡ length v.functions
-              → Stands t (record v { names = v.names ++ n ∷ []; functions = v.functions ++ Defined m ∷ [] }) (with_definitions s (r.made ++ this ∷ []))
+          pub whole_stands : (t : TableView) (v : ScopeView) → ScopeMeans t v (with_definitions s r.made) → AreWellSorted s → (m : Macro) → IsMacro t m this → length v.names ≡ length v.functions
+              → ScopeMeans t (record v { names = v.names ++ n ∷ []; functions = v.functions ++ Defined m ∷ [] }) (with_definitions s (r.made ++ this ∷ []))
           whole_stands t v h sorts m macro long =
               let made = with_definitions s r.made in
               let none : known_as made n ≡ None = body_free w n s (bound_parameters 0 ps) result d.body r body (unknown s n (not_taken w (is_function s) d.name n fresh)) in
               let both = with_both s r.made (this ∷ []) in
-              subst (Stands t (record v { names = v.names ++ n ∷ []; functions = v.functions ++ Defined m ∷ [] })) (sym both)
+              subst (ScopeMeans t (record v { names = v.names ++ n ∷ []; functions = v.functions ++ Defined m ∷ [] })) (sym both)
               (record {
                 sorts = λ k. subst (SortStands t (sort_under v k)) (sym (sort_same made (defined this) k)) (h.sorts k);
                 functions = function_added t v made n (Defined m) (defined this) long refl h.functions none macro;
@@ -155,7 +155,7 @@ or_none true = refl
 or_none false = refl
 
 -- a definition by the numbers of a table that has grown
-pub macro_is : (old new : TableView) (keeps : Keeps old new) (ns : List Name) (ss : Vec TableSort Global) (sort : TableSort) (id : TermId) (n : Name) (body : Tree) (u : Term) → length ns ≡ length ss.items → HaveSortsIn old.sorts ss.items → HasSortIn old.sorts sort → Means new u id
+pub macro_is : (old new : TableView) (keeps : KeepsTable old new) (ns : List Name) (ss : Vec TableSort Global) (sort : TableSort) (id : TermId) (n : Name) (body : Tree) (u : Term) → length ns ≡ length ss.items → HaveSortsIn old.sorts ss.items → HasSortIn old.sorts sort → MeansTerm new u id
     → IsMacro new (record { parameters = ss; result = sort; body = id }) (record { name = n; parameters = parameters_at old ns ss.items; result = sort_meant old.sorts sort; body = body; term = u })
 macro_is old new keeps ns ss sort id n body u long there is means =
     let same : new.sorts ≡ old.sorts = ap (λ x. x.sorts) keeps.declared in

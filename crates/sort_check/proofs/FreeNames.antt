@@ -14,7 +14,7 @@ use Rattle.spec_reading.specs.Reading.{bound_names}
 use Rattle.term_core.specs.declared.ids.TermId.{TermId}
 use Rattle.term_core.specs.Tables.{TableView}
 use Rattle.term_reader.specs.NameStacks.{newest}
-use Rattle.sort_check.specs.Bindings.{BindingsView, with_term, bound_at}
+use Rattle.sort_check.specs.Bindings.{BindingsView, named_term, bound_at}
 use Rattle.sort_check.specs.Splitting.{first_binding, let_parts}
 use Rattle.sort_check.specs.Walks.{size}
 use Rattle.sort_check.specs.Mentions.{names_of, form_mentions}
@@ -244,6 +244,6 @@ looked_some {A} (x ∷ xs) n a e = go (bytes_eq x.0 n) e (looked_some xs n a)
 pub names_are : (t : TableView) (v : BindingsView) → bound_names (bound_at t v) ≡ names_of v
 names_are t v = go (newest v.names v.terms)
   where
-    go : (xs : List (Name × TermId)) → bound_names (map (with_term t) xs) ≡ map (λ (p : Name × TermId). p.0) xs
+    go : (xs : List (Name × TermId)) → bound_names (map (named_term t) xs) ≡ map (λ (p : Name × TermId). p.0) xs
     go [] = refl
     go (x ∷ xs) = ap (λ ns. x.0 ∷ ns) (go xs)

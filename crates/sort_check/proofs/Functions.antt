@@ -14,7 +14,7 @@ use Rattle.term_core.specs.Tables.{TableView}
 use Rattle.term_reader.specs.declared.scope.Macro.{Macro}
 use Rattle.term_reader.specs.declared.scope.Function.{Function}
 use Rattle.term_reader.specs.declared.scope.Function.TheVariants.{Declared, Defined}
-use Rattle.term_reader.specs.Scopes.{ScopeView, IsMacro, FunctionStands, function_under, Stands}
+use Rattle.term_reader.specs.Scopes.{ScopeView, IsMacro, FunctionStands, function_under, ScopeMeans}
 use Rattle.sort_check.specs.Applied.{IsUsable}
 
 -- the function of a name over symbols, if there is one
@@ -31,7 +31,7 @@ known_over symbols (of_function k ∷ ds) n h = go (bytes_eq (known_name k) n) h
     go true one later = one
     go false one later = later
 
-module _ (t : TableView) (v : ScopeView) (s : Signature) (h : Stands t v s) (n : Name) where
+module _ (t : TableView) (v : ScopeView) (s : Signature) (h : ScopeMeans t v s) (n : Name) where
   stands_for : (f : Option Function) → function_under v n ≡ f → FunctionStands t f (known_as s n)
   stands_for f e = subst (λ o. FunctionStands t o (known_as s n)) e (h.functions n)
 

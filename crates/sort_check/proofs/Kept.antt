@@ -9,29 +9,29 @@ use Rattle.term_core.specs.declared.ids.TermId.{TermId}
 use Rattle.term_core.specs.Tables.{TableView, term_at, IsIn, AreIn}
 use Rattle.term_core.proofs.TermsExtend.{term_at-kept, AreIn-kept, clause_at-kept}
 use Rattle.term_reader.specs.NameStacks.{newest}
-use Rattle.term_reader.specs.Building.{Keeps}
-use Rattle.sort_check.specs.Bindings.{BindingsView, with_term, bound_at, paired, waiting_at}
+use Rattle.term_reader.specs.Building.{KeepsTable}
+use Rattle.sort_check.specs.Bindings.{BindingsView, named_term, bound_at, paired, waiting_at}
 use Rattle.sort_check.specs.Walks.{AllMean}
 
-module _ (old new : TableView) (keeps : Keeps old new) where
+module _ (old new : TableView) (keeps : KeepsTable old new) where
   pub mean_kept : (ids : List TermId) (ts : List Term) → AllMean old ids ts → AllMean new ids ts
   mean_kept ids ts h = (AreIn-kept old new keeps.extends ids h.0, clause_at-kept old new keeps.extends ids h.0 ∙ h.1)
 
   pub in_kept : (ids : List TermId) → AreIn old ids → AreIn new ids
   in_kept ids h = AreIn-kept old new keeps.extends ids h
 
-  newest_kept : (ns : List Name) (ids : List TermId) → AreIn old ids → map (with_term new) (newest ns ids) ≡ map (with_term old) (newest ns ids)
+  newest_kept : (ns : List Name) (ids : List TermId) → AreIn old ids → map (named_term new) (newest ns ids) ≡ map (named_term old) (newest ns ids)
   newest_kept [] ids h = refl
   newest_kept (n ∷ ns) [] h = refl
   newest_kept (n ∷ ns) (id ∷ ids) h =
       let one : term_at new id ≡ term_at old id = term_at-kept old new keeps.extends id (All-head (λ i. IsIn old i) id ids h) in
       let rest = newest_kept ns ids (All-tail (λ i. IsIn old i) id ids h) in
-      map-append (with_term new) (newest ns ids) ((n, id) ∷ []) ∙ (λ i. rest i ++ (n, one i) ∷ []) ∙ sym (map-append (with_term old) (newest ns ids) ((n, id) ∷ []))
+      map-append (named_term new) (newest ns ids) ((n, id) ∷ []) ∙ (λ i. rest i ++ (n, one i) ∷ []) ∙ sym (map-append (named_term old) (newest ns ids) ((n, id) ∷ []))
 
   pub bound_kept : (v : BindingsView) → AreIn old v.terms → bound_at new v ≡ bound_at old v
   bound_kept v h = newest_kept v.names v.terms h
 
-  paired_kept : (ns : List Name) (ids : List TermId) → AreIn old ids → map (with_term new) (paired ns ids) ≡ map (with_term old) (paired ns ids)
+  paired_kept : (ns : List Name) (ids : List TermId) → AreIn old ids → map (named_term new) (paired ns ids) ≡ map (named_term old) (paired ns ids)
   paired_kept [] ids h = refl
   paired_kept (n ∷ ns) [] h = refl
   paired_kept (n ∷ ns) (id ∷ ids) h =

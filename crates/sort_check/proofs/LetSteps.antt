@@ -18,14 +18,14 @@ use Rattle.smt_sexpr.specs.declared.items.Trees.{Trees as Cursor}
 use Rattle.smt_sexpr.specs.Items.{trees_meant, tree_meant}
 use Rattle.term_core.specs.declared.ids.TermId.{TermId}
 use Rattle.term_core.specs.Tables.{TableView, IsIn, AreIn}
-use Rattle.term_reader.specs.Scopes.{Stands}
+use Rattle.term_reader.specs.Scopes.{ScopeMeans}
 use Rattle.sort_check.specs.declared.frames.Opened.{Opened}
 use Rattle.sort_check.specs.declared.frames.Opened.TheVariants.{Binds}
 use Rattle.sort_check.specs.declared.frames.Frame.{Frame}
 use Rattle.sort_check.specs.Bindings.{BindingsView, waiting_at}
 use Rattle.sort_check.specs.Splitting.{first_binding, let_parts}
 use Rattle.sort_check.specs.Steps.{HasBound, IsLetAt}
-use Rattle.sort_check.specs.Walks.{let_of, readings_in, Row, known_after, IsRow, first_term, after_made, let_from, Level, closes, IsUnder, IsWaiting, HasTexts, Opens, Here, AllMean, IsWalk, with_frame, Let, IsInLet}
+use Rattle.sort_check.specs.Walks.{let_of, readings_in, RowProgress, known_after, IsRow, first_term, after_made, let_from, Level, closes, IsUnder, IsWaiting, HasTexts, Opens, Here, AllMean, IsWalk, with_frame, Let, IsInLet}
 use Rattle.sort_check.proofs.Rows.{with_no, row_start, row_fault, chain_fault, chain_push}
 use Rattle.sort_check.proofs.Kept.{in_push, mean_long, mean_front}
 use Rattle.sort_check.proofs.Lets.{in_two, let_next, let_fault, let_body, let_starts}
@@ -63,7 +63,7 @@ module _ (w : Setting) (root : Level) where
         earlier = [];
         is = here s b ∙ let_starts w s b at us (x.bindings, x.body) parts ∙ ap (λ u. let_from w u b [] (x.bindings, x.body)) (sym (with_no s)) ∙ nothing_made (let_from w (with_definitions s []) b [] (x.bindings, x.body));
         values = k.values;
-        stands = subst (Stands h.table h.scope) (sym (with_no s)) k.stands;
+        stands = subst (ScopeMeans h.table h.scope) (sym (with_no s)) k.stands;
         bound_there = k.bound_there;
         bound = k.bound;
         waiting_there = k.waiting_there;
@@ -78,7 +78,7 @@ module _ (w : Setting) (root : Level) where
     abbrev in_let : Signature
     in_let = with_definitions (with_definitions k.level.base.signature k.made) k.begun
 
-    abbrev row_around : Row
+    abbrev row_around : RowProgress
     row_around = record { base = k.level.base; made = k.made; done = k.done }
 
     -- the names of the bindings before, as the code has them
@@ -136,7 +136,7 @@ module _ (w : Setting) (root : Level) where
           row = subst (IsRow w (record { base = m.base; made = []; done = [] })) (sym texts_is) (row_start w m.base);
           chain = chain_push w h.frames root k.level m f k.chain opens;
           values = subst (AllMean h.table h.values) (sym (append-nil (k.level.below ++ k.done))) k.values;
-          stands = subst (Stands h.table h.scope) (sym (with_no in_let)) k.stands;
+          stands = subst (ScopeMeans h.table h.scope) (sym (with_no in_let)) k.stands;
           bound_there = k.bound_there;
           bound = k.bound;
           waiting_there = k.waiting_there;
@@ -186,7 +186,7 @@ module _ (w : Setting) (root : Level) where
           row = subst (IsRow w (record { base = m.base; made = []; done = [] })) (sym texts_is) (row_start w m.base);
           chain = chain_push w h.frames root k.level m f k.chain opens;
           values = subst (AllMean h.table h.values) (sym (append-nil (k.level.below ++ k.done))) k.values;
-          stands = subst (Stands h.table h.scope) (sym (with_no in_let)) k.stands;
+          stands = subst (ScopeMeans h.table h.scope) (sym (with_no in_let)) k.stands;
           bound_there = subst (AreIn h.table) (sym bind.bound_terms) (All-append (λ i. IsIn h.table i) h.bound.terms (reverse (drop x.waited h.waiting.terms)) k.bound_there (all_reversed h.table (drop x.waited h.waiting.terms) (All-drop (λ i. IsIn h.table i) x.waited h.waiting.terms k.waiting_there)));
           bound = bound_more h.table x.waited h.waiting h.bound u c k.level.waiting k.earlier b bind long also k.waited k.waiting k.bound;
           waiting_there = subst (AreIn h.table) (sym bind.terms) (All-take (λ i. IsIn h.table i) x.waited h.waiting.terms k.waiting_there);
@@ -244,7 +244,7 @@ module _ (w : Setting) (root : Level) (h : Here) (f : Frame) (k : IsWalk w root 
         earlier = z.1 ++ (name.now, u) ∷ [];
         is = whole;
         values = subst (AllMean h.table (take f.from h.values)) o.below front;
-        stands = subst (Stands h.table h.scope) known k.stands;
+        stands = subst (ScopeMeans h.table h.scope) known k.stands;
         bound_there = k.bound_there;
         bound = k.bound ∙ under;
         waiting_there = subst (λ (v : BindingsView). AreIn h.table v.terms) (sym is) (in_push h.table h.waiting.terms (get_or h.values f.from d) k.waiting_there one.1.0);

@@ -14,7 +14,7 @@ use Rattle.sort_check.specs.declared.mentions.Left.{Left}
 use Rattle.sort_check.specs.declared.mentions.Left.TheVariants.{Terms, Values, Body, Back}
 use Rattle.sort_check.specs.Splitting.{first_binding, let_parts}
 use Rattle.sort_check.specs.Walks.{size, sizes}
-use Rattle.sort_check.specs.Mentions.{Rest, with_next, left_mentions, rest_mentions, left_size, Looks}
+use Rattle.sort_check.specs.Mentions.{Rest, with_next, left_mentions, rest_mentions, left_size, FindsName}
 use Rattle.sort_check.proofs.Definitions.{or_none}
 use Rattle.sort_check.proofs.Lets.{let_size}
 use Rattle.sort_check.proofs.FreeNames.{same_mentions, without_both, without_none, any_none, any_more, first_more, binding_more, let_more}
@@ -30,12 +30,12 @@ answers_along a f (Err e) same h = tt
 
 module _ (ns : List Name) where
   -- whether a name is found in what is looked at, and what is left
-  pub looks_by : (all b : Bool) (most : ℕ) (r : Rest) → all ≡ (b || rest_mentions ns r) → left_size r.left < most → Looks ns all most r (Ok b)
+  pub looks_by : (all b : Bool) (most : ℕ) (r : Rest) → all ≡ (b || rest_mentions ns r) → left_size r.left < most → FindsName ns all most r (Ok b)
   looks_by all true most r e less = e
   looks_by all false most r e less = (e, less)
 
   -- the same of a text of which that is the part that is left
-  pub looks_along : (all whole : Bool) (most least : ℕ) (r : Rest) (x : Result Bool NoMemory) → whole ≡ all → most ≤ least → Looks ns all most r x → Looks ns whole least r x
+  pub looks_along : (all whole : Bool) (most least : ℕ) (r : Rest) (x : Result Bool NoMemory) → whole ≡ all → most ≤ least → FindsName ns all most r x → FindsName ns whole least r x
   looks_along all whole most least r (Ok true) e le h = e ∙ h
   looks_along all whole most least r (Ok false) e le h = (e ∙ h.0, omega (arith, h.1, le))
   looks_along all whole most least r (Err x) e le h = tt
@@ -47,12 +47,12 @@ module _ (ns : List Name) where
       ∙ (λ i. mentions (without ns (sym e i)) t || left_mentions ns (sym e i) (reverse (sym f i)))
 
   module _ (inner : List Name) (left : List Left) (t : Tree) (no_inner : inner ≡ []) (no_left : left ≡ []) (r : Rest) (b : Bool)
-      (h : Looks ns (mentions (without ns inner) t || left_mentions ns inner (reverse left)) (size t + left_size (reverse left)) r (Ok b)) where
+      (h : FindsName ns (mentions (without ns inner) t || left_mentions ns inner (reverse left)) (size t + left_size (reverse left)) r (Ok b)) where
     -- a name is found in what is looked at first
     pub found_first : b ≡ true → mentions ns t ≡ true
     found_first e = whole_begins inner left t no_inner no_left ∙ go b e h
       where
-        go : (d : Bool) → d ≡ true → Looks ns (mentions (without ns inner) t || left_mentions ns inner (reverse left)) (size t + left_size (reverse left)) r (Ok d) → (mentions (without ns inner) t || left_mentions ns inner (reverse left)) ≡ true
+        go : (d : Bool) → d ≡ true → FindsName ns (mentions (without ns inner) t || left_mentions ns inner (reverse left)) (size t + left_size (reverse left)) r (Ok d) → (mentions (without ns inner) t || left_mentions ns inner (reverse left)) ≡ true
         go true e h = h
         go false e h = cc
 
@@ -60,15 +60,15 @@ module _ (ns : List Name) where
     pub found_later : b ≡ false → mentions ns t ≡ rest_mentions ns r
     found_later e = whole_begins inner left t no_inner no_left ∙ go b e h
       where
-        go : (d : Bool) → d ≡ false → Looks ns (mentions (without ns inner) t || left_mentions ns inner (reverse left)) (size t + left_size (reverse left)) r (Ok d) → (mentions (without ns inner) t || left_mentions ns inner (reverse left)) ≡ rest_mentions ns r
+        go : (d : Bool) → d ≡ false → FindsName ns (mentions (without ns inner) t || left_mentions ns inner (reverse left)) (size t + left_size (reverse left)) r (Ok d) → (mentions (without ns inner) t || left_mentions ns inner (reverse left)) ≡ rest_mentions ns r
         go true e h = cc
         go false e h = h.0
 
   -- the parts of a `let` are left
   pub let_left : (r new : Rest) (us : Trees) (bindings body : Cursor) → let_parts us ≡ Some (trees_meant bindings, tree_meant body) → new ≡ with_next (Values bindings) (with_next (Body bindings body) r)
-      → Looks ns (let_mentions (without ns r.inner) us || rest_mentions ns r) (3 + (sizes us + left_size r.left)) new (Ok false)
+      → FindsName ns (let_mentions (without ns r.inner) us || rest_mentions ns r) (3 + (sizes us + left_size r.left)) new (Ok false)
   let_left r new us bindings body parts is =
-      subst (λ x. Looks ns (let_mentions (without ns r.inner) us || rest_mentions ns r) (3 + (sizes us + left_size r.left)) x (Ok false)) (sym is) (
+      subst (λ x. FindsName ns (let_mentions (without ns r.inner) us || rest_mentions ns r) (3 + (sizes us + left_size r.left)) x (Ok false)) (sym is) (
         ap (λ b. b || rest_mentions ns r) (let_more (without ns r.inner) us (trees_meant bindings) (tree_meant body) parts)
             ∙ or_assoc (binding_mentions (without ns r.inner) (trees_meant bindings)) (mentions (without (without ns r.inner) (names_bound (trees_meant bindings))) (tree_meant body)) (rest_mentions ns r),
         omega (arith, let_size us (trees_meant bindings) (tree_meant body) parts),
@@ -76,10 +76,10 @@ module _ (ns : List Name) where
 
   -- the term before attributes is left
   pub annotated_left : (r new : Rest) (us : Trees) (text : Cursor) (after : Trees) → us ≡ more (tree_meant text) after → trees_meant text ≡ more (tree_meant text) none → new ≡ with_next (Terms text) r
-      → Looks ns (first_mentions (without ns r.inner) us || rest_mentions ns r) (2 + (sizes us + left_size r.left)) new (Ok false)
+      → FindsName ns (first_mentions (without ns r.inner) us || rest_mentions ns r) (2 + (sizes us + left_size r.left)) new (Ok false)
   annotated_left r new us text after first one is =
       let w = without ns r.inner in
-      subst (λ x. Looks ns (first_mentions w us || rest_mentions ns r) (2 + (sizes us + left_size r.left)) x (Ok false)) (sym is) (
+      subst (λ x. FindsName ns (first_mentions w us || rest_mentions ns r) (2 + (sizes us + left_size r.left)) x (Ok false)) (sym is) (
         ap (λ b. b || rest_mentions ns r)
             (ap (first_mentions w) first ∙ first_more w (tree_meant text) after ∙ sym (or_none (mentions w (tree_meant text)))
             ∙ ap (λ b. mentions w (tree_meant text) || b) (sym (any_none w)) ∙ sym (any_more w (tree_meant text) none) ∙ ap (any_mentions w) (sym one)),
@@ -88,9 +88,9 @@ module _ (ns : List Name) where
 
   -- the arguments of a name that is not free are left
   pub applied_left : (r new : Rest) (arguments : Cursor) (n : Name) (all : Bool) → all ≡ ((among (without ns r.inner) n || any_mentions (without ns r.inner) (trees_meant arguments)) || rest_mentions ns r) → among (without ns r.inner) n ≡ false
-      → new ≡ with_next (Terms arguments) r → Looks ns all (3 + (sizes (trees_meant arguments) + left_size r.left)) new (Ok false)
+      → new ≡ with_next (Terms arguments) r → FindsName ns all (3 + (sizes (trees_meant arguments) + left_size r.left)) new (Ok false)
   applied_left r new arguments n all e free is =
-      subst (λ x. Looks ns all (3 + (sizes (trees_meant arguments) + left_size r.left)) x (Ok false)) (sym is) (
+      subst (λ x. FindsName ns all (3 + (sizes (trees_meant arguments) + left_size r.left)) x (Ok false)) (sym is) (
         e ∙ ap (λ b. (b || any_mentions (without ns r.inner) (trees_meant arguments)) || rest_mentions ns r) free,
         omega arith,
       )

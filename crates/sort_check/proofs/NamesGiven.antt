@@ -28,7 +28,7 @@ use Rattle.term_reader.proofs.Standing.{function_added}
 use Rattle.term_reader.specs.declared.faults.ReadError.{ReadError}
 use Rattle.term_reader.specs.declared.faults.ReadError.TheVariants.{Fault, Memory}
 use Rattle.term_reader.specs.Names.{located_of}
-use Rattle.sort_check.specs.Naming.{NamesStand, HasNamed, wanted_word, or_keyword, next_word, listed}
+use Rattle.sort_check.specs.Naming.{NamesStand, HasNamed, wanted_word, or_keyword, next_word, listed_word}
 use Rattle.sort_check.specs.Reads.{HasFault}
 use Rattle.sort_check.specs.Walks.{AllMean, terms_of_definitions}
 use Rattle.sort_check.proofs.Rows.{with_no}
@@ -85,10 +85,10 @@ no_words a_value = refl
 no_words a_name = refl
 
 -- the word that stands next, and those after it
-pub words_next : (next : Next) (t : Tree) (ts : Trees) → named_words next (more t ts) ≡ listed (wanted_word next t) ++ named_words (next_word next t) ts
+pub words_next : (next : Next) (t : Tree) (ts : Trees) → named_words next (more t ts) ≡ listed_word (wanted_word next t) ++ named_words (next_word next t) ts
 words_next next t ts = go (wanted_word next t) refl
   where
-    go : (o : Option Word) → wanted_word next t ≡ o → named_words next (more t ts) ≡ listed o ++ named_words (next_word next t) ts
+    go : (o : Option Word) → wanted_word next t ≡ o → named_words next (more t ts) ≡ listed_word o ++ named_words (next_word next t) ts
     go (Some x) e = words_wanted next t ts x e
     go None e = words_other next t ts e
 
@@ -110,8 +110,8 @@ module _ (w : Setting) where
           further (Ok u) = refl
 
   -- a word, if there is one, and then the others
-  made_parts : (s : Signature) (t : Annotated) (o : Option Word) (xs : List Word) → made_by w s t (listed o ++ xs)
-      ≡ (made_by w s t (listed o) >>= λ ds. made_by w (with_definitions s ds) t xs >>= λ es. Ok (ds ++ es))
+  made_parts : (s : Signature) (t : Annotated) (o : Option Word) (xs : List Word) → made_by w s t (listed_word o ++ xs)
+      ≡ (made_by w s t (listed_word o) >>= λ ds. made_by w (with_definitions s ds) t xs >>= λ es. Ok (ds ++ es))
   unfolding ◌>>=◌ made_by
   made_parts s t (Some x) xs = made_next s t x xs
   made_parts s t None xs = go (made_by w s t xs) ∙ ap (λ u. made_by w u t xs >>= λ es. Ok ([] ++ es)) (sym (with_no s))
@@ -144,8 +144,8 @@ module _ (w : Setting) where
       go (Ok es) = refl
       go (Err e) = refl
 
-  module _ (s : Signature) (a : Annotated) (all : List Word) (o : Option Word) (xs : List Word) (t : TableView) (v : ScopeView) (before ids : List TermId) (h : IsNaming s a all (listed o ++ xs) t v before ids) where
-    pub naming_goes : (new : ScopeView) (nums : List TermId) → HasNamed t (with_definitions s h.made) new (ids, nums) (made_by w (with_definitions s h.made) a (listed o)) → IsNaming s a all xs t new before nums
+  module _ (s : Signature) (a : Annotated) (all : List Word) (o : Option Word) (xs : List Word) (t : TableView) (v : ScopeView) (before ids : List TermId) (h : IsNaming s a all (listed_word o ++ xs) t v before ids) where
+    pub naming_goes : (new : ScopeView) (nums : List TermId) → HasNamed t (with_definitions s h.made) new (ids, nums) (made_by w (with_definitions s h.made) a (listed_word o)) → IsNaming s a all xs t new before nums
     unfolding ◌>>=◌
     naming_goes new nums k = record {
       made = h.made ++ k.made;
@@ -162,7 +162,7 @@ module _ (w : Setting) where
         go (Ok es) = ap (λ ds. Ok ds) (sym (append_assoc h.made k.made es))
         go (Err e) = refl
 
-    pub naming_fault : (e : Located) → made_by w (with_definitions s h.made) a (listed o) ≡ Err e → made_by w s a all ≡ Err e
+    pub naming_fault : (e : Located) → made_by w (with_definitions s h.made) a (listed_word o) ≡ Err e → made_by w s a all ≡ Err e
     unfolding ◌>>=◌
     naming_fault e wrong =
         h.same ∙ ap (λ b. b >>= λ es. Ok (h.made ++ es)) (made_parts (with_definitions s h.made) a o xs)
@@ -174,8 +174,8 @@ module _ (w : Setting) where
   none_given s a t v ids h = record { made = []; read = refl; stands = subst (NamesStand t v) (sym (with_no s)) h; named = λ us k. subst (AllMean t ids) (sym (append-nil us)) k }
 
   -- the first fault of the word that stands next
-  pub naming_stops : (s : Signature) (a : Annotated) (all : List Word) (o : Option Word) (xs : List Word) (t : TableView) (v : ScopeView) (before ids : List TermId) (h : IsNaming s a all (listed o ++ xs) t v before ids) (stop : ReadError)
-      → HasFault (made_by w (with_definitions s h.made) a (listed o)) stop → HasFault (made_by w s a all) stop
+  pub naming_stops : (s : Signature) (a : Annotated) (all : List Word) (o : Option Word) (xs : List Word) (t : TableView) (v : ScopeView) (before ids : List TermId) (h : IsNaming s a all (listed_word o ++ xs) t v before ids) (stop : ReadError)
+      → HasFault (made_by w (with_definitions s h.made) a (listed_word o)) stop → HasFault (made_by w s a all) stop
   naming_stops s a all o xs t v before ids h (Fault f) e = naming_fault s a all o xs t v before ids h (located_of f) e
   naming_stops s a all o xs t v before ids h Memory e = tt
 

@@ -19,9 +19,9 @@ use Rattle.term_core.specs.Symbols.{HasSortIn, HaveSortsIn, sort_meant, sorts_me
 use Rattle.term_core.specs.Tables.{TableView, term_at, IsIn, AreIn}
 use Rattle.term_reader.proofs.NameStacks.{newest_push}
 use Rattle.world_io.specs.declared.bytes.NoMemory.{NoMemory}
-use Rattle.term_reader.specs.Building.{Keeps, Means, EndsBuilding}
+use Rattle.term_reader.specs.Building.{KeepsTable, MeansTerm, EndsBuilding}
 use Rattle.term_reader.proofs.Tables.{keeps_same, keeps_along}
-use Rattle.sort_check.specs.Bindings.{BindingsView, no_bindings, with_term, bound_at, paired}
+use Rattle.sort_check.specs.Bindings.{BindingsView, no_bindings, named_term, bound_at, paired}
 use Rattle.sort_check.specs.Defining.{parameters_at, HasParameters}
 use Rattle.sort_check.specs.Splitting.{first_binding}
 use Rattle.sort_check.proofs.Kept.{in_kept, bound_kept, in_push}
@@ -141,7 +141,7 @@ pub record AreBound (old now : TableView) (ns : List Name) (ss : List TableSort)
   -- the place is one of theirs, or after them
   pub low : k ≤ length ss
   -- the table has what it had
-  pub keeps : Keeps old now
+  pub keeps : KeepsTable old now
   -- their terms are there
   pub there : AreIn now b.terms
   -- they are those
@@ -162,7 +162,7 @@ bound_begin t ns ss l = record {
     none_left (n ∷ ns) (x ∷ ss) l = none_left ns ss (omega (arith, l))
 
 pub bound_go : (old now new : TableView) (ns : List Name) (ss : List TableSort) (k : ℕ) (b : BindingsView) (id : TermId) (d : TableSort) → AreBound old now ns ss (suc k) b → length ns ≡ length ss → length b.names ≡ length b.terms
-    → Keeps now new → Means new (of (Parameter k (sort_meant now.sorts (get_or ss k d))) []) id
+    → KeepsTable now new → MeansTerm new (of (Parameter k (sort_meant now.sorts (get_or ss k d))) []) id
     → AreBound old new ns ss k (record { names = b.names ++ get_or ns k [] ∷ []; terms = b.terms ++ id ∷ [] })
 bound_go old now new ns ss k b id d h l long keeps means =
     let n : Name = get_or ns k [] in
@@ -173,11 +173,11 @@ bound_go old now new ns ss k b id d h l long keeps means =
       keeps = keeps_along old now new h.keeps keeps;
       there = in_push new b.terms id (in_kept now new keeps b.terms h.there) means.0;
       bound =
-          ap (map (with_term new)) (newest_push b.names b.terms n id long)
+          ap (map (named_term new)) (newest_push b.names b.terms n id long)
           ∙ (λ i. (n, head i) ∷ (bound_kept now new keeps b h.there ∙ h.bound) i)
           ∙ ap (bound_parameters k) (sym (parameter_at old ns ss k d (omega (arith, h.low)) l));
     }
 
 -- a term that was put there
-pub means_of : (new : TableView) (u : Term) (r : Result TermId NoMemory) (id : TermId) → EndsBuilding new u r → r ≡ Ok id → Means new u id
+pub means_of : (new : TableView) (u : Term) (r : Result TermId NoMemory) (id : TermId) → EndsBuilding new u r → r ≡ Ok id → MeansTerm new u id
 means_of new u r id h e = subst (EndsBuilding new u) e h

@@ -2,13 +2,13 @@
 use Rattle.std.proofs.Common.{◌≡◌, ℕ, length, take, refl, ap, sym, ◌∙◌, subst, arith}
 use Rattle.std.proofs.lemmas.List.{take_at, take_all}
 use Rattle.term_core.specs.Tables.{TableView, declared_in}
-use Rattle.term_reader.specs.Building.{Keeps}
+use Rattle.term_reader.specs.Building.{KeepsTable}
 use Rattle.term_reader.specs.Scopes.{ScopeView, Widens}
 use Rattle.term_reader.proofs.Tables.{keeps_same}
-use Rattle.sort_check.specs.Reads.{Store, Grows, IsSame}
+use Rattle.sort_check.specs.Reads.{Store, StoreGrows, IsSame}
 use Rattle.sort_check.proofs.Widening.{widens_is}
 
-table_restored : (old mid new : TableView) → Keeps old mid → new.terms ≡ take (length old.terms) mid.terms → declared_in new ≡ declared_in mid → new ≡ old
+table_restored : (old mid new : TableView) → KeepsTable old mid → new.terms ≡ take (length old.terms) mid.terms → declared_in new ≡ declared_in mid → new ≡ old
 table_restored old mid new keeps terms same =
     let declared = same ∙ keeps.declared in
     let cut : new.terms ≡ old.terms = terms ∙ ap (take (length old.terms)) keeps.extends.terms ∙ take_at old.terms keeps.extends.more_terms (length old.terms) refl in
@@ -26,7 +26,7 @@ scope_restored old mid new widens sorts functions is =
     let d : take (length old.names) mid.functions ≡ old.functions = ap (take (length old.names)) widens.functions ∙ take_at old.functions widens.more_functions (length old.names) (sym functions) in
     is ∙ (λ i. (let x : ScopeView = record { sort_names = a i; sorts = b i; names = c i; functions = d i } in x))
 
-pub restored : (old mid new : Store) (terms sorts names : ℕ) → Grows old mid → length old.scope.sort_names ≡ length old.scope.sorts → length old.scope.names ≡ length old.scope.functions
+pub restored : (old mid new : Store) (terms sorts names : ℕ) → StoreGrows old mid → length old.scope.sort_names ≡ length old.scope.sorts → length old.scope.names ≡ length old.scope.functions
     → terms ≡ length old.table.terms → sorts ≡ length old.scope.sort_names → names ≡ length old.scope.names
     → new.table.terms ≡ take terms mid.table.terms → declared_in new.table ≡ declared_in mid.table → new.scope ≡ cut_scope mid.scope sorts names → IsSame old new
 restored old mid new terms sorts names h each also terms_is sorts_is names_is cut same back = record {
@@ -35,5 +35,5 @@ restored old mid new terms sorts names h each also terms_is sorts_is names_is cu
 }
 
 -- what is the same has grown by nothing
-pub same_grows : (old new : Store) → IsSame old new → Grows old new
-same_grows old new h = record { keeps = subst (Keeps old.table) (sym h.table) (keeps_same old.table); widens = widens_is old.scope new.scope h.scope }
+pub same_grows : (old new : Store) → IsSame old new → StoreGrows old new
+same_grows old new h = record { keeps = subst (KeepsTable old.table) (sym h.table) (keeps_same old.table); widens = widens_is old.scope new.scope h.scope }

@@ -11,7 +11,7 @@ use Rattle.spec_reading.specs.Reading.{Bound, Reading, Readings, reading, readin
 use Rattle.spec_reading.proofs.Values.{with_both}
 use Rattle.smt_sexpr.specs.Items.{trees_meant}
 use Rattle.sort_check.specs.declared.frames.Frame.{Frame}
-use Rattle.sort_check.specs.Walks.{Base, readings_in, Row, known_after, with_row, IsRow, Level, first_term, closes, after_made, Opens, Chain}
+use Rattle.sort_check.specs.Walks.{Base, readings_in, RowProgress, known_after, with_row, IsRow, Level, first_term, closes, after_made, Opens, Chain}
 
 -- no definitions more
 pub with_no : (s : Signature) → with_definitions s [] ≡ s
@@ -19,11 +19,11 @@ with_no s = append-nil s
 
 module _ (w : Setting) where
   -- the row with one text more
-  pub row_with : Row → Reading → Row
+  pub row_with : RowProgress → Reading → RowProgress
   row_with r x = record { base = r.base; made = r.made ++ x.made; done = r.done ++ x.term ∷ [] }
 
   -- a text is read
-  pub row_step : (r : Row) (t : Tree) (rest : Trees) (x : Reading) → IsRow w r (more t rest) → reading w (known_after r) r.base.bound t ≡ Ok x
+  pub row_step : (r : RowProgress) (t : Tree) (rest : Trees) (x : Reading) → IsRow w r (more t rest) → reading w (known_after r) r.base.bound t ≡ Ok x
       → IsRow w (record { base = r.base; made = r.made ++ x.made; done = r.done ++ x.term ∷ [] }) rest
   unfolding ◌>>=◌ readings
   row_step r t rest x h e =
@@ -32,7 +32,7 @@ module _ (w : Setting) where
       ∙ further (readings w (with_definitions (known_after r) x.made) r.base.bound rest)
       ∙ ap (λ s. readings w s r.base.bound rest >>= λ rs. Ok (with_row later rs)) (sym (with_both r.base.signature r.made x.made))
     where
-      later : Row
+      later : RowProgress
       later = record { base = r.base; made = r.made ++ x.made; done = r.done ++ x.term ∷ [] }
 
       further : (a : Answer Readings) → ((a >>= λ ys. Ok (record { made = x.made ++ ys.made; terms = x.term ∷ ys.terms })) >>= λ rs. Ok (with_row r rs)) ≡ (a >>= λ rs. Ok (with_row later rs))
@@ -43,13 +43,13 @@ module _ (w : Setting) where
           λ i. Ok (record { made = m i; terms = d i })
 
   -- a text has a fault
-  pub row_fault : (r : Row) (t : Tree) (rest : Trees) (f : Located) → IsRow w r (more t rest) → reading w (known_after r) r.base.bound t ≡ Err f → readings_in w r.base ≡ Err f
+  pub row_fault : (r : RowProgress) (t : Tree) (rest : Trees) (f : Located) → IsRow w r (more t rest) → reading w (known_after r) r.base.bound t ≡ Err f → readings_in w r.base ≡ Err f
   unfolding ◌>>=◌ readings
   row_fault r t rest f h e =
       h ∙ ap (λ a. (a >>= λ y. readings w (with_definitions (known_after r) y.made) r.base.bound rest >>= λ ys. Ok (record { made = y.made ++ ys.made; terms = y.term ∷ ys.terms })) >>= λ rs. Ok (with_row r rs)) e
 
   -- all of a row is read
-  pub row_end : (r : Row) → IsRow w r none → readings_in w r.base ≡ Ok (record { made = r.made; terms = r.done })
+  pub row_end : (r : RowProgress) → IsRow w r none → readings_in w r.base ≡ Ok (record { made = r.made; terms = r.done })
   unfolding ◌>>=◌ readings
   row_end r h = h ∙ (λ i. Ok (record { made = append-nil r.made i; terms = append-nil r.done i }))
 

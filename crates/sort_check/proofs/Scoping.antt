@@ -7,7 +7,7 @@ use Rattle.spec_text.specs.Answers.{Answer}
 use Rattle.spec_reading.specs.WellSorted.{IsDeclaredOver}
 use Rattle.term_core.specs.Tables.{TableView}
 use Rattle.term_reader.specs.declared.faults.ReadError.{ReadError}
-use Rattle.term_reader.specs.Scopes.{ScopeView, no_names, HasSignature, Stands}
+use Rattle.term_reader.specs.Scopes.{ScopeView, no_names, HasSignature, ScopeMeans}
 use Rattle.sort_check.specs.Reads.{Store, IsSame, EndsDefinition}
 
 -- an empty scope stands for the empty signature
@@ -15,6 +15,6 @@ pub nothing_stands : (t : TableView) (v : ScopeView) → v ≡ no_names → HasS
 nothing_stands t v e = subst (HasSignature t) (sym e) ([], record { sorts = λ n. tt; functions = λ n. tt; count = refl; sorted = All-nil (IsDeclaredOver (symbols_in [])) })
 
 -- after a definition, or its fault, a scope stands for some signature
-pub still_stands : (old new : Store) (s : Signature) (answer : Answer (List Definition)) (r : Result (Unit {0}) ReadError) → Stands old.table old.scope s → EndsDefinition s new answer r → OnErr r (IsSame old new) → HasSignature new.table new.scope
+pub still_stands : (old new : Store) (s : Signature) (answer : Answer (List Definition)) (r : Result (Unit {0}) ReadError) → ScopeMeans old.table old.scope s → EndsDefinition s new answer r → OnErr r (IsSame old new) → HasSignature new.table new.scope
 still_stands old new s answer (Ok u) h ends same = (with_definitions s ends.definitions, ends.stands)
-still_stands old new s answer (Err stop) h ends same = (s, subst (λ v. Stands new.table v s) (sym same.scope) (subst (λ t. Stands t old.scope s) (sym same.table) h))
+still_stands old new s answer (Err stop) h ends same = (s, subst (λ v. ScopeMeans new.table v s) (sym same.scope) (subst (λ t. ScopeMeans t old.scope s) (sym same.table) h))

@@ -10,13 +10,13 @@ use Rattle.spec_text.specs.Trees.{Tree, Trees, atom, none, more}
 use Rattle.spec_sorts.specs.Terms.{Term}
 use Rattle.spec_sorts.specs.Signatures.{Definition, Signature, with_definitions}
 use Rattle.spec_reading.specs.Names.{Setting}
-use Rattle.spec_reading.specs.Reading.{Reading, Readings, plain, atom_term, reading, readings}
+use Rattle.spec_reading.specs.Reading.{Reading, Readings, plain_reading, atom_term, reading, readings}
 use Rattle.spec_reading.proofs.Values.{with_both}
 use Rattle.smt_sexpr.specs.Items.{trees_meant}
 use Rattle.term_core.specs.declared.ids.TermId.{TermId}
 use Rattle.term_core.specs.Tables.{TableView, term_at, IsIn, AreIn}
-use Rattle.term_reader.specs.Building.{Keeps}
-use Rattle.term_reader.specs.Scopes.{ScopeView, Stands}
+use Rattle.term_reader.specs.Building.{KeepsTable}
+use Rattle.term_reader.specs.Scopes.{ScopeView, ScopeMeans}
 use Rattle.term_reader.proofs.Standing.{stands_kept}
 use Rattle.term_reader.specs.declared.faults.ReadError.{ReadError}
 use Rattle.term_reader.specs.declared.faults.ReadError.TheVariants.{Fault, Memory}
@@ -26,13 +26,13 @@ use Rattle.sort_check.specs.Steps.{IsMemory}
 use Rattle.sort_check.specs.declared.frames.Frame.{Frame}
 use Rattle.sort_check.specs.Bindings.{BindingsView, bound_at}
 use Rattle.sort_check.specs.Reads.{HasFault}
-use Rattle.sort_check.specs.Walks.{readings_in, Row, known_after, IsRow, Level, closes, after_made, IsUnder, IsWaiting, HasTexts, Opens, Here, AllMean, terms_of_definitions, IsWalk, EndsStep, with_frame, first_term, sizes, opened_left, frames_left, all_left}
+use Rattle.sort_check.specs.Walks.{readings_in, RowProgress, known_after, IsRow, Level, closes, after_made, IsUnder, IsWaiting, HasTexts, Opens, Here, AllMean, terms_of_definitions, IsWalk, EndsStep, with_frame, first_term, sizes, opened_left, frames_left, all_left}
 use Rattle.sort_check.proofs.Rows.{with_no, row_step, row_fault, row_end, row_start, chain_fault, closed_fault, closed_reading, chain_push, Popped, chain_pop, one_done}
 use Rattle.sort_check.proofs.Kept.{mean_kept, in_kept, bound_kept, waiting_kept, mean_push, mean_long, mean_front, mean_at, mean_back}
 
 module _ (w : Setting) (root : Level) where
   -- the row of a walk
-  abbrev pub row_of : (h : Here) → IsWalk w root h → Row
+  abbrev pub row_of : (h : Here) → IsWalk w root h → RowProgress
   row_of h k = record { base = k.inner.base; made = k.made; done = k.done }
 
   -- the text that comes next has a fault
@@ -42,19 +42,19 @@ module _ (w : Setting) (root : Level) where
 
   -- an atom is read
   pub atom_goes : (h : Here) (k : IsWalk w root h) (t : TableView) (at : ℕ) (kind : Kind) (n : Name) (after : Trees) (id : TermId) → h.rest ≡ more (atom at kind n) after
-      → Keeps h.table t → IsIn t id → atom_term (known_after (row_of h k)) k.inner.base.bound at kind n ≡ Ok (term_at t id)
+      → KeepsTable h.table t → IsIn t id → atom_term (known_after (row_of h k)) k.inner.base.bound at kind n ≡ Ok (term_at t id)
       → IsWalk w root (record h { table = t; values = h.values ++ id ∷ []; rest = after })
   unfolding ◌>>=◌ reading
   atom_goes h k t at kind n after id is keeps there e =
       let made_is : k.made ++ [] ≡ k.made = append-nil k.made in
-      let read : reading w (known_after (row_of h k)) k.inner.base.bound (atom at kind n) ≡ Ok (plain (term_at t id)) = ap (λ a. a >>= λ u. Ok (plain u)) e in
+      let read : reading w (known_after (row_of h k)) k.inner.base.bound (atom at kind n) ≡ Ok (plain_reading (term_at t id)) = ap (λ a. a >>= λ u. Ok (plain_reading u)) e in
       let stands = stands_kept h.table t keeps h.scope (with_definitions k.inner.base.signature k.made) k.stands in
       record {
         inner = k.inner;
         made = k.made;
         done = k.done ++ term_at t id ∷ [];
         row = subst (λ (ds : List Definition). IsRow w (record { base = k.inner.base; made = ds; done = k.done ++ term_at t id ∷ [] }) after) made_is
-            (row_step w (row_of h k) (atom at kind n) after (plain (term_at t id)) (subst (IsRow w (row_of h k)) is k.row) read);
+            (row_step w (row_of h k) (atom at kind n) after (plain_reading (term_at t id)) (subst (IsRow w (row_of h k)) is k.row) read);
         chain = k.chain;
         values = subst (AllMean t (h.values ++ id ∷ [])) (append_assoc k.inner.below k.done (term_at t id ∷ []))
             (mean_push t h.values id (k.inner.below ++ k.done) (term_at t id) (mean_kept h.table t keeps h.values (k.inner.below ++ k.done) k.values) there refl);
@@ -72,7 +72,7 @@ module _ (w : Setting) (root : Level) where
   pub atom_fault : (h : Here) (k : IsWalk w root h) (at : ℕ) (kind : Kind) (n : Name) (after : Trees) (e : Located) → h.rest ≡ more (atom at kind n) after → atom_term (known_after (row_of h k)) k.inner.base.bound at kind n ≡ Err e
       → readings_in w root.base ≡ Err e
   unfolding ◌>>=◌ reading
-  atom_fault h k at kind n after e is wrong = next_fault h k (atom at kind n) after e is (ap (λ a. a >>= λ u. Ok (plain u)) wrong)
+  atom_fault h k at kind n after e is wrong = next_fault h k (atom at kind n) after e is (ap (λ a. a >>= λ u. Ok (plain_reading u)) wrong)
 
   -- the row that opens in the innermost
   abbrev pub inner_row : (h : Here) → IsWalk w root h → Trees → Level
@@ -108,7 +108,7 @@ module _ (w : Setting) (root : Level) where
         row = row_start w m.base;
         chain = chain_push w h.frames root k.inner m f k.chain o;
         values = subst (AllMean h.table h.values) (sym (append-nil (k.inner.below ++ k.done))) k.values;
-        stands = subst (Stands h.table h.scope) (sym (with_no s)) k.stands;
+        stands = subst (ScopeMeans h.table h.scope) (sym (with_no s)) k.stands;
         bound_there = k.bound_there;
         bound = k.bound;
         waiting_there = k.waiting_there;
@@ -152,8 +152,8 @@ module _ (w : Setting) (root : Level) where
     -- the list is read
     pub close_goes : (x : Reading) (t : TableView) (v : ScopeView) (bound : BindingsView) (id : TermId) (named : List TermId) (total : List Definition)
         → closes w f.opened k.inner row_read ≡ Ok x
-        → Keeps h.table t → IsIn t id → term_at t id ≡ x.term
-        → Stands t v (with_definitions k.inner.base.signature x.made)
+        → KeepsTable h.table t → IsIn t id → term_at t id ≡ x.term
+        → ScopeMeans t v (with_definitions k.inner.base.signature x.made)
         → AreIn t bound.terms → bound_at t bound ≡ popped.level.base.bound → k.inner.waiting ≡ popped.level.waiting
         → with_definitions k.inner.base.signature x.made ≡ with_definitions root.base.signature total → AllMean t named (terms_of_definitions total)
         → IsWalk w root (record h { table = t; scope = v; values = take f.from h.values ++ id ∷ []; bound = bound; named = named; rest = trees_meant f.after })
@@ -169,7 +169,7 @@ module _ (w : Setting) (root : Level) where
           chain = popped.chain;
           values = subst (AllMean t (take f.from h.values ++ id ∷ [])) (ap (λ ts. ts ++ x.term ∷ []) o.below ∙ append_assoc l.below o.done (x.term ∷ []))
               (mean_push t (take f.from h.values) id k.inner.below x.term (mean_kept h.table t keeps (take f.from h.values) k.inner.below front) there is);
-          stands = subst (Stands t v) (known_then x.made) stands;
+          stands = subst (ScopeMeans t v) (known_then x.made) stands;
           bound_there = bound_there;
           bound = bound_is;
           waiting_there = in_kept h.table t keeps h.waiting.terms k.waiting_there;

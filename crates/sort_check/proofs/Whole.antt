@@ -7,18 +7,18 @@ use Rattle.spec_sorts.specs.Signatures.{Definition, Signature, definition, with_
 use Rattle.spec_reading.specs.Names.{Setting}
 use Rattle.spec_reading.specs.Reading.{readings}
 use Rattle.term_core.specs.Tables.{TableView, IsIn, AreIn}
-use Rattle.term_reader.specs.Scopes.{ScopeView, Stands}
+use Rattle.term_reader.specs.Scopes.{ScopeView, ScopeMeans}
 use Rattle.sort_check.specs.Bindings.{BindingsView, bound_at}
 use Rattle.sort_check.specs.Reads.{store}
 use Rattle.sort_check.specs.Rows.{HasRow}
-use Rattle.sort_check.specs.Walks.{Base, readings_in, Row, IsRow, Level, Here, started, AllMean, terms_of_definitions, IsWalk, Chain}
+use Rattle.sort_check.specs.Walks.{Base, readings_in, RowProgress, IsRow, Level, Here, started, AllMean, terms_of_definitions, IsWalk, Chain}
 use Rattle.sort_check.proofs.Rows.{with_no, row_start, row_end}
 
 -- the outermost row
 abbrev pub root_of : TableView → Signature → BindingsView → Trees → Level
 root_of t s b texts = record { base = record { signature = s; bound = bound_at t b; texts = texts }; below = []; waiting = [] }
 
-pub walk_starts : (w : Setting) (t : TableView) (v : ScopeView) (s : Signature) (b : BindingsView) (texts : Trees) → Stands t v s → AreIn t b.terms → IsWalk w (root_of t s b texts) (started t v b texts)
+pub walk_starts : (w : Setting) (t : TableView) (v : ScopeView) (s : Signature) (b : BindingsView) (texts : Trees) → ScopeMeans t v s → AreIn t b.terms → IsWalk w (root_of t s b texts) (started t v b texts)
 walk_starts w t v s b texts h there = record {
   inner = root_of t s b texts;
   made = [];
@@ -26,7 +26,7 @@ walk_starts w t v s b texts h there = record {
   row = row_start w (record { signature = s; bound = bound_at t b; texts = texts });
   chain = refl;
   values = (All-nil (λ i. IsIn t i), refl);
-  stands = subst (Stands t v) (sym (with_no s)) h;
+  stands = subst (ScopeMeans t v) (sym (with_no s)) h;
   bound_there = there;
   bound = refl;
   waiting_there = All-nil (λ i. IsIn t i);
@@ -54,13 +54,13 @@ pub walk_ends : (w : Setting) (t : TableView) (s : Signature) (b : BindingsView)
 walk_ends w t s b texts h k closed end =
     let inner : k.inner ≡ root_of t s b texts = subst (λ fs. Chain w (root_of t s b texts) fs k.inner) closed k.chain in
     let base : k.inner.base ≡ (root_of t s b texts).base = ap (λ (x : Level). x.base) inner in
-    let row : Row = record { base = k.inner.base; made = k.made; done = k.done } in
+    let row : RowProgress = record { base = k.inner.base; made = k.made; done = k.done } in
     let read = row_end w row (subst (IsRow w row) end k.row) in
     let made : k.total ≡ k.made = same_definitions k.total k.made (append_cancel_left s (map definition k.total) (map definition k.made) (sym k.known ∙ ap (λ (x : Base). with_definitions x.signature k.made) base)) in
     record {
       readings = record { made = k.made; terms = k.done };
       read = ap (readings_in w) (sym base) ∙ read;
       terms = subst (AllMean h.table h.values) (ap (λ (x : Level). x.below ++ k.done) inner) k.values;
-      stands = subst (Stands h.table h.scope) (ap (λ (x : Base). with_definitions x.signature k.made) base) k.stands;
+      stands = subst (ScopeMeans h.table h.scope) (ap (λ (x : Base). with_definitions x.signature k.made) base) k.stands;
       named = subst (λ ds. AllMean h.table h.named (terms_of_definitions ds)) made k.named;
     }

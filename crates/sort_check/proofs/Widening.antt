@@ -4,7 +4,7 @@ use Rattle.spec_text.specs.Bytes.{Name}
 use Rattle.term_reader.specs.declared.scope.Function.{Function}
 use Rattle.term_reader.specs.Scopes.{ScopeView, Widens}
 use Rattle.term_reader.proofs.Tables.{keeps_same, keeps_along}
-use Rattle.sort_check.specs.Reads.{Store, Grows}
+use Rattle.sort_check.specs.Reads.{Store, StoreGrows}
 
 pub widens_same : (v : ScopeView) → Widens v v
 widens_same v = record { sort_names = refl; sorts = refl; more_names = []; names = sym (append-nil v.names); more_functions = []; functions = sym (append-nil v.functions) }
@@ -25,8 +25,8 @@ widens_along v u x h k = record {
   functions = k.functions ∙ ap (λ fs. fs ++ k.more_functions) h.functions ∙ append_assoc v.functions h.more_functions k.more_functions;
 }
 
-pub grows_along : (a b c : Store) → Grows a b → Grows b c → Grows a c
+pub grows_along : (a b c : Store) → StoreGrows a b → StoreGrows b c → StoreGrows a c
 grows_along a b c h k = record { keeps = keeps_along a.table b.table c.table h.keeps k.keeps; widens = widens_along a.scope b.scope c.scope h.widens k.widens }
 
-pub grows_same : (a : Store) → Grows a a
+pub grows_same : (a : Store) → StoreGrows a a
 grows_same a = record { keeps = keeps_same a.table; widens = widens_same a.scope }

@@ -23,12 +23,12 @@ abbrev pub no_id : TermId
 no_id = record { 0 = 0 }
 
 -- a name with the term of a number
-abbrev pub with_term : TableView → Name × TermId → Name × Term
-with_term t p = (p.0, term_at t p.1)
+abbrev pub named_term : TableView → Name × TermId → Name × Term
+named_term t p = (p.0, term_at t p.1)
 
 -- the bound names with their terms, the newest first
 abbrev pub bound_at : TableView → BindingsView → Bound
-bound_at t v = map (with_term t) (newest v.names v.terms)
+bound_at t v = map (named_term t) (newest v.names v.terms)
 
 -- names with what they stand for, oldest first
 abbrev pub paired : {A : Type 0} → List Name → List A → List (Name × A)
@@ -37,4 +37,4 @@ paired ns xs = []
 
 -- the names that wait with their terms, the oldest first
 abbrev pub waiting_at : TableView → BindingsView → Bound
-waiting_at t v = map (with_term t) (paired v.names v.terms)
+waiting_at t v = map (named_term t) (paired v.names v.terms)

@@ -62,7 +62,7 @@ left_size (Body ts body ∷ ls) = 3 + (size (tree_meant body) + left_size ls)
 left_size (Back n ∷ ls) = 1 + left_size ls
 
 -- one of the names is found, or whether one occurs free is said by the rest, of which there is less than so much
-abbrev pub Looks : List Name → Bool → ℕ → Rest → Result Bool NoMemory → Type 0
-Looks ns all most r (Ok true) = all ≡ true
-Looks ns all most r (Ok false) = (all ≡ rest_mentions ns r) × (left_size r.left < most)
-Looks ns all most r (Err e) = Unit {0}
+abbrev pub FindsName : List Name → Bool → ℕ → Rest → Result Bool NoMemory → Type 0
+FindsName ns all most r (Ok true) = all ≡ true
+FindsName ns all most r (Ok false) = (all ≡ rest_mentions ns r) × (left_size r.left < most)
+FindsName ns all most r (Err e) = Unit {0}

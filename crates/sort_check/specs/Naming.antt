@@ -61,6 +61,6 @@ abbrev pub next_word : Next → Tree → Next
 next_word next t = or_keyword (next_after next t)
 
 -- the word that there is, if there is one
-abbrev pub listed : Option Word → List Word
-listed (Some x) = x ∷ []
-listed None = []
+abbrev pub listed_word : Option Word → List Word
+listed_word (Some x) = x ∷ []
+listed_word None = []

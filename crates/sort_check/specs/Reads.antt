@@ -19,8 +19,8 @@ use Rattle.term_reader.specs.declared.faults.ReadError.TheVariants.{Fault, Memor
 use Rattle.sort_check.specs.declared.reads.Room as code_room
 use Rattle.sort_check.specs.declared.reads.Parts as code_parts
 use Rattle.term_reader.specs.Names.{located_of}
-use Rattle.term_reader.specs.Building.{Keeps, Means}
-use Rattle.term_reader.specs.Scopes.{ScopeView, Stands, Widens}
+use Rattle.term_reader.specs.Building.{KeepsTable, MeansTerm}
+use Rattle.term_reader.specs.Scopes.{ScopeView, ScopeMeans, Widens}
 
 -- How many names and terms there may be, and where a fault says that there are more.
 pub record Room : Type 0 where
@@ -87,12 +87,12 @@ store t v = record { table = t; scope = v }
 
 -- the scope stands for a signature with definitions
 abbrev pub StandsWith : Store → Signature → List Definition → Type 0
-StandsWith new s ds = Stands new.table new.scope (with_definitions s ds)
+StandsWith new s ds = ScopeMeans new.table new.scope (with_definitions s ds)
 
 -- The table has all that it had, and the scope too.
-pub record Grows (old new : Store) : Type 0 where
+pub record StoreGrows (old new : Store) : Type 0 where
   -- the table
-  pub keeps : Keeps old.table new.table
+  pub keeps : KeepsTable old.table new.table
   -- the scope
   pub widens : Widens old.scope new.scope
 
@@ -110,7 +110,7 @@ pub record HasTerm (s : Signature) (new : Store) (answer : Answer Reading) (id :
   -- it is that
   pub read : answer ≡ Ok reading
   -- the number of its term
-  pub term : Means new.table reading.term id
+  pub term : MeansTerm new.table reading.term id
   -- what it defines is there
   pub stands : StandsWith new s reading.made
 

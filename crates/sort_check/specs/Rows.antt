@@ -6,7 +6,7 @@ use Rattle.spec_sorts.specs.Signatures.{Signature}
 use Rattle.spec_reading.specs.Reading.{Reading, Readings}
 use Rattle.term_core.specs.declared.ids.TermId.{TermId}
 use Rattle.term_reader.specs.declared.faults.ReadError.{ReadError}
-use Rattle.term_reader.specs.Building.{Means}
+use Rattle.term_reader.specs.Building.{MeansTerm}
 use Rattle.sort_check.specs.Walks.{AllMean, terms_of_definitions}
 use Rattle.sort_check.specs.Reads.{Store, StandsWith, HasFault}
 
@@ -35,7 +35,7 @@ pub record HasOne (s : Signature) (new : Store) (answer : Answer Reading) (x : T
   -- it is that
   pub read : answer ≡ Ok reading
   -- the number of its term
-  pub term : Means new.table reading.term x.0
+  pub term : MeansTerm new.table reading.term x.0
   -- what it defines is there
   pub stands : StandsWith new s reading.made
   -- the numbers of the terms that it defines

@@ -12,7 +12,7 @@ use Rattle.smt_sexpr.specs.Items.{trees_meant, tree_meant}
 use Rattle.term_core.specs.declared.ids.TermId.{TermId}
 use Rattle.term_core.specs.Tables.{TableView, AreIn, clause_at}
 use Rattle.term_reader.specs.declared.faults.ReadError.{ReadError}
-use Rattle.term_reader.specs.Scopes.{ScopeView, Stands}
+use Rattle.term_reader.specs.Scopes.{ScopeView, ScopeMeans}
 use Rattle.sort_check.specs.declared.frames.Opened.{Opened}
 use Rattle.sort_check.specs.declared.frames.Opened.TheVariants.{Applies, Binds, Body, Annotates}
 use Rattle.sort_check.specs.declared.frames.Frame.{Frame}
@@ -34,7 +34,7 @@ abbrev pub readings_in : Setting → Base → Answer Readings
 readings_in w x = readings w x.signature x.bound x.texts
 
 -- How far a row is read.
-pub record Row : Type 0 where
+pub record RowProgress : Type 0 where
   -- the row
   pub base : Base
   -- the definitions that were made
@@ -43,15 +43,15 @@ pub record Row : Type 0 where
   pub done : List Term
 
 -- the names that are known then
-abbrev pub known_after : Row → Signature
+abbrev pub known_after : RowProgress → Signature
 known_after r = with_definitions r.base.signature r.made
 
 -- all of a row, with what is read after it was read before
-abbrev pub with_row : Row → Readings → Readings
+abbrev pub with_row : RowProgress → Readings → Readings
 with_row r rs = record { made = r.made ++ rs.made; terms = r.done ++ rs.terms }
 
 -- what was read, and what is left, come to the row
-abbrev pub IsRow : Setting → Row → Trees → Type 0
+abbrev pub IsRow : Setting → RowProgress → Trees → Type 0
 IsRow w r rest = readings_in w r.base ≡ (readings w (known_after r) r.base.bound rest >>= λ rs. Ok (with_row r rs))
 
 -- the first of terms
@@ -191,7 +191,7 @@ pub record IsWalk (w : Setting) (root : Level) (h : Here) : Type 0 where
   -- the numbers of all terms that were read
   pub values : AllMean h.table h.values (inner.below ++ done)
   -- what the names stand for
-  pub stands : Stands h.table h.scope (with_definitions inner.base.signature made)
+  pub stands : ScopeMeans h.table h.scope (with_definitions inner.base.signature made)
   -- the terms of bound names are there
   pub bound_there : AreIn h.table h.bound.terms
   -- they are those of the row
@@ -217,8 +217,8 @@ abbrev pub OnWalk : Setting → Here → Type 0
 OnWalk w h = (root : Level) × IsWalk w root h
 
 -- from here the walk goes on
-abbrev pub Goes : {A : Type 0} → Setting → (old new : Here) → Result A ReadError → Type 0
-Goes w old new r = (root : Level) → IsWalk w root old → EndsStep w root new r
+abbrev pub ContinuesWalk : {A : Type 0} → Setting → (old new : Here) → Result A ReadError → Type 0
+ContinuesWalk w old new r = (root : Level) → IsWalk w root old → EndsStep w root new r
 
 -- a list is open again, of which the row was read
 abbrev pub with_frame : Here → Frame → Here
@@ -263,7 +263,7 @@ pub record IsInLet (w : Setting) (root : Level) (h : Here) (x : Let) : Type 0 wh
   -- the numbers of all terms that were read
   pub values : AllMean h.table h.values (level.below ++ done)
   -- what the names stand for
-  pub stands : Stands h.table h.scope (with_definitions (with_definitions level.base.signature made) begun)
+  pub stands : ScopeMeans h.table h.scope (with_definitions (with_definitions level.base.signature made) begun)
   -- the terms of bound names are there
   pub bound_there : AreIn h.table h.bound.terms
   -- they are those of the row
@@ -286,8 +286,8 @@ abbrev pub GoesInLet : {A : Type 0} → Setting → Let → (old new : Here) →
 GoesInLet w x old new r = (root : Level) → IsInLet w root old x → EndsStep w root new r
 
 -- a text comes next, and before others
-abbrev pub IsNext : Here → Tree → Trees → Type 0
-IsNext h t after = h.rest ≡ more t after
+abbrev pub IsNextTree : Here → Tree → Trees → Type 0
+IsNextTree h t after = h.rest ≡ more t after
 
 -- a list counts as two: it is begun and ended
 abbrev mutual

@@ -4,8 +4,8 @@ ghost use Rattle.spec_sorts.specs.Signatures.{Signature, Definition, defined, kn
 ghost use Rattle.spec_reading.specs.Reading.{by_known, literal, applied_as, applied, atom_term};
 ghost use Rattle.std.specs.Prelude.{◌≡◌, None};
 ghost use Rattle.term_core.specs.Tables.{AreIn, clause_at};
-ghost use Rattle.term_reader.specs.Scopes.{HasSignature, IsMacro, Stands};
-ghost use Rattle.term_reader.specs.Heads.{Answers};
+ghost use Rattle.term_reader.specs.Scopes.{HasSignature, IsMacro, ScopeMeans};
+ghost use Rattle.term_reader.specs.Heads.{ReturnsTerm};
 ghost use Rattle.sort_check.specs.Bindings.{bound_at};
 ghost use Rattle.sort_check.specs.Applied.{IsUsable};
 
@@ -42,7 +42,7 @@ fn by_macro(
     requires usable { IsUsable table.old definition.now }
     requires there { AreIn table.old ids.now }
     ensures { (d : Definition) → IsMacro table.old definition.now d
-        → Answers table.old table.new (by_known (defined d) at (clause_at table.old ids.now)) result }
+        → ReturnsTerm table.old table.new (by_known (defined d) at (clause_at table.old ids.now)) result }
 {
     if ids.len() != definition.parameters.len() {
         return Err(ReadError::Fault(fault_at(at, Fault::WrongCount)));
@@ -70,7 +70,7 @@ fn by_function(
 ) -> Result<TermId, ReadError>
     requires known { HasSignature table.old scope.now }
     requires there { AreIn table.old ids.now }
-    ensures { (s : Signature) → Stands table.old scope.now s → Answers table.old table.new
+    ensures { (s : Signature) → ScopeMeans table.old scope.now s → ReturnsTerm table.old table.new
         (applied_as None None (known_as s called.entry.name.now) called.entry.place called.entry.at (clause_at table.old ids.now)) result }
 {
     match scope.function(called.name) {
@@ -98,7 +98,7 @@ pub fn applied(
     requires known { HasSignature table.old scope.now }
     requires bound { AreIn table.old bound.now.terms }
     requires there { AreIn table.old ids.now }
-    ensures { (s : Signature) → Stands table.old scope.now s → Answers table.old table.new
+    ensures { (s : Signature) → ScopeMeans table.old scope.now s → ReturnsTerm table.old table.new
         (applied s (bound_at table.old bound.now) called.entry.place called.entry.name.now called.entry.at (clause_at table.old ids.now)) result }
 {
     bound.each_name_has_a_term();
@@ -113,7 +113,7 @@ pub fn applied(
 
 // The term of a number.
 fn number(alloc: Global, table: &mut TermTable, at: u64, digits: &[u8]) -> Result<TermId, ReadError>
-    ensures { Answers table.old table.new (literal at digits.now) result }
+    ensures { ReturnsTerm table.old table.new (literal at digits.now) result }
 {
     match literal(at, digits) {
         Err(fault) => Err(ReadError::Fault(fault)),
@@ -139,7 +139,7 @@ pub fn atom(
     requires known { HasSignature table.old scope.now }
     requires bound { AreIn table.old bound.now.terms }
     requires one { called.place ≡ called.at }
-    ensures { (s : Signature) → Stands table.old scope.now s → Answers table.old table.new
+    ensures { (s : Signature) → ScopeMeans table.old scope.now s → ReturnsTerm table.old table.new
         (atom_term s (bound_at table.old bound.now) called.entry.at kind called.entry.name.now) result }
 {
     match kind {

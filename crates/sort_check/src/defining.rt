@@ -8,11 +8,11 @@ ghost use Rattle.spec_reading.specs.Definitions.{parameters_in, bound_parameters
 ghost use Rattle.smt_sexpr.specs.Items.{trees_meant, tree_meant};
 ghost use Rattle.term_core.specs.Symbols.{HasSortIn, HaveSortsIn, sort_meant};
 ghost use Rattle.term_core.specs.Tables.{TableView};
-ghost use Rattle.term_reader.specs.Building.{Keeps};
+ghost use Rattle.term_reader.specs.Building.{KeepsTable};
 ghost use Rattle.term_reader.specs.Names.{setting_meant};
-ghost use Rattle.term_reader.specs.Scopes.{HasSignature, Stands};
+ghost use Rattle.term_reader.specs.Scopes.{HasSignature, ScopeMeans};
 ghost use Rattle.sort_check.specs.Defining.{parameters_at, EndsParameters, EndsBinding, EndsMade};
-ghost use Rattle.sort_check.specs.Reads.{room_meant, parts_meant, roomy_definitions, store, Grows, EndsDefinition};
+ghost use Rattle.sort_check.specs.Reads.{room_meant, parts_meant, roomy_definitions, store, StoreGrows, EndsDefinition};
 ghost use Rattle.sort_check.specs.Rows.{EndsOne};
 
 use crate::bindings::Bindings;
@@ -46,7 +46,7 @@ fn read_parameters(
     setting: Setting<'_>,
     parameters: Trees<'_>,
 ) -> Result<(NameStack, Vec<Sort>), ReadError>
-    ensures { (t : TableView) (s : Signature) → Stands t scope.now s
+    ensures { (t : TableView) (s : Signature) → ScopeMeans t scope.now s
         → EndsParameters t (parameters_in (setting_meant setting.entry) s [] (trees_meant parameters.entry)) result }
 {
     let mut names = NameStack::new(alloc);
@@ -83,7 +83,7 @@ fn bind_parameters(
     requires long { length names.now ≡ length sorts.now }
     requires there { HaveSortsIn table.old.sorts sorts.now }
     ensures ends { EndsBinding table.new (bound_parameters 0 (parameters_at table.old names.now sorts.now)) result }
-    ensures keeps { Keeps table.old table.new }
+    ensures keeps { KeepsTable table.old table.new }
 {
     let mut bound = Bindings::new(alloc);
     let mut left = sorts.len();
@@ -111,11 +111,11 @@ fn read_body(
     requires long { length names.now ≡ length sorts.now }
     requires there { HaveSortsIn table.old.sorts sorts.now }
     requires sort { HasSortIn table.old.sorts sort }
-    ensures ends { (s : Signature) → Stands table.old scope.old s → EndsOne s (store table.new scope.new)
+    ensures ends { (s : Signature) → ScopeMeans table.old scope.old s → EndsOne s (store table.new scope.new)
         (reading_of_sort (setting_meant setting.entry) s
         (bound_parameters 0 (parameters_at table.old names.now sorts.now))
         (sort_meant table.old.sorts sort) (tree_meant body.entry)) result }
-    ensures grows { Grows (store table.old scope.old) (store table.new scope.new) }
+    ensures grows { StoreGrows (store table.old scope.old) (store table.new scope.new) }
 {
     match bind_parameters(alloc, table, names, sorts) {
         Err(_) => Err(ReadError::Memory),
@@ -132,9 +132,9 @@ fn read_whole(
     parts: Parts<'_>,
 ) -> Result<Vec<TermId>, ReadError>
     requires { HasSignature table.old scope.old }
-    ensures ends { (s : Signature) → Stands table.old scope.old s → EndsMade s (store table.new scope.new)
+    ensures ends { (s : Signature) → ScopeMeans table.old scope.old s → EndsMade s (store table.new scope.new)
         (definitions_in (setting_meant setting.entry) s (parts_meant parts.entry)) result }
-    ensures grows { Grows (store table.old scope.old) (store table.new scope.new) }
+    ensures grows { StoreGrows (store table.old scope.old) (store table.new scope.new) }
 {
     let taken = is_function(scope, parts.name.bytes);
     let name = match new_name(setting, taken, parts.name) {
@@ -184,9 +184,9 @@ pub fn read_definition(
     room: Room,
 ) -> Result<(), ReadError>
     requires { HasSignature table.old scope.old }
-    ensures ends { (s : Signature) → Stands table.old scope.old s → EndsDefinition s (store table.new scope.new)
+    ensures ends { (s : Signature) → ScopeMeans table.old scope.old s → EndsDefinition s (store table.new scope.new)
         (roomy_definitions (room_meant room) (setting_meant setting.entry) s (parts_meant parts.entry)) result }
-    ensures grows { Grows (store table.old scope.old) (store table.new scope.new) }
+    ensures grows { StoreGrows (store table.old scope.old) (store table.new scope.new) }
 {
     match read_whole(alloc, table, scope, setting, parts) {
         Err(stop) => Err(stop),

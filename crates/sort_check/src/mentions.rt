@@ -9,7 +9,7 @@ ghost use Rattle.smt_sexpr.specs.Items.{trees_meant, tree_meant};
 ghost use Rattle.term_core.specs.Tables.{TableView};
 ghost use Rattle.sort_check.specs.Bindings.{bound_at};
 ghost use Rattle.sort_check.specs.Walks.{size, sizes};
-ghost use Rattle.sort_check.specs.Mentions.{names_of, form_mentions, rest_of, with_next, rest_mentions, left_size, Looks};
+ghost use Rattle.sort_check.specs.Mentions.{names_of, form_mentions, rest_of, with_next, rest_mentions, left_size, FindsName};
 
 use crate::bindings::Bindings;
 use crate::splitting::{first_binding, let_parts};
@@ -63,7 +63,7 @@ fn push<'a>(search: &mut Search<'a>, next: Left<'a>) -> Result<(), NoMemory>
 
 // A `let` by its bindings and its body.
 fn look_in_let<'a>(search: &mut Search<'a>, arguments: Trees<'a>) -> Result<bool, NoMemory>
-    ensures { (ns : List Name) → Looks ns
+    ensures { (ns : List Name) → FindsName ns
         (let_mentions (without ns search.old.inner) (trees_meant arguments.entry)
         || rest_mentions ns (rest_of search.old))
         (3 + (sizes (trees_meant arguments.entry) + left_size (rest_of search.old).left)) (rest_of search.new) result }
@@ -78,7 +78,7 @@ fn look_in_let<'a>(search: &mut Search<'a>, arguments: Trees<'a>) -> Result<bool
 
 // A term before attributes.
 fn look_in_annotated<'a>(search: &mut Search<'a>, arguments: Trees<'a>) -> Result<bool, NoMemory>
-    ensures { (ns : List Name) → Looks ns
+    ensures { (ns : List Name) → FindsName ns
         (first_mentions (without ns search.old.inner) (trees_meant arguments.entry)
         || rest_mentions ns (rest_of search.old))
         (2 + (sizes (trees_meant arguments.entry) + left_size (rest_of search.old).left)) (rest_of search.new) result }
@@ -97,7 +97,7 @@ fn look_in_list<'a>(
     head: Trees<'a>,
     arguments: Trees<'a>,
 ) -> Result<bool, NoMemory>
-    ensures { Looks (names_of bound.now)
+    ensures { FindsName (names_of bound.now)
         (form_mentions (without (names_of bound.now) search.old.inner) (trees_meant arguments.entry)
         (form (tree_meant head.entry) (trees_meant arguments.entry))
         || rest_mentions (names_of bound.now) (rest_of search.old))
@@ -120,7 +120,7 @@ fn look_in_list<'a>(
 
 // An atom or a list.
 fn look_at<'a>(bound: &Bindings, search: &mut Search<'a>, text: Trees<'a>) -> Result<bool, NoMemory>
-    ensures { Looks (names_of bound.now)
+    ensures { FindsName (names_of bound.now)
         (mentions (without (names_of bound.now) search.old.inner) (tree_meant text.entry)
         || rest_mentions (names_of bound.now) (rest_of search.old))
         (size (tree_meant text.entry) + left_size (rest_of search.old).left) (rest_of search.new) result }
@@ -145,7 +145,7 @@ fn look_in_terms<'a>(
     search: &mut Search<'a>,
     terms: Trees<'a>,
 ) -> Result<bool, NoMemory>
-    ensures { Looks (names_of bound.now)
+    ensures { FindsName (names_of bound.now)
         (any_mentions (without (names_of bound.now) search.old.inner) (trees_meant terms.entry)
         || rest_mentions (names_of bound.now) (rest_of search.old))
         (1 + (sizes (trees_meant terms.entry) + left_size (rest_of search.old).left)) (rest_of search.new) result }
@@ -163,7 +163,7 @@ fn look_in_values<'a>(
     search: &mut Search<'a>,
     bindings: Trees<'a>,
 ) -> Result<bool, NoMemory>
-    ensures { Looks (names_of bound.now)
+    ensures { FindsName (names_of bound.now)
         (binding_mentions (without (names_of bound.now) search.old.inner) (trees_meant bindings.entry)
         || rest_mentions (names_of bound.now) (rest_of search.old))
         (1 + (sizes (trees_meant bindings.entry) + left_size (rest_of search.old).left)) (rest_of search.new) result }
@@ -194,7 +194,7 @@ fn look_under<'a>(
     bindings: Trees<'a>,
     body: Trees<'a>,
 ) -> Result<bool, NoMemory>
-    ensures { Looks (names_of bound.now)
+    ensures { FindsName (names_of bound.now)
         (mentions (without (without (names_of bound.now) search.old.inner) (names_bound (trees_meant bindings.entry)))
         (tree_meant body.entry) || rest_mentions (names_of bound.now) (rest_of search.old))
         (3 + (size (tree_meant body.entry) + left_size (rest_of search.old).left)) (rest_of search.new) result }
@@ -207,7 +207,7 @@ fn look_under<'a>(
 
 // What comes next; tells whether one of the bound names occurs free in what is looked at of it.
 fn step<'a>(bound: &Bindings, search: &mut Search<'a>, next: Left<'a>) -> Result<bool, NoMemory>
-    ensures { Looks (names_of bound.now)
+    ensures { FindsName (names_of bound.now)
         (rest_mentions (names_of bound.now) (with_next next.entry (rest_of search.old)))
         (left_size (with_next next.entry (rest_of search.old)).left) (rest_of search.new) result }
 {

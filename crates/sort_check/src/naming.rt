@@ -14,7 +14,7 @@ ghost use Rattle.term_reader.specs.Forms.{next_meant};
 ghost use Rattle.term_reader.specs.Names.{setting_meant};
 ghost use Rattle.term_reader.specs.Scopes.{Widens};
 ghost use Rattle.sort_check.specs.Bindings.{bound_at};
-ghost use Rattle.sort_check.specs.Naming.{NamesStand, annotated_meant, EndsNaming, wanted_word, next_word, listed};
+ghost use Rattle.sort_check.specs.Naming.{NamesStand, annotated_meant, EndsNaming, wanted_word, next_word, listed_word};
 
 use crate::bindings::Bindings;
 use crate::mentions::mentions;
@@ -167,7 +167,7 @@ fn give_wanted(
     requires { IsIn table.now term.id }
     ensures ends { (s : Signature) (text : Tree) → NamesStand table.now scope.old s
         → EndsNaming table.now s scope.new (named.old.items, named.new.items)
-        (made_by (setting_meant setting.entry) s (annotated_meant table.now text term) (listed (option_map word_view word.entry)))
+        (made_by (setting_meant setting.entry) s (annotated_meant table.now text term) (listed_word (option_map word_view word.entry)))
         result }
     ensures widens { Widens scope.old scope.new }
 {

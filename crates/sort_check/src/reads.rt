@@ -5,8 +5,8 @@ ghost use Rattle.spec_sorts.specs.Signatures.{Signature};
 ghost use Rattle.smt_sexpr.specs.Items.{trees_meant, tree_meant};
 ghost use Rattle.term_core.specs.Symbols.{HasSortIn, sort_meant};
 ghost use Rattle.term_reader.specs.Names.{setting_meant};
-ghost use Rattle.term_reader.specs.Scopes.{HasSignature, Stands};
-ghost use Rattle.sort_check.specs.Reads.{room_meant, parts_meant, roomy_reading, roomy_readings, roomy_definitions, store, Grows, IsSame, EndsTerm, EndsTerms, EndsDefinition};
+ghost use Rattle.term_reader.specs.Scopes.{HasSignature, ScopeMeans};
+ghost use Rattle.sort_check.specs.Reads.{room_meant, parts_meant, roomy_reading, roomy_readings, roomy_definitions, store, StoreGrows, IsSame, EndsTerm, EndsTerms, EndsDefinition};
 
 use crate::defining::read_definition;
 use crate::sorted::{read_term, read_terms};
@@ -63,10 +63,10 @@ pub fn term(
 ) -> Result<TermId, ReadError>
     requires known { HasSignature table.old scope.old }
     requires sort { HasSortIn table.old.sorts sort }
-    ensures ends { (s : Signature) → Stands table.old scope.old s → EndsTerm s (store table.new scope.new)
+    ensures ends { (s : Signature) → ScopeMeans table.old scope.old s → EndsTerm s (store table.new scope.new)
         (roomy_reading (room_meant room) (setting_meant setting.entry) s (sort_meant table.old.sorts sort) (tree_meant tree.entry))
         result }
-    ensures grows { Grows (store table.old scope.old) (store table.new scope.new) }
+    ensures grows { StoreGrows (store table.old scope.old) (store table.new scope.new) }
     ensures same { OnErr result (IsSame (store table.old scope.old) (store table.new scope.new)) }
 {
     scope.each_name_stands_for_something();
@@ -101,10 +101,10 @@ pub fn terms(
 ) -> Result<Vec<TermId>, ReadError>
     requires known { HasSignature table.old scope.old }
     requires sort { HasSortIn table.old.sorts sort }
-    ensures ends { (s : Signature) → Stands table.old scope.old s → EndsTerms s (store table.new scope.new)
+    ensures ends { (s : Signature) → ScopeMeans table.old scope.old s → EndsTerms s (store table.new scope.new)
         (roomy_readings (room_meant room) (setting_meant setting.entry) s (sort_meant table.old.sorts sort) (trees_meant trees.entry))
         result }
-    ensures grows { Grows (store table.old scope.old) (store table.new scope.new) }
+    ensures grows { StoreGrows (store table.old scope.old) (store table.new scope.new) }
     ensures same { OnErr result (IsSame (store table.old scope.old) (store table.new scope.new)) }
 {
     scope.each_name_stands_for_something();
@@ -139,9 +139,9 @@ pub fn define(
     room: Room,
 ) -> Result<(), ReadError>
     requires { HasSignature table.old scope.old }
-    ensures ends { (s : Signature) → Stands table.old scope.old s → EndsDefinition s (store table.new scope.new)
+    ensures ends { (s : Signature) → ScopeMeans table.old scope.old s → EndsDefinition s (store table.new scope.new)
         (roomy_definitions (room_meant room) (setting_meant setting.entry) s (parts_meant parts.entry)) result }
-    ensures grows { Grows (store table.old scope.old) (store table.new scope.new) }
+    ensures grows { StoreGrows (store table.old scope.old) (store table.new scope.new) }
     ensures same { OnErr result (IsSame (store table.old scope.old) (store table.new scope.new)) }
 {
     scope.each_name_stands_for_something();

@@ -7,10 +7,10 @@ ghost use Rattle.smt_sexpr.specs.Items.{trees_meant, tree_meant};
 ghost use Rattle.term_core.specs.Symbols.{HasSortIn, sort_meant};
 ghost use Rattle.term_core.specs.Tables.{AreIn, clause_at};
 ghost use Rattle.term_reader.specs.Names.{setting_meant};
-ghost use Rattle.term_reader.specs.Scopes.{HasSignature, Stands};
+ghost use Rattle.term_reader.specs.Scopes.{HasSignature, ScopeMeans};
 ghost use Rattle.sort_check.specs.Bindings.{bound_at};
 ghost use Rattle.sort_check.specs.Rows.{EndsOne, EndsRoom};
-ghost use Rattle.sort_check.specs.Reads.{room_meant, roomy_reading, roomy_readings, all_of_sort, within, store, Grows, EndsTerm, EndsTerms};
+ghost use Rattle.sort_check.specs.Reads.{room_meant, roomy_reading, roomy_readings, all_of_sort, within, store, StoreGrows, EndsTerm, EndsTerms};
 
 use crate::bindings::Bindings;
 use crate::reads::Room;
@@ -60,10 +60,10 @@ pub fn read_of_sort(
     requires known { HasSignature table.old scope.old }
     requires bound { AreIn table.old bound.terms }
     requires sort { HasSortIn table.old.sorts sort }
-    ensures ends { (s : Signature) → Stands table.old scope.old s → EndsOne s (store table.new scope.new)
+    ensures ends { (s : Signature) → ScopeMeans table.old scope.old s → EndsOne s (store table.new scope.new)
         (reading_of_sort (setting_meant setting.entry) s (bound_at table.old bound) (sort_meant table.old.sorts sort)
         (tree_meant tree.entry)) result }
-    ensures grows { Grows (store table.old scope.old) (store table.new scope.new) }
+    ensures grows { StoreGrows (store table.old scope.old) (store table.new scope.new) }
 {
     let Some((text, _)) = split(tree) else {
         return Err(ReadError::Memory);
@@ -91,10 +91,10 @@ pub fn read_term(
 ) -> Result<TermId, ReadError>
     requires known { HasSignature table.old scope.old }
     requires sort { HasSortIn table.old.sorts sort }
-    ensures ends { (s : Signature) → Stands table.old scope.old s → EndsTerm s (store table.new scope.new)
+    ensures ends { (s : Signature) → ScopeMeans table.old scope.old s → EndsTerm s (store table.new scope.new)
         (roomy_reading (room_meant room) (setting_meant setting.entry) s (sort_meant table.old.sorts sort) (tree_meant tree.entry))
         result }
-    ensures grows { Grows (store table.old scope.old) (store table.new scope.new) }
+    ensures grows { StoreGrows (store table.old scope.old) (store table.new scope.new) }
 {
     match read_of_sort(
         alloc,
@@ -124,9 +124,9 @@ fn read_all(
 ) -> Result<Vec<TermId>, ReadError>
     requires known { HasSignature table.old scope.old }
     requires sort { HasSortIn table.old.sorts sort }
-    ensures ends { (s : Signature) → Stands table.old scope.old s → EndsTerms s (store table.new scope.new)
+    ensures ends { (s : Signature) → ScopeMeans table.old scope.old s → EndsTerms s (store table.new scope.new)
         (all_of_sort (setting_meant setting.entry) s (sort_meant table.old.sorts sort) (trees_meant trees.entry)) result }
-    ensures grows { Grows (store table.old scope.old) (store table.new scope.new) }
+    ensures grows { StoreGrows (store table.old scope.old) (store table.new scope.new) }
 {
     let mut ids = Vec::new(alloc);
     let mut rest = trees;
@@ -164,10 +164,10 @@ pub fn read_terms(
 ) -> Result<Vec<TermId>, ReadError>
     requires known { HasSignature table.old scope.old }
     requires sort { HasSortIn table.old.sorts sort }
-    ensures ends { (s : Signature) → Stands table.old scope.old s → EndsTerms s (store table.new scope.new)
+    ensures ends { (s : Signature) → ScopeMeans table.old scope.old s → EndsTerms s (store table.new scope.new)
         (roomy_readings (room_meant room) (setting_meant setting.entry) s (sort_meant table.old.sorts sort)
         (trees_meant trees.entry)) result }
-    ensures grows { Grows (store table.old scope.old) (store table.new scope.new) }
+    ensures grows { StoreGrows (store table.old scope.old) (store table.new scope.new) }
 {
     match read_all(alloc, table, scope, setting, sort, trees) {
         Err(stop) => Err(stop),

@@ -6,17 +6,17 @@ ghost use Rattle.spec_reading.specs.Names.{Setting as TextSetting, is_in_list};
 ghost use Rattle.smt_sexpr.specs.Items.{trees_meant, tree_meant};
 ghost use Rattle.term_core.specs.Tables.{TableView};
 ghost use Rattle.term_reader.specs.Names.{setting_meant};
-ghost use Rattle.term_reader.specs.Building.{Keeps};
+ghost use Rattle.term_reader.specs.Building.{KeepsTable};
 ghost use Rattle.term_reader.specs.Scopes.{ScopeView, Widens};
 ghost use Rattle.term_core.specs.Tables.{AreIn};
 ghost use Rattle.spec_sorts.specs.Signatures.{Signature};
 ghost use Rattle.spec_reading.specs.Reading.{readings};
-ghost use Rattle.term_reader.specs.Scopes.{HasSignature, Stands};
+ghost use Rattle.term_reader.specs.Scopes.{HasSignature, ScopeMeans};
 ghost use Rattle.sort_check.specs.Bindings.{bound_at};
-ghost use Rattle.sort_check.specs.Walks.{here, with_frame, OnWalk, Goes, GoesInLet, IsNext, all_left, frames_left, let_left, sizes, let_of};
+ghost use Rattle.sort_check.specs.Walks.{here, with_frame, OnWalk, ContinuesWalk, GoesInLet, IsNextTree, all_left, frames_left, let_left, sizes, let_of};
 ghost use Rattle.sort_check.specs.Steps.{IsMemory, HasBound, IsLetAt, IsAnnotatedAt, Steps};
 ghost use Rattle.sort_check.specs.Rows.{EndsRow};
-ghost use Rattle.sort_check.specs.Reads.{store, Grows};
+ghost use Rattle.sort_check.specs.Reads.{store, StoreGrows};
 ghost use Rattle.sort_check.specs.declared.frames.Opened.TheVariants.{Applies as applies, Binds as binds, Body as body, Annotates as annotates};
 
 use crate::applied::{Called, applied, atom};
@@ -81,12 +81,12 @@ fn read_atom<'a>(
     after: Trees<'a>,
 ) -> Result<(), ReadError>
     requires walk { (w : TextSetting) × OnWalk w (here table.old scope.now walk.old) }
-    requires next { IsNext (here table.old scope.now walk.old) (atom called.at kind called.name.now)
+    requires next { IsNextTree (here table.old scope.now walk.old) (atom called.at kind called.name.now)
         (trees_meant after) }
     requires place { called.place ≡ called.at }
-    ensures goes { (w : TextSetting) → Goes w (here table.old scope.now walk.old)
+    ensures goes { (w : TextSetting) → ContinuesWalk w (here table.old scope.now walk.old)
         (here table.new scope.now walk.new) result }
-    ensures keeps { Keeps table.old table.new }
+    ensures keeps { KeepsTable table.old table.new }
     ensures less { OnOk result (all_left (here table.new scope.now walk.new) < all_left
         (here table.old scope.now walk.old)) }
 {
@@ -183,9 +183,9 @@ fn open_let<'a>(
     after: Trees<'a>,
 ) -> Result<(), ReadError>
     ensures goes { (t : TableView) (v : ScopeView) (tree : Tree)
-        → IsNext (here t v walk.old) tree (trees_meant after.entry)
+        → IsNextTree (here t v walk.old) tree (trees_meant after.entry)
         → IsLetAt (setting_meant setting.entry) tree at (trees_meant arguments.entry)
-        → Goes (setting_meant setting.entry) (here t v walk.old) (here t v walk.new) result }
+        → ContinuesWalk (setting_meant setting.entry) (here t v walk.old) (here t v walk.new) result }
     ensures less { (t : TableView) (v : ScopeView) → OnOk result (all_left (here t v walk.new)
         < frames_left walk.old.frames.items + (sizes (trees_meant arguments.entry) + sizes (trees_meant after.entry))) }
 {
@@ -205,9 +205,9 @@ fn open_annotated<'a>(
     after: Trees<'a>,
 ) -> Result<(), ReadError>
     ensures goes { (w : TextSetting) (t : TableView) (v : ScopeView) (tree : Tree)
-        → IsNext (here t v walk.old) tree (trees_meant after.entry)
+        → IsNextTree (here t v walk.old) tree (trees_meant after.entry)
         → IsAnnotatedAt w tree at (trees_meant arguments.entry)
-        → Goes w (here t v walk.old) (here t v walk.new) result }
+        → ContinuesWalk w (here t v walk.old) (here t v walk.new) result }
     ensures less { (t : TableView) (v : ScopeView) → OnOk result (all_left (here t v walk.new)
         < 2 + (frames_left walk.old.frames.items + (sizes (trees_meant arguments.entry) + sizes (trees_meant after.entry)))) }
 {
@@ -235,8 +235,8 @@ fn open_list<'a>(
     after: Trees<'a>,
 ) -> Result<(), ReadError>
     ensures goes { (t : TableView) (v : ScopeView) (end : ℕ)
-        → IsNext (here t v walk.old) (list at (trees_meant inside.entry) end) (trees_meant after.entry)
-        → Goes (setting_meant setting.entry) (here t v walk.old) (here t v walk.new) result }
+        → IsNextTree (here t v walk.old) (list at (trees_meant inside.entry) end) (trees_meant after.entry)
+        → ContinuesWalk (setting_meant setting.entry) (here t v walk.old) (here t v walk.new) result }
     ensures less { (t : TableView) (v : ScopeView) → OnOk result (all_left (here t v walk.new)
         < 2 + (frames_left walk.old.frames.items + (sizes (trees_meant inside.entry) + sizes (trees_meant after.entry)))) }
 {
@@ -282,9 +282,9 @@ fn close_applied<'a>(
 ) -> Result<(), ReadError>
     requires opened { frame.opened ≡ applies called }
     requires walk { (w : TextSetting) × OnWalk w (with_frame (here table.old scope.now walk.old) frame) }
-    ensures goes { (w : TextSetting) → Goes w (with_frame (here table.old scope.now walk.old) frame.entry)
+    ensures goes { (w : TextSetting) → ContinuesWalk w (with_frame (here table.old scope.now walk.old) frame.entry)
         (here table.new scope.now walk.new) result }
-    ensures keeps { Keeps table.old table.new }
+    ensures keeps { KeepsTable table.old table.new }
     ensures less { OnOk result (all_left (here table.new scope.now walk.new)
         < all_left (with_frame (here table.old scope.now walk.old) frame.entry)) }
 {
@@ -315,7 +315,7 @@ fn close_binding<'a>(
     requires walk { (t : TableView) × (v : ScopeView)
         × OnWalk (setting_meant setting) (with_frame (here t v walk.old) frame) }
     ensures goes { (t : TableView) (v : ScopeView)
-        → Goes (setting_meant setting.entry) (with_frame (here t v walk.old) frame.entry) (here t v walk.new) result }
+        → ContinuesWalk (setting_meant setting.entry) (with_frame (here t v walk.old) frame.entry) (here t v walk.new) result }
     ensures less { (t : TableView) (v : ScopeView) → OnOk result (all_left (here t v walk.new)
         < all_left (with_frame (here t v walk.old) frame.entry)) }
 {
@@ -334,7 +334,7 @@ fn close_body<'a>(walk: &mut Walk<'a>, frame: Frame<'a>, bound: usize) -> Result
     requires walk { (w : TextSetting) × (t : TableView) × (v : ScopeView)
         × OnWalk w (with_frame (here t v walk.old) frame) }
     ensures goes { (w : TextSetting) (t : TableView) (v : ScopeView)
-        → Goes w (with_frame (here t v walk.old) frame.entry) (here t v walk.new) result }
+        → ContinuesWalk w (with_frame (here t v walk.old) frame.entry) (here t v walk.new) result }
     ensures less { (t : TableView) (v : ScopeView) → OnOk result (all_left (here t v walk.new)
         < all_left (with_frame (here t v walk.old) frame.entry)) }
 {
@@ -358,7 +358,7 @@ fn close_annotated<'a>(
 ) -> Result<(), ReadError>
     requires opened { frame.opened ≡ annotates at text attributes }
     requires walk { OnWalk (setting_meant setting) (with_frame (here table.now scope.old walk.old) frame) }
-    ensures goes { Goes (setting_meant setting.entry) (with_frame (here table.now scope.old walk.old) frame.entry)
+    ensures goes { ContinuesWalk (setting_meant setting.entry) (with_frame (here table.now scope.old walk.old) frame.entry)
         (here table.now scope.new walk.new) result }
     ensures widens { Widens scope.old scope.new }
     ensures less { OnOk result (all_left (here table.now scope.new walk.new)
@@ -392,9 +392,9 @@ fn close<'a>(
     frame: Frame<'a>,
 ) -> Result<(), ReadError>
     requires { OnWalk (setting_meant setting) (with_frame (here table.old scope.old walk.old) frame) }
-    ensures goes { Goes (setting_meant setting.entry) (with_frame (here table.old scope.old walk.old) frame.entry)
+    ensures goes { ContinuesWalk (setting_meant setting.entry) (with_frame (here table.old scope.old walk.old) frame.entry)
         (here table.new scope.new walk.new) result }
-    ensures grows { Grows (store table.old scope.old) (store table.new scope.new) }
+    ensures grows { StoreGrows (store table.old scope.old) (store table.new scope.new) }
     ensures less { OnOk result (all_left (here table.new scope.new walk.new)
         < all_left (with_frame (here table.old scope.old walk.old) frame.entry)) }
 {
@@ -421,11 +421,11 @@ fn read_next<'a>(
     after: Trees<'a>,
 ) -> Result<(), ReadError>
     requires walk { OnWalk (setting_meant setting) (here table.old scope.now walk.old) }
-    requires next { IsNext (here table.old scope.now walk.old) (tree_meant first) (trees_meant after) }
-    ensures goes { Goes (setting_meant setting.entry) (here table.old scope.now walk.old)
+    requires next { IsNextTree (here table.old scope.now walk.old) (tree_meant first) (trees_meant after) }
+    ensures goes { ContinuesWalk (setting_meant setting.entry) (here table.old scope.now walk.old)
         (here table.new scope.now walk.new)
         result }
-    ensures keeps { Keeps table.old table.new }
+    ensures keeps { KeepsTable table.old table.new }
     ensures less { OnOk result (all_left (here table.new scope.now walk.new)
         < all_left (here table.old scope.now walk.old)) }
 {
@@ -452,10 +452,10 @@ fn step<'a>(
     walk: &mut Walk<'a>,
 ) -> Result<bool, ReadError>
     requires { OnWalk (setting_meant setting) (here table.old scope.old walk.old) }
-    ensures goes { Goes (setting_meant setting.entry) (here table.old scope.old walk.old)
+    ensures goes { ContinuesWalk (setting_meant setting.entry) (here table.old scope.old walk.old)
         (here table.new scope.new walk.new)
         result }
-    ensures grows { Grows (store table.old scope.old) (store table.new scope.new) }
+    ensures grows { StoreGrows (store table.old scope.old) (store table.new scope.new) }
     ensures next { IfOk result (λ yes. Steps yes (here table.old scope.old walk.old)
         (here table.new scope.new walk.new)) }
 {
@@ -488,9 +488,9 @@ pub fn read(
 ) -> Result<(Vec<TermId>, Vec<TermId>), ReadError>
     requires known { HasSignature table.old scope.old }
     requires bound { AreIn table.old bound.terms }
-    ensures ends { (s : Signature) → Stands table.old scope.old s → EndsRow s (store table.new scope.new)
+    ensures ends { (s : Signature) → ScopeMeans table.old scope.old s → EndsRow s (store table.new scope.new)
         (readings (setting_meant setting.entry) s (bound_at table.old bound) (trees_meant texts.entry)) result }
-    ensures grows { Grows (store table.old scope.old) (store table.new scope.new) }
+    ensures grows { StoreGrows (store table.old scope.old) (store table.new scope.new) }
 {
     let mut walk = begin(alloc, bound, texts);
     'steps: loop {

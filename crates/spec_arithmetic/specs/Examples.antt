@@ -62,8 +62,8 @@ natural n = literal (whole (pos n))
 abbrev pub sum : Term → Term → Term
 sum s t = pair Plus s t
 
-abbrev pub minus : Term → Term → Term
-minus s t = pair Minus s t
+abbrev pub minus_example : Term → Term → Term
+minus_example s t = pair Minus s t
 
 abbrev pub product : Term → Term → Term
 product s t = pair Times s t
@@ -78,8 +78,8 @@ less s t = pair Less s t
 abbrev pub at_most : Term → Term → Term
 at_most s t = pair AtMost s t
 
-abbrev pub equal : Term → Term → Term
-equal s t = pair Equal s t
+abbrev pub equal_example : Term → Term → Term
+equal_example s t = pair Equal s t
 
 -- variables stand in the order in which they come, constants are added, and what comes to 0 is dropped
 pub ordered : form (of Plus (natural 1 ∷ y ∷ product (natural 2) x ∷ y ∷ natural 3 ∷ [])) ≡ Ok (record { constant = whole (pos 4); variables = (y, whole (pos 2)) ∷ (x, whole (pos 2)) ∷ [] })
@@ -96,7 +96,7 @@ unfolding forms_on_literals
 again = refl
 
 -- differences negate what is new, products multiply by the side without variables, quotients divide
-pub subtracted_form : form (minus x (sum y (natural 5))) ≡ Ok (record { constant = whole (negsuc 4); variables = (x, one_fraction) ∷ (y, whole (negsuc 0)) ∷ [] })
+pub subtracted_form : form (minus_example x (sum y (natural 5))) ≡ Ok (record { constant = whole (negsuc 4); variables = (x, one_fraction) ∷ (y, whole (negsuc 0)) ∷ [] })
 unfolding forms_on_literals
 subtracted_form = refl
 
@@ -122,7 +122,7 @@ pub number_of_sum : number_at (λ t. whole (pos 3)) (of Plus (natural 1 ∷ prod
 unfolding forms_on_literals number_at numbers_at
 number_of_sum = refl
 
-pub number_of_product : number_at (λ t. whole (pos 3)) (minus (product x y) (of Minus (z ∷ []))) ≡ whole (pos 12)
+pub number_of_product : number_at (λ t. whole (pos 3)) (minus_example (product x y) (of Minus (z ∷ []))) ≡ whole (pos 12)
 unfolding forms_on_literals number_at numbers_at
 number_of_product = refl
 
@@ -203,11 +203,11 @@ unfolding forms_on_literals clauses_on_literals
 argument_more = refl
 
 -- an equality as it stands is none of its literals, and one of another sort neither
-pub positive_equality : la_generic (equal x y ∷ negated (less x y) ∷ []) (arguments (codes "1 1")) ≡ Err shape
+pub positive_equality : la_generic (equal_example x y ∷ negated (less x y) ∷ []) (arguments (codes "1 1")) ≡ Err shape
 unfolding forms_on_literals clauses_on_literals
 positive_equality = refl
 
-pub other_sort : la_generic (negated (equal u u) ∷ []) (arguments (codes "1")) ≡ Err shape
+pub other_sort : la_generic (negated (equal_example u u) ∷ []) (arguments (codes "1")) ≡ Err shape
 unfolding forms_on_literals clauses_on_literals
 other_sort = refl
 
@@ -230,21 +230,21 @@ unfolding forms_on_literals clauses_on_literals
 strict_part = refl
 
 -- a strict part with the coefficient 0 does not
-pub strict_by_zero : la_generic (negated (less x y) ∷ negated (equal x x) ∷ []) (arguments (codes "0 1")) ≡ Err no_contradiction
+pub strict_by_zero : la_generic (negated (less x y) ∷ negated (equal_example x x) ∷ []) (arguments (codes "0 1")) ≡ Err no_contradiction
 unfolding forms_on_literals clauses_on_literals
 strict_by_zero = refl
 
 -- an equality counts in either direction: x is y and y is below x, with the sum as given and turned
-pub equality_given : la_generic (negated (equal x y) ∷ negated (less x y) ∷ []) (arguments (codes "(- 1) 1")) ≡ Ok tt
+pub equality_given : la_generic (negated (equal_example x y) ∷ negated (less x y) ∷ []) (arguments (codes "(- 1) 1")) ≡ Ok tt
 unfolding forms_on_literals clauses_on_literals
 equality_given = refl
 
-pub equality_turned : la_generic (negated (equal x y) ∷ negated (less x y) ∷ []) (arguments (codes "1 1")) ≡ Ok tt
+pub equality_turned : la_generic (negated (equal_example x y) ∷ negated (less x y) ∷ []) (arguments (codes "1 1")) ≡ Ok tt
 unfolding forms_on_literals clauses_on_literals
 equality_turned = refl
 
 -- all equalities are turned, or none
-pub one_turned : la_generic (negated (equal x y) ∷ negated (equal z y) ∷ negated (less x z) ∷ []) (arguments (codes "1 1 1")) ≡ Err no_contradiction
+pub one_turned : la_generic (negated (equal_example x y) ∷ negated (equal_example z y) ∷ negated (less x z) ∷ []) (arguments (codes "1 1 1")) ≡ Err no_contradiction
 unfolding forms_on_literals clauses_on_literals
 one_turned = refl
 

@@ -7,7 +7,7 @@ use Rattle.spec_tableaux.specs.Spaces.{Pair}
 use Rattle.spec_tableaux.specs.Rows.{Solves, is_basic}
 use Rattle.spec_tableaux.specs.SolvedForms.{IsSolved}
 use Rattle.spec_tableaux.specs.Ranges.{Range, below, above, bound_or, settled_value, is_within, Meets}
-use Rattle.spec_tableaux.specs.LeastVariable.{Says, Makes, exchange}
+use Rattle.spec_tableaux.specs.LeastVariable.{RuleSays, MakesPivots, exchange}
 use Rattle.spec_tableaux.specs.Numbers.{Number, numbers}
 use Rattle.spec_tableaux.proofs.Steps.{one_solution}
 use Rattle.spec_strains.specs.Points.{deltas, Ranges, BoardState}
@@ -33,7 +33,7 @@ record IsRest (t u : BoardState) (old new : List (ℕ × ℕ)) : Type 0 where
 
 module _ (ranges : Ranges) (t : BoardState) (solved : IsSolved numbers t.rows) (meets : Meets deltas t.rows ranges t.point) where
   -- where the point is the same, the rule says no exchange
-  no_exchange_there : (u : BoardState) → ((y : ℕ) → u.point y ≡ t.point y) → (b x : ℕ) → Says deltas ranges u (exchange b x) → ⊥
+  no_exchange_there : (u : BoardState) → ((y : ℕ) → u.point y ≡ t.point y) → (b x : ℕ) → RuleSays deltas ranges u (exchange b x) → ⊥
   no_exchange_there u same b x h = by (is_basic b u.rows) h.1.holds
     where
       kept : is_within deltas ranges u.point b ≡ true
@@ -55,7 +55,7 @@ module _ (ranges : Ranges) (t : BoardState) (solved : IsSolved numbers t.rows) (
           (λ y free. ran.settles.nonbasic y free ∙ stays_within (ranges y) (t.point y) (meets.within y))
           (subst (Solves deltas ran.start.point) ran.settles.rows ran.settles.solves) meets.solves
 
-      none : (es : List (ℕ × ℕ)) → Makes deltas ranges ran.start es u → (es ≡ []) × (ran.start ≡ u)
+      none : (es : List (ℕ × ℕ)) → MakesPivots deltas ranges ran.start es u → (es ≡ []) × (ran.start ≡ u)
       none [] h = (refl, h)
       none (e ∷ es) h = absurd (no_exchange_there ran.start same e.0 e.1 h.0)
 

@@ -12,7 +12,7 @@ use Rattle.spec_arithmetic.specs.Forms.{Form}
 use Rattle.spec_tableaux.specs.Spaces.{Pair}
 use Rattle.spec_tableaux.specs.Rows.{Entry, Row, is_basic}
 use Rattle.spec_tableaux.specs.Ranges.{below, above, crosses, bound_or, settled_value, is_within, is_crossed}
-use Rattle.spec_tableaux.specs.LeastVariable.{Makes, Says, exchange}
+use Rattle.spec_tableaux.specs.LeastVariable.{MakesPivots, RuleSays, exchange}
 use Rattle.spec_tableaux.specs.Numbers.{Number, numbers, fractions}
 use Rattle.spec_strains.specs.Deltas.{delta_evaluated}
 use Rattle.spec_strains.specs.Points.{deltas, delta_in, Ranges, BoardState, point_in}
@@ -106,12 +106,12 @@ module _ (ts : List Term) (silent : AreSilent ts) where
       ]
 
   -- an exchange is never said
-  no_exchange : (ranges : Ranges) (t : BoardState) → t.rows ≡ [] → (b x : ℕ) → Says deltas ranges t (exchange b x) → ⊥
+  no_exchange : (ranges : Ranges) (t : BoardState) → t.rows ≡ [] → (b x : ℕ) → RuleSays deltas ranges t (exchange b x) → ⊥
   no_exchange ranges t none b x h =
       false≢true (ap (λ q. q && not (is_within deltas ranges t.point b)) (sym (no_basic t.rows none b)) ∙ h.1.holds)
 
   -- so none is made
-  made_alone : (ranges : Ranges) (t u : BoardState) → t.rows ≡ [] → (es : List (ℕ × ℕ)) → Makes deltas ranges t es u → (es ≡ []) × (t ≡ u)
+  made_alone : (ranges : Ranges) (t u : BoardState) → t.rows ≡ [] → (es : List (ℕ × ℕ)) → MakesPivots deltas ranges t es u → (es ≡ []) × (t ≡ u)
   made_alone ranges t u none [] h = (refl, h)
   made_alone ranges t u none (e ∷ es) h = absurd (no_exchange ranges t none e.0 e.1 h.0)
 

@@ -10,7 +10,7 @@ use Rattle.spec_tableaux.specs.Numbers.{Number, numbers}
 use Rattle.spec_strains.specs.Points.{Ranges}
 use Rattle.spec_strains.specs.Runs.{SettlesBelow, Ran, RanShort}
 use Rattle.spec_simplex.specs.Constraints.{Constraint, constraint_of, form_of}
-use Rattle.spec_causes.specs.Standing.{Standing, nothing_yet, owner_in, with_term, with_sum, moved_to, state_in, AreEntriesOf}
+use Rattle.spec_causes.specs.Standing.{Standing, nothing_yet, owner_in, with_slack, with_sum, moved_to, state_in, AreEntriesOf}
 use Rattle.spec_causes.specs.Bounds.{AreBounds}
 
 -- The form is that of an atom among terms.
@@ -35,7 +35,7 @@ pub data IsReached (ts : List Term) : ℕ → List (ℕ × ℕ) → Standing →
   -- a variable comes for a term of an atom's form for which none stands yet
   naming : (n : ℕ) (es : List (ℕ × ℕ)) (s : Standing) → IsReached ts n es s
       → (f : Form) → IsFormAmong ts f → (u : Term) (k : Fraction) → Contains f.variables (u, k)
-      → ((y : ℕ) → owner_in s.owners y ≡ Some u → ⊥) → IsReached ts n es (with_term s u)
+      → ((y : ℕ) → owner_in s.owners y ≡ Some u → ⊥) → IsReached ts n es (with_slack s u)
   -- a row comes for the variables of an atom's form that is no multiple of one
   summing : (n : ℕ) (es : List (ℕ × ℕ)) (s : Standing) → IsReached ts n es s
       → (f : Form) → IsFormAmong ts f → (gs : List (Entry Number)) → AreEntriesOf s.owners gs f.variables

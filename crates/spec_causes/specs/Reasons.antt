@@ -9,7 +9,7 @@ use Rattle.spec_arithmetic.specs.Contradictions.{given, wide, la_generic}
 use Rattle.spec_tableaux.specs.Fields.{is_positive}
 use Rattle.spec_tableaux.specs.Spaces.{Pair}
 use Rattle.spec_tableaux.specs.Rows.{Entry, row_of}
-use Rattle.spec_tableaux.specs.LeastVariable.{Says, IsSettled, goes_up, crossed, stuck}
+use Rattle.spec_tableaux.specs.LeastVariable.{RuleSays, IsNonbasicFeasible, goes_up, crossed, stuck}
 use Rattle.spec_tableaux.specs.Numbers.{Number, numbers}
 use Rattle.spec_strains.specs.Points.{deltas, Ranges, BoardState}
 use Rattle.spec_simplex.specs.Constraints.{Relation, equals}
@@ -33,9 +33,9 @@ unit_entries y = record { variable = y; coefficient = numbers.one } ∷ []
 -- The bounds of the variables of entries cannot all be kept, as the sum of these is 0: up says whether the sum would have to rise.
 pub data Conflicts (ranges : Ranges) (t : BoardState) : Bool → List (Entry Number) → Type 0 where
   -- the bounds of a variable cross
-  crossing : (y : ℕ) → Says deltas ranges t (crossed y) → Conflicts ranges t true (with_basic y (unit_entries y))
+  crossing : (y : ℕ) → RuleSays deltas ranges t (crossed y) → Conflicts ranges t true (with_basic y (unit_entries y))
   -- a basic variable violates a bound, and no variable of its row can move
-  sticking : (b : ℕ) → IsSettled deltas ranges t → Says deltas ranges t (stuck b)
+  sticking : (b : ℕ) → IsNonbasicFeasible deltas ranges t → RuleSays deltas ranges t (stuck b)
       → Conflicts ranges t (goes_up deltas ranges t b) (with_basic b (row_of b t.rows).entries)
 
 -- the side on which a variable with the coefficient c is stopped where a sum is to rise, or to fall where up is false

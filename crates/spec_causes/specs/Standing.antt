@@ -32,8 +32,8 @@ abbrev pub owner_in : List (Option Term) → ℕ → Option Term
 owner_in owners y = get_or owners y None
 
 -- a new variable stands for a term; its value is 0
-abbrev pub with_term : Standing → Term → Standing
-with_term s u = record {
+abbrev pub with_slack : Standing → Term → Standing
+with_slack s u = record {
   owners = s.owners ++ Some u ∷ [];
   listed = s.listed;
   rows = s.rows;

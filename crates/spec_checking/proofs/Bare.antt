@@ -17,7 +17,7 @@ use Rattle.spec_sorts.specs.Theory.{Rule, look_up, theory}
 use Rattle.spec_sorts.specs.Signatures.{Definition, Known, known_name, of_sort, of_function, Signature, known_as, definition, with_definitions}
 use Rattle.spec_sorts.specs.Forms.{Form, malformed, reserved, applies, binds, annotates, is_empty, is_name, are_named, is_let, is_annotated, word_form, form, a_keyword, named_words}
 use Rattle.spec_reading.specs.Names.{Setting, proof, is_kept_name, is_barred, new_name, is_in_list}
-use Rattle.spec_reading.specs.Reading.{Bound, Reading, Readings, Bindings, plain, applied, applied_as, atom_term, made_by, annotated_as, reading, readings, let_reading, bindings_reading, annotated_reading}
+use Rattle.spec_reading.specs.Reading.{Bound, Reading, Readings, Bindings, plain_reading, applied, applied_as, atom_term, made_by, annotated_as, reading, readings, let_reading, bindings_reading, annotated_reading}
 use Rattle.spec_reading.proofs.Values.{with_both, by_form}
 
 unfoldable mutual
@@ -153,14 +153,14 @@ name_again w taken x n e =
 
 -- the text is read in a proof as the same term, with later names
 abbrev Again : Signature → Bound → Tree → Reading → Type 0
-Again s b t r = (S later : Signature) → S ≡ with_definitions s r.made ++ later → reading proof S b t ≡ Ok (plain r.term)
+Again s b t r = (S later : Signature) → S ≡ with_definitions s r.made ++ later → reading proof S b t ≡ Ok (plain_reading r.term)
 
 -- so are texts, and bindings
 abbrev AllAgain : Signature → Bound → Trees → Readings → Type 0
 AllAgain s b ts r = (S later : Signature) → S ≡ with_definitions s r.made ++ later → readings proof S b ts ≡ Ok (record { made = []; terms = r.terms })
 
 abbrev LetAgain : Signature → Bound → ℕ → Trees → Reading → Type 0
-LetAgain s b at ts r = (S later : Signature) → S ≡ with_definitions s r.made ++ later → let_reading proof S b at ts ≡ Ok (plain r.term)
+LetAgain s b at ts r = (S later : Signature) → S ≡ with_definitions s r.made ++ later → let_reading proof S b at ts ≡ Ok (plain_reading r.term)
 
 abbrev BindingsAgain : Signature → Bound → List Name → Trees → Bindings → Type 0
 BindingsAgain s b names ts r = (S later : Signature) → S ≡ with_definitions s r.made ++ later → bindings_reading proof S b names ts ≡ Ok (record { made = []; bound = r.bound })
@@ -183,9 +183,9 @@ mutual
   pub read_again : (w : Setting) (s : Signature) (b : Bound) (t : Tree) (r : Reading) → reading w s b t ≡ Ok r → Again s b (bare t) r
   read_again w s b (atom at k n) r e =
       let a = went (atom_term s b at k n) _ r e in
-      subst (λ (x : Reading). Again s b (atom at k n) x) (answer (Ok (plain a.first)) r a.then) λ S later is.
+      subst (λ (x : Reading). Again s b (atom at k n) x) (answer (Ok (plain_reading a.first)) r a.then) λ S later is.
       let all : S ≡ s ++ later = is ∙ ap (λ x. x ++ later) (append-nil s) in
-      joined (atom_term S b at k n) _ a.first (plain a.first) (ap (λ x. atom_term x b at k n) all ∙ atom_more s later b at k n a.first a.was) refl
+      joined (atom_term S b at k n) _ a.first (plain_reading a.first) (ap (λ x. atom_term x b at k n) all ∙ atom_more s later b at k n a.first a.was) refl
   read_again w s b (list at none end) r e = absurd (answer (refused at BadShape) r e)
   read_again w s b (list at (more head us) end) r e = go (form head us) refl (all_again w s b us) (let_again w s b at us) (first_again w s b at us) e
     where
@@ -203,7 +203,7 @@ mutual
           subst (λ (x : Reading). Again s b (list at (more head (bare_all us)) end) x) (answer (Ok (record { made = a.first.made; term = c.first })) r c.then) λ S later same.
           let found : applied (with_definitions S []) b place n at a.first.terms ≡ Ok c.first = ap (λ x. applied x b place n at a.first.terms) (append-nil S ∙ same) ∙ applied_more (with_definitions s a.first.made) later b place n at a.first.terms c.first c.was in
           ap (by_form proof S b at (bare_all us)) (form_applies head us place n is)
-          ∙ joined (readings proof S b (bare_all us)) _ (record { made = []; terms = a.first.terms }) (plain c.first) (all a.first a.was S later same) (joined (applied (with_definitions S []) b place n at a.first.terms) _ c.first (plain c.first) found refl)
+          ∙ joined (readings proof S b (bare_all us)) _ (record { made = []; terms = a.first.terms }) (plain_reading c.first) (all a.first a.was S later same) (joined (applied (with_definitions S []) b place n at a.first.terms) _ c.first (plain_reading c.first) found refl)
       go binds is all one two e = λ S later same. ap (by_form proof S b at (bare_let us)) (form_binds head us is) ∙ one r e S later same
       go annotates is all one two e = two r e
 
@@ -213,7 +213,7 @@ mutual
       let a = went (reading w s b t) _ r e in
       let c = went (readings w (with_definitions s a.first.made) b ts) _ r a.then in
       subst (λ (x : Readings). AllAgain s b (more (bare t) (bare_all ts)) x) (answer (Ok _) r c.then) λ S later is.
-      joined (reading proof S b (bare t)) _ (plain a.first.term) _ (read_again w s b t a.first a.was S (map definition c.first.made ++ later) (behind_one s a.first.made c.first.made S later is))
+      joined (reading proof S b (bare t)) _ (plain_reading a.first.term) _ (read_again w s b t a.first a.was S (map definition c.first.made ++ later) (behind_one s a.first.made c.first.made S later is))
       (joined (readings proof (with_definitions S []) b (bare_all ts)) _ (record { made = []; terms = c.first.terms }) _ (all_again w (with_definitions s a.first.made) b ts c.first c.was (with_definitions S []) later (behind_none s a.first.made c.first.made S later is)) refl)
 
   let_again : (w : Setting) (s : Signature) (b : Bound) (at : ℕ) (ts : Trees) (r : Reading) → let_reading w s b at ts ≡ Ok r → LetAgain s b at (bare_let ts) r
@@ -222,7 +222,7 @@ mutual
       let c = went (reading w (with_definitions s a.first.made) (a.first.bound ++ b) body) _ r a.then in
       subst (λ (x : Reading). LetAgain s b at (bare_let (more (list place bindings end) (more body none))) x) (answer (Ok _) r c.then) λ S later is.
       joined (bindings_reading proof S b [] (bare_bindings bindings)) _ (record { made = []; bound = a.first.bound }) _ (bindings_again w s b [] bindings a.first a.was S (map definition c.first.made ++ later) (behind_one s a.first.made c.first.made S later is))
-      (joined (reading proof (with_definitions S []) (a.first.bound ++ b) (bare body)) _ (plain c.first.term) _ (read_again w (with_definitions s a.first.made) (a.first.bound ++ b) body c.first c.was (with_definitions S []) later (behind_none s a.first.made c.first.made S later is)) refl)
+      (joined (reading proof (with_definitions S []) (a.first.bound ++ b) (bare body)) _ (plain_reading c.first.term) _ (read_again w (with_definitions s a.first.made) (a.first.bound ++ b) body c.first c.was (with_definitions S []) later (behind_none s a.first.made c.first.made S later is)) refl)
   let_again w s b at _ r e = absurd (answer (refused at BadShape) r e)
 
   bindings_again : (w : Setting) (s : Signature) (b : Bound) (names : List Name) (ts : Trees) (r : Bindings) → bindings_reading w s b names ts ≡ Ok r → BindingsAgain s b names (bare_bindings ts) r
@@ -232,7 +232,7 @@ mutual
       let d = went (bindings_reading w (with_definitions s c.first.made) b (names ++ a.first ∷ []) rest) _ r c.then in
       subst (λ (y : Bindings). BindingsAgain s b names (more (list at (more (atom x k n) (more (bare t) none)) end) (bare_bindings rest)) y) (answer (Ok _) r d.then) λ S later is.
       joined (new_name proof (is_in_list names) (record { at = x; kind = k; bytes = n })) _ a.first _ (name_again w (is_in_list names) (record { at = x; kind = k; bytes = n }) a.first a.was)
-      (joined (reading proof S b (bare t)) _ (plain c.first.term) _ (read_again w s b t c.first c.was S (map definition d.first.made ++ later) (behind_one s c.first.made d.first.made S later is))
+      (joined (reading proof S b (bare t)) _ (plain_reading c.first.term) _ (read_again w s b t c.first c.was S (map definition d.first.made ++ later) (behind_one s c.first.made d.first.made S later is))
       (joined (bindings_reading proof (with_definitions S []) b (names ++ a.first ∷ []) (bare_bindings rest)) _ (record { made = []; bound = d.first.bound }) _ (bindings_again w (with_definitions s c.first.made) b (names ++ a.first ∷ []) rest d.first d.was (with_definitions S []) later (behind_none s c.first.made d.first.made S later is)) refl))
   bindings_again w s b names _ r e = subst (λ (y : Bindings). BindingsAgain s b names none y) (answer (Ok _) r e) (λ S later is. refl)
 

@@ -21,7 +21,7 @@ use Rattle.spec_sorts.specs.Subterms.{subterms_of, has_room}
 use Rattle.spec_sorts.specs.Literals.{Literal, complement, literal_of}
 use Rattle.spec_sorts.proofs.SameTerms.{one_term, term_itself}
 use Rattle.spec_reading.specs.Names.{script, proof}
-use Rattle.spec_reading.specs.Reading.{plain, reading, reading_of_sort}
+use Rattle.spec_reading.specs.Reading.{plain_reading, reading, reading_of_sort}
 use Rattle.spec_commands.specs.Stack.{Assertion, signature_of}
 use Rattle.spec_commands.specs.Checks.{Check, asked}
 use Rattle.spec_commands.specs.Kept.{IsAsserted}
@@ -143,23 +143,23 @@ abbrev resolves_them : Term → Term → Command
 resolves_them u w = record { made = []; statement = stepped (record { at = 0; name = codes "c"; clause = []; rule = Resolution; premises = (u ∷ []) ∷ (w ∷ []) ∷ []; arguments = none }) }
 
 -- the text of an assertion, without its attributes, is read in a proof as the assertion's term
-asserted_again : (limit : ℕ) (s S : Signature) (a : Assertion) → IsAsserted limit s a → S ≡ s → reading_of_sort proof S [] Truth (bare a.text) ≡ Ok (plain a.term)
+asserted_again : (limit : ℕ) (s S : Signature) (a : Assertion) → IsAsserted limit s a → S ≡ s → reading_of_sort proof S [] Truth (bare a.text) ≡ Ok (plain_reading a.term)
 unfolding require ◌>>=◌
 asserted_again limit s S a h same =
     let w = h.read in
-    let read = read_again script w.before [] a.text w.found w.read S w.after (same ∙ w.names) ∙ ap (λ u. Ok (plain u)) w.same in
-    joined (reading proof S [] (bare a.text)) _ (plain a.term) (plain a.term) read (ap (λ b. require b (offset_of (bare a.text)) WrongSort >>= λ fits. Ok (plain a.term)) h.sort)
+    let read = read_again script w.before [] a.text w.found w.read S w.after (same ∙ w.names) ∙ ap (λ u. Ok (plain_reading u)) w.same in
+    joined (reading proof S [] (bare a.text)) _ (plain_reading a.term) (plain_reading a.term) read (ap (λ b. require b (offset_of (bare a.text)) WrongSort >>= λ fits. Ok (plain_reading a.term)) h.sort)
 
 -- there is room for names and terms, each for itself
 fits : (limit : ℕ) (s S : Signature) (ts : List Term) → S ≡ s → nat_le (length s) limit ≡ true → nat_le (length (subterms_of ts)) limit ≡ true → has_room limit S ts ≡ true
 fits limit s S ts same few room = ap₂ (λ (a b : Bool). a && b) (ap (λ (x : Signature). nat_le (length x) limit) same ∙ few) room
 
-assumed_reads : (limit : ℕ) (k : Known) (n : Name) (t : Tree) (u : Term) → fresh_name k (named n) ≡ Ok n → reading_of_sort proof k.scope [] Truth t ≡ Ok (plain u) → has_room limit (with_definitions k.scope []) (u ∷ []) ≡ true → command_of (Some limit) k (assume_tree n t) ≡ Ok (assumes_it (offset_of t) n u)
+assumed_reads : (limit : ℕ) (k : Known) (n : Name) (t : Tree) (u : Term) → fresh_name k (named n) ≡ Ok n → reading_of_sort proof k.scope [] Truth t ≡ Ok (plain_reading u) → has_room limit (with_definitions k.scope []) (u ∷ []) ≡ true → command_of (Some limit) k (assume_tree n t) ≡ Ok (assumes_it (offset_of t) n u)
 unfolding command_of shape_of assume_shape read_shape in_proof roomy_formula require ◌>>=◌
 assumed_reads limit k n t u e f room =
-    let formula : roomy_formula (Some limit) 0 k.scope t ≡ Ok (plain u) = joined (reading_of_sort proof k.scope [] Truth t) _ (plain u) (plain u) f (ap (λ b. require b 0 Full >>= λ x. Ok (plain u)) room) in
-    let read : in_proof (named_in t) (roomy_formula (Some limit) 0 k.scope t) ≡ Ok (plain u) = ap (in_proof (named_in t)) formula in
-    joined (fresh_name k (named n)) _ n (assumes_it (offset_of t) n u) e (joined (in_proof (named_in t) (roomy_formula (Some limit) 0 k.scope t)) _ (plain u) (assumes_it (offset_of t) n u) read refl)
+    let formula : roomy_formula (Some limit) 0 k.scope t ≡ Ok (plain_reading u) = joined (reading_of_sort proof k.scope [] Truth t) _ (plain_reading u) (plain_reading u) f (ap (λ b. require b 0 Full >>= λ x. Ok (plain_reading u)) room) in
+    let read : in_proof (named_in t) (roomy_formula (Some limit) 0 k.scope t) ≡ Ok (plain_reading u) = ap (in_proof (named_in t)) formula in
+    joined (fresh_name k (named n)) _ n (assumes_it (offset_of t) n u) e (joined (in_proof (named_in t) (roomy_formula (Some limit) 0 k.scope t)) _ (plain_reading u) (assumes_it (offset_of t) n u) read refl)
 
 resolved_reads : (limit : ℕ) (s : Signature) (ts : List Term) (u w : Term) → has_room limit (with_definitions s []) [] ≡ true → command_of (Some limit) (record { scope = s; asserted = ts; entries = record { name = codes "a"; clause = u ∷ [] } ∷ record { name = codes "b"; clause = w ∷ [] } ∷ [] }) step_tree ≡ Ok (resolves_them u w)
 unfolding command_of shape_of step_shape keywords_in read_shape fresh_name in_proof literals_in roomy_literals premises_of require ◌>>=◌

@@ -30,7 +30,7 @@ use Rattle.spec_proofs.specs.declared.Rule.{Rule}
 use Rattle.spec_proofs.specs.declared.ProofKind.TheVariants.{BadShape, UnknownPremise}
 use Rattle.spec_proofs.specs.RuleNames.{rule_named}
 use Rattle.spec_proofs.specs.Faults.{Fault, Read, wrong}
-use Rattle.spec_checking.specs.Commands.{Known, Entry, Statement, assumed, stepped, nothing, Command, Shape, assumes, steps, defines, shape_of}
+use Rattle.spec_checking.specs.Commands.{Known, NamedClause, Statement, assumed, stepped, nothing, Command, Shape, assumes, steps, defines, shape_of}
 use Rattle.spec_checking.specs.Reading.{clause_of, fresh_name, named_in, named_in_all, in_proof, room, literals_in, roomy_literals, roomy_formula, roomy_definitions, rule_at, clause_at, premise_of, premises_of, read_shape, shaped, command_of}
 use Rattle.spec_checking.specs.Judging.{with_command, IsRightAfter, IsWideStep, fault_of, wide_fault, HasEmptyClause, EndsBy, FaultBy, FirstFault}
 
@@ -102,14 +102,14 @@ module _ (i : Interpretation) where
   abbrev IsTrue : Clause → Type 0
   IsTrue c = clause_true i c ≡ true
 
-  abbrev pub EntryTrue : Entry → Type 0
+  abbrev pub EntryTrue : NamedClause → Type 0
   EntryTrue e = clause_true i e.clause ≡ true
 
   abbrev pub TermTrue : Term → Type 0
   TermTrue t = term_true i t ≡ true
 
   -- a clause that is found is true, where all of them are
-  named_true : (at : ℕ) (es : List Entry) (n : Name) (c : Clause) → All EntryTrue es → clause_at at (clause_of es n) ≡ Ok c → IsTrue c
+  named_true : (at : ℕ) (es : List NamedClause) (n : Name) (c : Clause) → All EntryTrue es → clause_at at (clause_of es n) ≡ Ok c → IsTrue c
   named_true at [] n c h e = absurd (answer (wrong at UnknownPremise) c e)
   named_true at (x ∷ es) n c h e = go (bytes_eq x.name n) (named_true at es n c (All-tail EntryTrue x es h)) e
     where

@@ -23,13 +23,13 @@ use Rattle.spec_proofs.specs.Resolution.{Derives, unit, both_ways}
 use Rattle.spec_proofs.specs.declared.ProofKind.TheVariants.{Lexical, Term as term_fault, BadShape, UnknownPremise, NotAsserted, RuleFails, NoEmptyClause}
 use Rattle.spec_proofs.specs.Faults.{Fault, fault_at, Read}
 use Rattle.spec_proofs.specs.Texts.{Ending, complete, broken, left_over, AreCommands, proof_lexemes, IsProofText, ending_fault}
-use Rattle.spec_checking.specs.Commands.{Entry, Known, Command}
+use Rattle.spec_checking.specs.Commands.{NamedClause, Known, Command}
 use Rattle.spec_checking.specs.Reading.{command_of}
 use Rattle.spec_checking.specs.Judging.{with_command, HasEmptyClause, EndsBy, FaultBy, FirstFault}
 use Rattle.spec_checking.specs.Accepted.{IsVerdict}
 use Rattle.spec_checking.specs.Examples
 use Rattle.spec_checking.specs.Examples.{read_commands, contradiction, the_check, known}
-use Rattle.spec_checking.specs.ProofTexts.{first_items, read_as, first_assume, below, contradiction_is_current, asserted_there, refutation, refutation_is_read, refutation_commands, listed, listed_is_read, listed_commands, with_numbers, with_numbers_is_read, with_numbers_commands, unknown_premise, unknown_premise_is_read, unknown_premise_commands, not_linear, not_linear_is_read, not_linear_commands, one_premise, one_premise_is_read, one_premise_commands, dropped_literal, dropped_literal_is_read, dropped_literal_commands, not_asserted, not_asserted_is_read, not_asserted_commands, assumption, assumption_is_read, assumption_commands, behind_list, behind_list_commands, unclosed}
+use Rattle.spec_checking.specs.ProofTexts.{first_items, read_as, first_assume, half_below, contradiction_is_current, asserted_there, refutation, refutation_is_read, refutation_commands, listed_proof, listed_is_read, listed_commands, with_numbers, with_numbers_is_read, with_numbers_commands, unknown_premise, unknown_premise_is_read, unknown_premise_commands, not_linear, not_linear_is_read, not_linear_commands, one_premise, one_premise_is_read, one_premise_commands, dropped_literal, dropped_literal_is_read, dropped_literal_commands, not_asserted, not_asserted_is_read, not_asserted_commands, assumption, assumption_is_read, assumption_commands, behind_list, behind_list_commands, unclosed}
 
 -- the first fault of commands that are read, of the one that is not, and of what ends them
 abbrev FaultIn : Known → ℕ → Option Fault → List Command → Option Fault → Option Fault → Type 0
@@ -76,12 +76,12 @@ units_resolve =
     both_ways (literal true) (alike premises [] (literal true ∷ []) (literal true) ((0, omega arith, refl)) ((0, omega arith, refl)) (one true)) (alike premises [] (literal false ∷ []) (literal false) ((1, omega arith, refl)) ((0, omega arith, refl)) (one false))
 
 -- among clauses of which none is empty is no empty one
-no_empty : (k : Known) → All (λ (e : Entry). e.clause ≢ []) k.entries → HasEmptyClause k → ⊥
-no_empty k h empty = All-contains (λ (e : Entry). e.clause ≢ []) k.entries empty.1 h (empty.0, empty.2, empty.3) empty.4
+no_empty : (k : Known) → All (λ (e : NamedClause). e.clause ≢ []) k.entries → HasEmptyClause k → ⊥
+no_empty k h empty = All-contains (λ (e : NamedClause). e.clause ≢ []) k.entries empty.1 h (empty.0, empty.2, empty.3) empty.4
 
 -- so is none in one entry with a clause that isn't
 no_empty_in_one : (k : Known) (n : List ℕ) (t : Term) (ts : Clause) → k.entries ≡ record { name = n; clause = t ∷ ts } ∷ [] → HasEmptyClause k → ⊥
-no_empty_in_one k n t ts e = no_empty k (subst (All (λ (x : Entry). x.clause ≢ [])) (sym e) (All-cons (λ (x : Entry). x.clause ≢ []) (record { name = n; clause = t ∷ ts }) [] (λ s. cc) (All-nil (λ (x : Entry). x.clause ≢ []))))
+no_empty_in_one k n t ts e = no_empty k (subst (All (λ (x : NamedClause). x.clause ≢ [])) (sym e) (All-cons (λ (x : NamedClause). x.clause ≢ []) (record { name = n; clause = t ∷ ts }) [] (λ s. cc) (All-nil (λ (x : NamedClause). x.clause ≢ []))))
 
 -- a conjunction is neither p nor its negation
 not_there : (k : ℕ) (x : Term) → x ≡ of And (p ∷ p ∷ []) → k < 2 → slice_index_or (p ∷ negated p ∷ []) k x ≡ x → ⊥
@@ -123,12 +123,12 @@ refutation_fault = by_commands known (length refutation) None (trees_in refutati
 pub refutation_verdict : IsVerdict contradiction 1 refutation None
 refutation_verdict = judged refutation (trees_in refutation) complete refutation_is_read _ None None refutation_commands (inl (p_asserted, inl (not_p_asserted, inl (units_resolve, (2, record { name = codes "t1"; clause = [] }, omega arith, refl, refl)))))
 
-pub listed_verdict : IsVerdict contradiction 1 listed None
-listed_verdict = judged listed (first_items (trees_in listed)) complete listed_is_read _ None None listed_commands (inl (p_asserted, inl (not_p_asserted, inl (units_resolve, (2, record { name = codes "t1"; clause = [] }, omega arith, refl, refl)))))
+pub listed_verdict : IsVerdict contradiction 1 listed_proof None
+listed_verdict = judged listed_proof (first_items (trees_in listed_proof)) complete listed_is_read _ None None listed_commands (inl (p_asserted, inl (not_p_asserted, inl (units_resolve, (2, record { name = codes "t1"; clause = [] }, omega arith, refl, refl)))))
 
 pub with_numbers_verdict : IsVerdict contradiction 1 with_numbers None
 unfolding sort_of second_sort
-with_numbers_verdict = judged with_numbers (trees_in with_numbers) complete with_numbers_is_read _ None None with_numbers_commands (inl (tt, inl (p_asserted, inl (not_p_asserted, inl ((of Or (p ∷ below ∷ []), (1, omega arith, refl)), inl (units_resolve, (3, record { name = codes "t1"; clause = [] }, omega arith, refl, refl)))))))
+with_numbers_verdict = judged with_numbers (trees_in with_numbers) complete with_numbers_is_read _ None None with_numbers_commands (inl (tt, inl (p_asserted, inl (not_p_asserted, inl ((of Or (p ∷ half_below ∷ []), (1, omega arith, refl)), inl (units_resolve, (3, record { name = codes "t1"; clause = [] }, omega arith, refl, refl)))))))
 
 pub unknown_premise_verdict : IsVerdict contradiction 1 unknown_premise (Some (fault_at 79 UnknownPremise))
 unknown_premise_verdict = judged unknown_premise (trees_in unknown_premise) complete unknown_premise_is_read _ _ _ unknown_premise_commands (inl (p_asserted, inl (not_p_asserted, refl)))

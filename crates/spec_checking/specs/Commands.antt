@@ -15,7 +15,7 @@ use Rattle.spec_commands.specs.Checks.{Check, asked}
 use Rattle.spec_proofs.specs.declared.Rule.{Rule}
 
 -- A step's or an assume's name, with its clause.
-pub record Entry : Type 0 where
+pub record NamedClause : Type 0 where
   -- the name
   pub name : Name
   -- the clause
@@ -28,7 +28,7 @@ pub record Known : Type 0 where
   -- the terms that the check asks about
   pub asserted : List Term
   -- the earlier assumes and steps, oldest first
-  pub entries : List Entry
+  pub entries : List NamedClause
 
 -- what is known at a check, before a proof's first command
 abbrev pub known_at : Check → Known

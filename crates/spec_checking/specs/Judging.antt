@@ -5,11 +5,11 @@ use Rattle.spec_sorts.specs.Signatures.{with_definitions}
 use Rattle.spec_rules.specs.Rules.{IsRight, IsWide}
 use Rattle.spec_proofs.specs.declared.ProofKind.TheVariants.{BadShape, NotAsserted, RuleFails, NoEmptyClause, Wide}
 use Rattle.spec_proofs.specs.Faults.{Fault, Read, fault_at}
-use Rattle.spec_checking.specs.Commands.{Known, Entry, Statement, assumed, stepped, nothing, Command}
+use Rattle.spec_checking.specs.Commands.{Known, NamedClause, Statement, assumed, stepped, nothing, Command}
 use Rattle.spec_checking.specs.Reading.{command_of}
 
 -- the earlier assumes and steps with what is stated after them
-abbrev pub with_statement : List Entry → Statement → List Entry
+abbrev pub with_statement : List NamedClause → Statement → List NamedClause
 with_statement es (assumed at n t) = es ++ record { name = n; clause = t ∷ [] } ∷ []
 with_statement es (stepped s) = es ++ record { name = s.name; clause = s.clause } ∷ []
 with_statement es (nothing at) = es
@@ -42,7 +42,7 @@ wide_fault s = fault_of s
 
 -- some clause is empty
 abbrev pub HasEmptyClause : Known → Type 0
-HasEmptyClause k = Any (λ (e : Entry). e.clause ≡ []) k.entries
+HasEmptyClause k = Any (λ (e : NamedClause). e.clause ≡ []) k.entries
 
 -- after the last command: what ends the text wrongly is the fault; else, where no clause is empty, that is the fault, at
 -- the end of the text

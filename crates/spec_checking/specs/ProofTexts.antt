@@ -65,19 +65,19 @@ abbrev pub read_as : Trees → Commands
 read_as ts = read_commands (Some term_limit) known ts
 
 -- a command that makes no definitions
-abbrev pub plain : Statement → Command
-plain s = record { made = []; statement = s }
+abbrev pub plain_command : Statement → Command
+plain_command s = record { made = []; statement = s }
 
 -- (assume h1 p) and (assume h2 (not p)), by the offsets of their terms
 abbrev pub first_assume : ℕ → Command
-first_assume at = plain (assumed at (codes "h1") p)
+first_assume at = plain_command (assumed at (codes "h1") p)
 
 abbrev pub second_assume : ℕ → Command
-second_assume at = plain (assumed at (codes "h2") (negated p))
+second_assume at = plain_command (assumed at (codes "h2") (negated p))
 
 -- the empty clause from both, under the name t1, by the offset of the step
 abbrev pub empty_step : ℕ → Command
-empty_step at = plain (stepped (record { at = at; name = codes "t1"; clause = []; rule = rules.Resolution; premises = (p ∷ []) ∷ (negated p ∷ []) ∷ []; arguments = none }))
+empty_step at = plain_command (stepped (record { at = at; name = codes "t1"; clause = []; rule = rules.Resolution; premises = (p ∷ []) ∷ (negated p ∷ []) ∷ []; arguments = none }))
 
 -- two assumptions and their resolvent
 abbrev pub refutation : List ℕ
@@ -97,20 +97,20 @@ unfolding proofs_on_literals commands_in
 refutation_has_no_room = refl
 
 -- the same in one list, after the word `unsat`
-abbrev pub listed : List ℕ
-listed = codes "unsat\n((assume h1 p)\n(assume h2 (not p))\n(step t1 (cl) :rule resolution :premises (h1 h2)))\n"
+abbrev pub listed_proof : List ℕ
+listed_proof = codes "unsat\n((assume h1 p)\n(assume h2 (not p))\n(step t1 (cl) :rule resolution :premises (h1 h2)))\n"
 
-pub listed_is_read : IsProofText listed (first_items (trees_in listed)) complete
+pub listed_is_read : IsProofText listed_proof (first_items (trees_in listed_proof)) complete
 unfolding lexemes first_piece built
-listed_is_read = in_one_list (length (kept listed)) 6 90 (proof_lexemes listed) (first_items (trees_in listed)) refl (omega arith)
+listed_is_read = in_one_list (length (kept listed_proof)) 6 90 (proof_lexemes listed_proof) (first_items (trees_in listed_proof)) refl (omega arith)
 
-pub listed_commands : read_as (first_items (trees_in listed)) ≡ (first_assume 18 ∷ second_assume 32 ∷ empty_step 41 ∷ [], None)
+pub listed_commands : read_as (first_items (trees_in listed_proof)) ≡ (first_assume 18 ∷ second_assume 32 ∷ empty_step 41 ∷ [], None)
 unfolding proofs_on_literals read_commands
 listed_commands = refl
 
 -- (< 0.5 x)
-abbrev pub below : Term
-below = pair Less (of (Literal (record { num = pos 1; den = 2 })) []) (constant_term (constant (codes "x") Number))
+abbrev pub half_below : Term
+half_below = pair Less (of (Literal (record { num = pos 1; den = 2 })) []) (constant_term (constant (codes "x") Number))
 
 -- a definition with a parameter, a number, and `let`; arguments of a rule without any are passed over
 abbrev pub with_numbers : List ℕ
@@ -125,7 +125,7 @@ abbrev pub less_defined : Command
 less_defined = record { made = record { name = codes "@less"; parameters = (codes "a", Number) ∷ []; result = Truth; body = list 34 (more (atom 35 Simple (codes "<")) (more (atom 37 Simple (codes "a")) (more (atom 39 Simple (codes "x")) none))) 40; term = pair Less (of (Parameter 0 Number) []) (constant_term (constant (codes "x") Number)) } ∷ []; statement = nothing 0 }
 
 abbrev pub or_step : Command
-or_step = plain (stepped (record { at = 91; name = codes "t0"; clause = of Or (p ∷ below ∷ []) ∷ negated below ∷ []; rule = rules.OrNeg; premises = []; arguments = more (atom 161 Numeral (codes "1")) none }))
+or_step = plain_command (stepped (record { at = 91; name = codes "t0"; clause = of Or (p ∷ half_below ∷ []) ∷ negated half_below ∷ []; rule = rules.OrNeg; premises = []; arguments = more (atom 161 Numeral (codes "1")) none }))
 
 pub with_numbers_commands : read_as (trees_in with_numbers) ≡ (less_defined ∷ first_assume 54 ∷ second_assume 68 ∷ or_step ∷ empty_step 165 ∷ [], None)
 unfolding proofs_on_literals read_commands
@@ -169,7 +169,7 @@ pub one_premise_is_read : IsProofText one_premise (trees_in one_premise) complet
 unfolding lexemes first_piece built
 one_premise_is_read = ([], record { split = refl; within = omega arith }, refl)
 
-pub one_premise_commands : read_as (trees_in one_premise) ≡ (first_assume 11 ∷ second_assume 25 ∷ plain (stepped (record { at = 34; name = codes "t1"; clause = []; rule = rules.Resolution; premises = (p ∷ []) ∷ []; arguments = none })) ∷ [], None)
+pub one_premise_commands : read_as (trees_in one_premise) ≡ (first_assume 11 ∷ second_assume 25 ∷ plain_command (stepped (record { at = 34; name = codes "t1"; clause = []; rule = rules.Resolution; premises = (p ∷ []) ∷ []; arguments = none })) ∷ [], None)
 unfolding proofs_on_literals read_commands
 one_premise_commands = refl
 
@@ -184,7 +184,7 @@ pub dropped_literal_is_read : IsProofText dropped_literal (trees_in dropped_lite
 unfolding lexemes first_piece built
 dropped_literal_is_read = ([], record { split = refl; within = omega arith }, refl)
 
-pub dropped_literal_commands : read_as (trees_in dropped_literal) ≡ (first_assume 11 ∷ plain (stepped (record { at = 14; name = codes "t1"; clause = []; rule = rules.Contraction; premises = (p ∷ []) ∷ []; arguments = none })) ∷ [], None)
+pub dropped_literal_commands : read_as (trees_in dropped_literal) ≡ (first_assume 11 ∷ plain_command (stepped (record { at = 14; name = codes "t1"; clause = []; rule = rules.Contraction; premises = (p ∷ []) ∷ []; arguments = none })) ∷ [], None)
 unfolding proofs_on_literals read_commands
 dropped_literal_commands = refl
 
@@ -199,7 +199,7 @@ pub not_asserted_is_read : IsProofText not_asserted (trees_in not_asserted) comp
 unfolding lexemes first_piece built
 not_asserted_is_read = ([], record { split = refl; within = omega arith }, refl)
 
-pub not_asserted_commands : read_as (trees_in not_asserted) ≡ (first_assume 11 ∷ plain (assumed 25 (codes "h2") (of And (p ∷ p ∷ []))) ∷ [], None)
+pub not_asserted_commands : read_as (trees_in not_asserted) ≡ (first_assume 11 ∷ plain_command (assumed 25 (codes "h2") (of And (p ∷ p ∷ []))) ∷ [], None)
 unfolding proofs_on_literals read_commands
 not_asserted_commands = refl
 

@@ -23,16 +23,16 @@ use Rattle.spec_proofs.specs.declared.ProofKind.{ProofKind}
 use Rattle.spec_proofs.specs.declared.ProofKind.TheVariants.{BadShape, TwiceName, UnknownPremise, UnknownRule}
 use Rattle.spec_proofs.specs.RuleNames.{rule_named}
 use Rattle.spec_proofs.specs.Faults.{Fault, Read, fault_at, wrong, term_kind}
-use Rattle.spec_checking.specs.Commands.{Entry, Known, assumed, stepped, nothing, Command, Shape, assumes, steps, defines, shape_of}
+use Rattle.spec_checking.specs.Commands.{NamedClause, Known, assumed, stepped, nothing, Command, Shape, assumes, steps, defines, shape_of}
 
 -- the clause of a name
-abbrev pub clause_of : List Entry → Name → Option Clause
+abbrev pub clause_of : List NamedClause → Name → Option Clause
 clause_of [] n = None
 clause_of (e ∷ es) n = if bytes_eq e.name n then Some e.clause else clause_of es n
 
 -- the names of earlier commands, oldest first
-abbrev pub entry_names : List Entry → List Name
-entry_names es = map (λ (e : Entry). e.name) es
+abbrev pub entry_names : List NamedClause → List Name
+entry_names es = map (λ (e : NamedClause). e.name) es
 
 -- a name that no earlier command has
 unfoldable pub fresh_name : Known → Word → Read Name

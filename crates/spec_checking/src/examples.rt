@@ -10,14 +10,14 @@ ghost use Rattle.spec_proofs.specs.Faults.{fault_at};
 ghost use Rattle.spec_checking.specs.Good.{AreGood, IsGood};
 ghost use Rattle.spec_checking.specs.Accepted.{IsAccepted, IsVerdict};
 ghost use Rattle.spec_checking.specs.Examples.{contradiction, known};
-ghost use Rattle.spec_checking.specs.ProofTexts.{IsAt, refutation, listed, with_numbers, unknown_premise, not_linear, one_premise, dropped_literal, not_asserted, assumption, behind_list, unclosed};
+ghost use Rattle.spec_checking.specs.ProofTexts.{IsAt, refutation, listed_proof, with_numbers, unknown_premise, not_linear, one_premise, dropped_literal, not_asserted, assumption, behind_list, unclosed};
 
 /// States that a refutation has no fault, and is accepted: a row of commands, or a list of them after `unsat`. So the
 /// script has no model.
 pub fn refutation_is_accepted()
     ensures row { IsVerdict contradiction 1 refutation None }
-    ensures list { IsVerdict contradiction 1 listed None }
-    ensures accepted { IsAccepted contradiction 1 listed }
+    ensures list { IsVerdict contradiction 1 listed_proof None }
+    ensures accepted { IsAccepted contradiction 1 listed_proof }
     ensures no_model { HasNoModel term_limit contradiction 1 }
 {
     crate::laws::accepted_proofs_have_no_fault();
@@ -33,7 +33,7 @@ pub fn terms_of_the_whole_language_are_taken()
 pub fn good_proofs_have_no_limit()
     ensures good { AreGood None known (trees_in refutation) }
     ensures limited { AreGood (Some 3) known (trees_in refutation) → ⊥ }
-    ensures whole { IsGood term_limit contradiction 1 listed }
+    ensures whole { IsGood term_limit contradiction 1 listed_proof }
 {
     crate::laws::accepted_proofs_are_good();
     refutation_is_accepted();

@@ -6,7 +6,7 @@ use Rattle.spec_text.specs.Trees.{Trees, none, more}
 use Rattle.spec_sorts.specs.Written.{trees_in}
 use Rattle.spec_sorts.specs.Terms.{Term, same_term}
 use Rattle.spec_sorts.specs.Signatures.{Declaration, of_sort, of_function, known_name}
-use Rattle.spec_commands.specs.Stack.{Entry, Options, Stack, Taken, empty_stack, assertions_of, terms_asserted, step}
+use Rattle.spec_commands.specs.Stack.{ScopedDeclaration, Options, Stack, Taken, empty_stack, assertions_of, terms_asserted, step}
 use Rattle.spec_commands.specs.Checks.{Check, asked, current_at}
 use Rattle.spec_commands.specs.OnLiterals.{commands_on_literals}
 
@@ -29,7 +29,7 @@ name_of (of_function k) = known_name k
 
 -- the names at the k-th check of a script, each with its level
 abbrev pub names_at : ℕ → List ℕ → Option (List (ℕ × Name))
-names_at k text = option_map (λ (c : Check). map {B = ℕ × Name} (λ (e : Entry). (e.level, name_of e.declaration)) c.stack.names) (check_of k text)
+names_at k text = option_map (λ (c : Check). map {B = ℕ × Name} (λ (e : ScopedDeclaration). (e.level, name_of e.declaration)) c.stack.names) (check_of k text)
 
 -- the options at the k-th check of a script
 abbrev pub options_at : ℕ → List ℕ → Option Options

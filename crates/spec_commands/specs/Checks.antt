@@ -69,8 +69,8 @@ pub record HasNoCheck (limit : ℕ) (text : List ℕ) (k : ℕ) : Type 0 where
   pub none_here : current_at limit empty_stack k commands ≡ None
 
 -- the text has the value true under an interpretation, with the definitions of a signature
-abbrev pub IsTrueUnder : Interpretation → Signature → Assertion → Type 0
-IsTrueUnder i s a = value_under i s a.text ≡ truth true
+abbrev pub IsTrueAssertion : Interpretation → Signature → Assertion → Type 0
+IsTrueAssertion i s a = value_under i s a.text ≡ truth true
 
 -- tables of the right sorts for the current symbols, under which every current expression has the value true
 pub record MakesTrue (limit : ℕ) (i : Interpretation) (text : List ℕ) (k : ℕ) : Type 0 where
@@ -81,7 +81,7 @@ pub record MakesTrue (limit : ℕ) (i : Interpretation) (text : List ℕ) (k : �
   -- each current symbol has its table
   pub interprets : Interprets i (symbols_in (signature_of here.stack))
   -- each current expression is true
-  pub each : All (IsTrueUnder i (signature_of here.stack)) (asked here)
+  pub each : All (IsTrueAssertion i (signature_of here.stack)) (asked here)
 
 -- no interpretation makes them true, whatever its tables of the right sorts are; it says nothing where there is no such
 -- check

@@ -34,7 +34,7 @@ pub record IsAsserted (limit : ℕ) (s : Signature) (a : Assertion) : Type 0 whe
   pub room : nat_le (length (subterms_of (a.term ∷ []))) limit ≡ true
 
 -- what commands leave under a limit
-pub record IsKept (limit : ℕ) (s : Stack) : Type 0 where
+pub record IsSoundStack (limit : ℕ) (s : Stack) : Type 0 where
   -- each name gives by its text what its term gives
   pub names : AreSound (signature_of s)
   -- each definition stands for a well-sorted term

@@ -23,7 +23,7 @@ pub record Assertion : Type 0 where
   pub term : Term
 
 -- A declaration, and the level that it belongs to: 0 for the first one.
-pub record Entry : Type 0 where
+pub record ScopedDeclaration : Type 0 where
   -- the number of levels that were open when it was made
   pub level : ℕ
   -- what is declared
@@ -43,7 +43,7 @@ pub record Options : Type 0 where
 -- What commands leave.
 pub record Stack : Type 0 where
   -- what is declared and defined, in its order, each with its level
-  pub names : List Entry
+  pub names : List ScopedDeclaration
   -- the assertions of each level, in their order: the first level, and after it each that is open
   pub levels : List (List Assertion)
   -- the options
@@ -57,7 +57,7 @@ empty_stack = record { names = []; levels = [] ∷ []; options = record { print_
 
 -- all that is declared and defined, in its order
 abbrev pub signature_of : Stack → Signature
-signature_of s = map (λ (e : Entry). e.declaration) s.names
+signature_of s = map (λ (e : ScopedDeclaration). e.declaration) s.names
 
 -- lists one after the other
 abbrev pub joined : {A : Type 0} → List (List A) → List A

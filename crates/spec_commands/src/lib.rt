@@ -16,7 +16,7 @@ ghost use Rattle.spec_sorts.specs.TermValues.{value_at};
 ghost use Rattle.spec_sorts.specs.Meaning.{value_under};
 ghost use Rattle.spec_commands.specs.Stack.{Assertion, Stack, check, Taken, empty_stack, signature_of, assertions_of, step};
 ghost use Rattle.spec_commands.specs.Checks.{Check, asked, IsCurrent, HasNoCheck};
-ghost use Rattle.spec_commands.specs.Kept.{IsKept};
+ghost use Rattle.spec_commands.specs.Kept.{IsSoundStack};
 
 /// States that the fault of a command of a script stands at the offset of one of its atoms or lists.
 pub fn faults_stand_in_their_command()
@@ -34,17 +34,17 @@ pub fn checks_stand_in_their_command()
 /// Assertions have terms that were read of their texts, are of sort Bool and fit in. Later names change no value.
 /// Source: SMT-LIB 2.6, section 4.1.4.
 pub fn commands_keep_stacks()
-    ensures first { (limit : ℕ) → IsKept limit empty_stack }
-    ensures next { (limit : ℕ) (s : Stack) (t : Tree) (d : Taken) → step limit s t ≡ Ok d → IsKept limit s
-        → IsKept limit d.stack }
-    ensures value { (limit : ℕ) (s : Stack) (i : Interpretation) → IsKept limit s
+    ensures first { (limit : ℕ) → IsSoundStack limit empty_stack }
+    ensures next { (limit : ℕ) (s : Stack) (t : Tree) (d : Taken) → step limit s t ≡ Ok d → IsSoundStack limit s
+        → IsSoundStack limit d.stack }
+    ensures value { (limit : ℕ) (s : Stack) (i : Interpretation) → IsSoundStack limit s
         → All (λ (a : Assertion). value_under i (signature_of s) a.text ≡ value_at i [] a.term) (assertions_of s) }
 {}
 
 /// States that the text and the term of a current assertion have one value, under every interpretation.
 /// Source: SMT-LIB 2.6, section 5.3.
 pub fn assertions_have_their_texts_value()
-    ensures kept { (limit : ℕ) (text : List ℕ) (k : ℕ) (c : Check) → IsCurrent limit text k c → IsKept limit c.stack }
+    ensures kept { (limit : ℕ) (text : List ℕ) (k : ℕ) (c : Check) → IsCurrent limit text k c → IsSoundStack limit c.stack }
     ensures value { (limit : ℕ) (text : List ℕ) (k : ℕ) (c : Check) → IsCurrent limit text k c → (i : Interpretation)
         → All (λ (a : Assertion). value_under i (signature_of c.stack) a.text ≡ value_at i [] a.term)
         (assertions_of c.stack) }
@@ -53,9 +53,9 @@ pub fn assertions_have_their_texts_value()
 /// States that each assertion is a formula over the declared symbols. Under an interpretation of these its text has a
 /// truth value. It is so after commands that were taken, and so at each check. Source: SMT-LIB 2.6, sections 5.2 and 5.3.
 pub fn assertions_are_formulas()
-    ensures formula { (limit : ℕ) (s : Stack) → IsKept limit s
+    ensures formula { (limit : ℕ) (s : Stack) → IsSoundStack limit s
         → All (λ (a : Assertion). IsFormulaOver (symbols_in (signature_of s)) a.term) (assertions_of s) }
-    ensures value { (limit : ℕ) (s : Stack) (i : Interpretation) → IsKept limit s
+    ensures value { (limit : ℕ) (s : Stack) (i : Interpretation) → IsSoundStack limit s
         → Interprets i (symbols_in (signature_of s))
         → All (λ (a : Assertion). (b : Bool) × (value_under i (signature_of s) a.text ≡ truth b)) (assertions_of s) }
     ensures at_check { (limit : ℕ) (text : List ℕ) (k : ℕ) (c : Check) → IsCurrent limit text k c

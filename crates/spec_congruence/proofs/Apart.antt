@@ -6,12 +6,12 @@ use Rattle.spec_sorts.specs.Terms.{Head, Term, Terms, no_term, app, nil, cons, l
 use Rattle.spec_sorts.specs.Literals.{Literal}
 use Rattle.spec_equality.specs.Reasons.{equal}
 use Rattle.spec_text.proofs.Members.{none as nothing}
-use Rattle.spec_congruence.specs.Congruence.{truth_term, signed, IsCongruent, AreCongruent, equated, decided, itself, turned, joined, by_arguments, none, more}
+use Rattle.spec_congruence.specs.Congruence.{truth_term, signed_literal, IsCongruent, AreCongruent, equated, decided, itself, turned, joined, by_arguments, none, more}
 
 -- Each of two terms that are stated to be equal, or are listed with one head and arguments of the same classes, is of the other's class.
 pub record AreKept {K : Type 0} (listed : List Term) (held : List Literal) (class : Term → K) : Type 0 where
   -- the sides of held equalities
-  pub sides : (t u : Term) → Contains held (signed (equal t u) true) → class t ≡ class u
+  pub sides : (t u : Term) → Contains held (signed_literal (equal t u) true) → class t ≡ class u
   -- held literals' terms, and their truth values
   pub truths : (l : Literal) → Contains held l → class l.atom ≡ class (truth_term l.positive)
   -- listed terms
@@ -44,7 +44,7 @@ one_list (cons t ts) nil e = absurd (cc)
 -- where nothing is held, a term is equal to itself alone
 pub itself_alone : (listed : List Term) (t u : Term) → IsCongruent listed [] t u → t ≡ u
 itself_alone listed = one_class listed [] (λ t. t) (record {
-  sides = λ t u there. absurd (nothing (signed (equal t u) true) there);
+  sides = λ t u there. absurd (nothing (signed_literal (equal t u) true) there);
   truths = λ l there. absurd (nothing l there);
   terms = λ h ts us ts_there us_there e. ap (app h) (one_list ts us e);
 })
@@ -73,7 +73,7 @@ module _ {K : Type 0} (class : Term → K) where
   -- classes that each held literal keeps, and that each listed term has by its head
   pub kept_by : (listed : List Term) (held : List Literal) (by_head : Head → K) → AllByRecursion (λ t. class t ≡ by_head (head_in t)) listed → AllByRecursion IsKeptBy held → AreKept listed held class
   kept_by listed held by_head terms literals = record {
-    sides = λ t u there. (member IsKeptBy held literals (signed (equal t u) true) there).1 refl;
+    sides = λ t u there. (member IsKeptBy held literals (signed_literal (equal t u) true) there).1 refl;
     truths = λ l there. (member IsKeptBy held literals l there).0;
     terms = λ h ts us ts_there us_there e.
         member (λ t. class t ≡ by_head (head_in t)) listed terms (app h ts) ts_there ∙ sym (member (λ t. class t ≡ by_head (head_in t)) listed terms (app h us) us_there);

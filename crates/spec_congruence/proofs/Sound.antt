@@ -8,12 +8,12 @@ use Rattle.spec_sorts.specs.Values.{truth, is_true, Interpretation}
 use Rattle.spec_sorts.specs.TermValues.{value_at, values_at}
 use Rattle.spec_equality.specs.Reasons.{equal}
 use Rattle.spec_equality.proofs.Values.{sides_same, same_sides, by_values}
-use Rattle.spec_congruence.specs.Congruence.{truth_term, signed, IsCongruent, AreCongruent, IsRefuted, equated, decided, itself, turned, joined, by_arguments, none, more}
-use Rattle.spec_congruence.specs.Truth.{IsTrueUnder, AreTrueUnder}
+use Rattle.spec_congruence.specs.Congruence.{truth_term, signed_literal, IsCongruent, AreCongruent, IsRefuted, equated, decided, itself, turned, joined, by_arguments, none, more}
+use Rattle.spec_congruence.specs.Truth.{IsTrueLiteral, AreTrueUnder}
 
 module _ (i : Interpretation) (listed : List Term) (held : List Literal) (true_held : AreTrueUnder i held) where
-  is_held : (l : Literal) → Contains held l → IsTrueUnder i l
-  is_held l there = All-contains (IsTrueUnder i) held l true_held there
+  is_held : (l : Literal) → Contains held l → IsTrueLiteral i l
+  is_held l there = All-contains (IsTrueLiteral i) held l true_held there
 
   truth_value : (b : Bool) → value_at i [] (truth_term b) ≡ truth b
   unfolding value_at
@@ -24,7 +24,7 @@ module _ (i : Interpretation) (listed : List Term) (held : List Literal) (true_h
     unfolding values_at
 
     pub one_value : (t u : Term) → IsCongruent listed held t u → value_at i [] t ≡ value_at i [] u
-    one_value t u (equated _ _ there) = sides_same i t u (ap is_true (is_held (signed (equal t u) true) there))
+    one_value t u (equated _ _ there) = sides_same i t u (ap is_true (is_held (signed_literal (equal t u) true) there))
     one_value _ _ (decided l there) = is_held l there ∙ sym (truth_value l.positive)
     one_value t _ (itself _) = refl
     one_value u t (turned _ _ e) = sym (one_value t u e)
@@ -37,4 +37,4 @@ module _ (i : Interpretation) (listed : List Term) (held : List Literal) (true_h
 
   pub never_refuted : IsRefuted listed held → ⊥
   never_refuted (inl e) = false≢true (ap is_true (sym (truth_value false) ∙ sym (one_value (truth_term true) (truth_term false) e) ∙ truth_value true))
-  never_refuted (inr (t, u, there, e)) = false≢true (sym (ap is_true (is_held (signed (equal t u) false) there)) ∙ same_sides i t u (one_value t u e))
+  never_refuted (inr (t, u, there, e)) = false≢true (sym (ap is_true (is_held (signed_literal (equal t u) false) there)) ∙ same_sides i t u (one_value t u e))

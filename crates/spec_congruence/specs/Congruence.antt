@@ -10,15 +10,15 @@ truth_term true = of True []
 truth_term false = of False []
 
 -- the literal that a term is, as it stands or negated
-abbrev pub signed : Term → Bool → Literal
-signed t b = record { atom = t; positive = b }
+abbrev pub signed_literal : Term → Bool → Literal
+signed_literal t b = record { atom = t; positive = b }
 
 mutual
   -- Two terms are equal because of what is held: the least relation that holds the sides of held equalities, and each held literal's
   -- term with its truth value; that is an equivalence; and that holds listed terms with one head and equal arguments.
   pub data IsCongruent (listed : List Term) (held : List Literal) : Term → Term → Type 0 where
     -- the sides of a held equality
-    equated : (t u : Term) → Contains held (signed (equal t u) true) → IsCongruent listed held t u
+    equated : (t u : Term) → Contains held (signed_literal (equal t u) true) → IsCongruent listed held t u
     -- a held literal's term, and its truth value
     decided : (l : Literal) → Contains held l → IsCongruent listed held l.atom (truth_term l.positive)
     -- a term is equal to itself
@@ -42,7 +42,7 @@ mutual
 -- the two sides of a held negated equality are equal
 abbrev pub HasJoinedSides : List Term → List Literal → Type 0
 HasJoinedSides listed held =
-    (t : Term) × (u : Term) × Contains held (signed (equal t u) false) × IsCongruent listed held t u
+    (t : Term) × (u : Term) × Contains held (signed_literal (equal t u) false) × IsCongruent listed held t u
 
 -- what is held joins `true` and `false`, or the sides of a held negated equality
 abbrev pub IsRefuted : List Term → List Literal → Type 0

@@ -3,7 +3,7 @@ use Rattle.std.specs.Prelude.{true, false, [], ◌∷◌, codes}
 use Rattle.spec_sorts.specs.Terms.{Truth, Declared, Apply, Term, of}
 use Rattle.spec_sorts.specs.Literals.{Literal}
 use Rattle.spec_equality.specs.Reasons.{equal}
-use Rattle.spec_congruence.specs.Congruence.{signed}
+use Rattle.spec_congruence.specs.Congruence.{signed_literal}
 
 -- (f t) for a term of a declared sort
 abbrev pub f : Term → Term
@@ -15,8 +15,8 @@ h t = of (Apply (record { name = codes "h"; parameters = Truth ∷ []; result = 
 
 -- the terms are said to be equal
 abbrev pub same : Term → Term → Literal
-same t u = signed (equal t u) true
+same t u = signed_literal (equal t u) true
 
 -- the terms are said to be different
 abbrev pub apart : Term → Term → Literal
-apart t u = signed (equal t u) false
+apart t u = signed_literal (equal t u) false

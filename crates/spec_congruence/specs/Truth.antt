@@ -5,9 +5,9 @@ use Rattle.spec_sorts.specs.Values.{truth, Interpretation}
 use Rattle.spec_sorts.specs.TermValues.{value_at}
 
 -- the literal's term has the truth value that the literal says
-abbrev pub IsTrueUnder : Interpretation → Literal → Type 0
-IsTrueUnder i l = value_at i [] l.atom ≡ truth l.positive
+abbrev pub IsTrueLiteral : Interpretation → Literal → Type 0
+IsTrueLiteral i l = value_at i [] l.atom ≡ truth l.positive
 
 -- each of the literals is true
 abbrev pub AreTrueUnder : Interpretation → List Literal → Type 0
-AreTrueUnder i held = All (IsTrueUnder i) held
+AreTrueUnder i held = All (IsTrueLiteral i) held

@@ -9,7 +9,7 @@ use Rattle.spec_sorts.specs.Terms.{same_term, sort_of, second_sort}
 use Rattle.spec_sorts.specs.Literals.{Literal, complement, literals_of, literal_of}
 use Rattle.spec_sorts.specs.Subterms.{with_subterms, with_all_subterms}
 use Rattle.spec_derivations.specs.Base.{base_clauses}
-use Rattle.spec_derivations.specs.Quiet.{IsSettled, IsQuiet, IsConsistent}
+use Rattle.spec_derivations.specs.Quiet.{ImpliesNothing, IsQuiet, IsConsistent}
 use Rattle.spec_derivations.specs.Learned.{same_literal, IsNew}
 use Rattle.spec_rules.specs.Examples.{p, q}
 use Rattle.spec_derivations.specs.Examples.{asserting, eight, not_both}
@@ -55,7 +55,7 @@ two_are held (m ∷ ms) e = elim (either _ _ e) [
   | inr rest ↦ let r = two_are held ms rest in (r.0, r.1, later m ms r.0 r.2, later m ms r.1 r.3, r.4, r.5, r.6)
 ]
 
-settled_is : (held clause : List Literal) → settled held clause ≡ true → IsSettled complement held clause
+settled_is : (held clause : List Literal) → settled held clause ≡ true → ImpliesNothing complement held clause
 settled_is held clause e = elim (either _ _ e) [
   | inl h ↦ let x = Any-from_list_any (has held) clause h in inl (x.1, (x.0, x.2, x.3), has_there held x.1 x.4)
   | inr h ↦ inr (two_are held clause h)
@@ -66,12 +66,12 @@ abbrev quiet : List Literal → List (List Literal) → Bool
 quiet held [] = true
 quiet held (x ∷ xs) = settled held x && quiet held xs
 
-quiet_all : (held : List Literal) (xs : List (List Literal)) → quiet held xs ≡ true → AllByRecursion (IsSettled complement held) xs
+quiet_all : (held : List Literal) (xs : List (List Literal)) → quiet held xs ≡ true → AllByRecursion (ImpliesNothing complement held) xs
 quiet_all held [] e = tt
 quiet_all held (x ∷ xs) e = let p = and_parts (settled held x) (quiet held xs) e in (settled_is held x p.0, quiet_all held xs p.1)
 
 quiet_is : (held : List Literal) (xs : List (List Literal)) → quiet held xs ≡ true → IsQuiet complement xs held
-quiet_is held xs e x x_in = All-contains (IsSettled complement held) xs x (All-from_recursion (IsSettled complement held) xs (quiet_all held xs e)) x_in
+quiet_is held xs e x x_in = All-contains (ImpliesNothing complement held) xs x (All-from_recursion (ImpliesNothing complement held) xs (quiet_all held xs e)) x_in
 
 abbrev consistent : List Literal → List Literal → Bool
 consistent held [] = true

@@ -19,7 +19,7 @@ use Rattle.spec_proofs.specs.declared.Rest.{Rest}
 use Rattle.spec_proofs.specs.declared.Rest.TheVariants.{Nothing, One, Two, AnyOne, Each, Innermost}
 use Rattle.spec_rules.specs.Clauses.{clause_true}
 use Rattle.spec_rules.specs.Rules.{IsBy, IsRight}
-use Rattle.spec_rules.specs.Schemes.{Scheme, schemes, states, kind_of, signed, side_of, innermost, rests_of, is_formula_of, clauses_by}
+use Rattle.spec_rules.specs.Schemes.{Scheme, schemes, states, kind_of, signed_term, side_of, innermost, rests_of, is_formula_of, clauses_by}
 use Rattle.spec_derivations.specs.Problems.{Problem, terms_of_problem, subterms_in}
 use Rattle.spec_derivations.specs.Base.{clauses_of, base_clauses}
 use Rattle.spec_derivations.proofs.Below.{subterms_have, argument_sorted, head_fits}
@@ -46,7 +46,7 @@ module _ (symbols : List Symbol) where
   negated_sort t = refl
 
   -- the negation of one is one
-  signed_formula : (p : Bool) (t : Term) → Is t → Is (signed p t)
+  signed_formula : (p : Bool) (t : Term) → Is t → Is (signed_term p t)
   signed_formula true t h = h
   signed_formula false t h = record { term = before symbols [] Not (t ∷ []) (ap (λ s. head_takes [] Not (s ∷ [])) h.sort) tt (h.term, tt); sort = negated_sort t }
 
@@ -90,9 +90,9 @@ module _ (symbols : List Symbol) where
   rest_formula (One x) ts each ls h = same_clause (side_of ts x ∷ []) ls h (only_formula (side_of ts x) (side_formula ts x each))
   rest_formula (Two x y) ts each ls h = same_clause (side_of ts x ∷ side_of ts y ∷ []) ls h (All-cons Is (side_of ts x) (side_of ts y ∷ []) (side_formula ts x each) (only_formula (side_of ts y) (side_formula ts y each)))
   rest_formula (AnyOne p) ts each ls h =
-      let x = from_image (λ t. signed p t ∷ []) ts ls h in
-      subst (All Is) x.2 (only_formula (signed p x.0) (signed_formula p x.0 (All-contains Is ts x.0 each x.1)))
-  rest_formula (Each p) ts each ls h = same_clause (map (signed p) ts) ls h (All-map Is (signed p) ts (λ k d lt. signed_formula p (get_or ts k d) (each k d lt)))
+      let x = from_image (λ t. signed_term p t ∷ []) ts ls h in
+      subst (All Is) x.2 (only_formula (signed_term p x.0) (signed_formula p x.0 (All-contains Is ts x.0 each x.1)))
+  rest_formula (Each p) ts each ls h = same_clause (map (signed_term p) ts) ls h (All-map Is (signed_term p) ts (λ k d lt. signed_formula p (get_or ts k d) (each k d lt)))
   rest_formula Innermost ts each ls h = innermost_formula ts each ls h
 
   -- so is each term of a clause that a well-sorted term gives
@@ -103,7 +103,7 @@ module _ (symbols : List Symbol) where
       sorts = map sort_of (list_of ts)
 
       front : Clause → Clause
-      front ls = signed s.positive (app g ts) ∷ ls
+      front ls = signed_term s.positive (app g ts) ∷ ls
 
       go : (b : Bool) → is_formula_of s.head (app g ts) ≡ b → Contains (if b then map front (rests_of s.rest (list_of ts)) else []) c → All Is c
       go false e x = absurd (none c x)
@@ -114,7 +114,7 @@ module _ (symbols : List Symbol) where
           let each : All Is (list_of ts) = λ k d lt. record { term = argument_sorted symbols [] (app g ts) sorted (get_or (list_of ts) k d) (Contains-get_or (list_of ts) k d lt); sort = each_truth (list_of ts) parts.1 (get_or (list_of ts) k d) (Contains-get_or (list_of ts) k d lt) } in
           let first_is : Is (app g ts) = record { term = sorted; sort = core_truth g ts own parts.1 } in
           let y = from_image front (rests_of s.rest (list_of ts)) c x in
-          subst (All Is) y.2 (All-cons Is (signed s.positive (app g ts)) y.0 (signed_formula s.positive (app g ts) first_is) (rest_formula s.rest (list_of ts) each y.0 y.1))
+          subst (All Is) y.2 (All-cons Is (signed_term s.positive (app g ts)) y.0 (signed_formula s.positive (app g ts) first_is) (rest_formula s.rest (list_of ts) each y.0 y.1))
 
   module _ (p : Problem) (formulas : All Is (terms_of_problem p)) where
     -- a subterm is well sorted

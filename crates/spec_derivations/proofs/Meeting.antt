@@ -9,7 +9,7 @@ use Rattle.spec_sorts.specs.Literals.{Clause, literal_of}
 use Rattle.spec_sorts.specs.Subsets.{arguments_of}
 use Rattle.spec_proofs.specs.declared.Side.{Side}
 use Rattle.spec_proofs.specs.declared.Rest.TheVariants.{Nothing, One, Two, AnyOne, Each}
-use Rattle.spec_rules.specs.Schemes.{Scheme, schemes, signed, side_of, rests_of, is_formula_of, clauses_by}
+use Rattle.spec_rules.specs.Schemes.{Scheme, schemes, signed_term, side_of, rests_of, is_formula_of, clauses_by}
 use Rattle.spec_rules.specs.Truths.{Truths, term_true_by}
 use Rattle.spec_rules.proofs.Resolution.{complement_true}
 use Rattle.spec_derivations.specs.Base.{clauses_of}
@@ -25,7 +25,7 @@ module _ (v : Truths) where
   unfolding literal_of
   negated_true t = complement_true v (literal_of t)
 
-  pub signed_true : (p : Bool) (t : Term) → term_true_by v (signed p t) ≡ sign p (term_true_by v t)
+  pub signed_true : (p : Bool) (t : Term) → term_true_by v (signed_term p t) ≡ sign p (term_true_by v t)
   signed_true true t = refl
   signed_true false t = negated_true t
 
@@ -33,7 +33,7 @@ module _ (v : Truths) (t : Term) (met : (c : Clause) → Contains (clauses_of t)
   -- a clause that the term gives by a scheme
   pub by_scheme : (s : Scheme) → Contains schemes s → is_formula_of s.head t ≡ true → (rest : Clause) → Contains (rests_of s.rest (arguments_of t)) rest → sign s.positive (term_true_by v t) || list_any (term_true_by v) rest ≡ true
   by_scheme s s_in formula rest rest_in =
-      let before : Clause → Clause = λ ls. signed s.positive t ∷ ls in
+      let before : Clause → Clause = λ ls. signed_term s.positive t ∷ ls in
       let given : Contains (clauses_by s t) (before rest) = subst (λ b. Contains (if b then map before (rests_of s.rest (arguments_of t)) else []) (before rest)) (sym formula) (to_image before (rests_of s.rest (arguments_of t)) rest rest_in) in
       ap (λ b. b || list_any (term_true_by v) rest) (sym (signed_true v s.positive t)) ∙ met (before rest) (in_flat (λ x. clauses_by x t) schemes s (before rest) s_in given)
 
@@ -57,11 +57,11 @@ module _ (v : Truths) (t : Term) (met : (c : Clause) → Contains (clauses_of t)
 
   -- any one argument after it
   pub with_any : (h : Head) (p q : Bool) → Contains schemes (record { head = h; positive = p; rest = AnyOne q }) → is_formula_of h t ≡ true → (u : Term) → Contains (arguments_of t) u → sign p (term_true_by v t) || (sign q (term_true_by v u) || false) ≡ true
-  with_any h p q s_in formula u u_in = ap (λ b. sign p (term_true_by v t) || (b || false)) (sym (signed_true v q u)) ∙ by_scheme (record { head = h; positive = p; rest = AnyOne q }) s_in formula (signed q u ∷ []) (to_image (λ w. signed q w ∷ []) (arguments_of t) u u_in)
+  with_any h p q s_in formula u u_in = ap (λ b. sign p (term_true_by v t) || (b || false)) (sym (signed_true v q u)) ∙ by_scheme (record { head = h; positive = p; rest = AnyOne q }) s_in formula (signed_term q u ∷ []) (to_image (λ w. signed_term q w ∷ []) (arguments_of t) u u_in)
 
   -- each argument after it
-  pub with_each : (h : Head) (p q : Bool) → Contains schemes (record { head = h; positive = p; rest = Each q }) → is_formula_of h t ≡ true → sign p (term_true_by v t) || list_any (term_true_by v) (map (signed q) (arguments_of t)) ≡ true
-  with_each h p q s_in formula = by_scheme (record { head = h; positive = p; rest = Each q }) s_in formula (map (signed q) (arguments_of t)) (first (map (signed q) (arguments_of t)) [])
+  pub with_each : (h : Head) (p q : Bool) → Contains schemes (record { head = h; positive = p; rest = Each q }) → is_formula_of h t ≡ true → sign p (term_true_by v t) || list_any (term_true_by v) (map (signed_term q) (arguments_of t)) ≡ true
+  with_each h p q s_in formula = by_scheme (record { head = h; positive = p; rest = Each q }) s_in formula (map (signed_term q) (arguments_of t)) (first (map (signed_term q) (arguments_of t)) [])
 
 -- what the clauses of a head say, by cases on truths
 pub xor_by : (p a b : Bool) → not p || (a || (b || false)) ≡ true → not p || (not a || (not b || false)) ≡ true → p || (a || (not b || false)) ≡ true → p || (not a || (b || false)) ≡ true → p ≡ different a b
@@ -80,14 +80,14 @@ ite_by p false a b e f g h = ap truth (grind (arith, e, f, g, h))
 
 -- the same of all arguments
 module _ (v : Truths) where
-  pub none_false : (us : List Term) → list_any (term_true_by v) (map (signed false) us) ≡ not (all_true (map (value_by v) us))
+  pub none_false : (us : List Term) → list_any (term_true_by v) (map (signed_term false) us) ≡ not (all_true (map (value_by v) us))
   none_false [] = refl
   none_false (u ∷ us) = ap₂ (λ a b. a || b) (negated_true v u) (none_false us) ∙ go (term_true_by v u) (all_true (map (value_by v) us))
     where
       go : (a b : Bool) → not a || not b ≡ not (a && b)
       go a b = grind arith
 
-  pub one_true : (us : List Term) → list_any (term_true_by v) (map (signed true) us) ≡ any_true (map (value_by v) us)
+  pub one_true : (us : List Term) → list_any (term_true_by v) (map (signed_term true) us) ≡ any_true (map (value_by v) us)
   one_true [] = refl
   one_true (u ∷ us) = ap (λ b. term_true_by v u || b) (one_true us)
 

@@ -9,10 +9,10 @@ use Rattle.spec_sorts.specs.Literals.{Clause}
 use Rattle.spec_rules.specs.Truths.{Truths, term_true_by}
 use Rattle.spec_derivations.specs.Problems.{Problem, subterms_in}
 use Rattle.spec_derivations.specs.Base.{clauses_of, base_clauses}
-use Rattle.spec_derivations.specs.Models.{Meets, joins_formulas, Obeys}
+use Rattle.spec_derivations.specs.Models.{SatisfiesClauses, joins_formulas, Obeys}
 use Rattle.spec_derivations.proofs.Obeying.{IsMet, obeyed}
 
-module _ (p : Problem) (v : Truths) (meets : Meets v (base_clauses p)) where
+module _ (p : Problem) (v : Truths) (meets : SatisfiesClauses v (base_clauses p)) where
   -- a base clause is met
   base_met : (c : Clause) → Contains (base_clauses p) c → list_any (term_true_by v) c ≡ true
   base_met c c_in = All-contains (λ x. list_any (term_true_by v) x ≡ true) (base_clauses p) c meets c_in

@@ -13,7 +13,7 @@ use Rattle.spec_sorts.specs.Literals.{Clause, Literal, literal_of, literals_of}
 use Rattle.spec_proofs.specs.declared.Side.{Side}
 use Rattle.spec_proofs.specs.declared.Rest.{Rest}
 use Rattle.spec_proofs.specs.declared.Rest.TheVariants.{Nothing, One, Two, AnyOne, Each, Innermost}
-use Rattle.spec_rules.specs.Schemes.{Scheme, schemes, signed, side_of, innermost, rests_of, is_formula_of, clauses_by}
+use Rattle.spec_rules.specs.Schemes.{Scheme, schemes, signed_term, side_of, innermost, rests_of, is_formula_of, clauses_by}
 use Rattle.spec_derivations.specs.Problems.{Problem, terms_of_problem, subterms_in}
 use Rattle.spec_derivations.specs.Base.{clauses_of, base_clauses}
 
@@ -118,7 +118,7 @@ names_places = (
 )
 
 -- a negation has the same atom
-signed_atom : (p : Bool) (t : Term) → (literal_of (signed p t)).atom ≡ (literal_of t).atom
+signed_atom : (p : Bool) (t : Term) → (literal_of (signed_term p t)).atom ≡ (literal_of t).atom
 unfolding literal_of
 signed_atom true t = refl
 signed_atom false t = refl
@@ -136,7 +136,7 @@ module _ (us : List Term) (closed : IsClosed us) where
   abbrev IsOver : Term → Type 0
   IsOver u = Contains us (literal_of u).atom
 
-  signed_over : (p : Bool) (t : Term) → Contains us t → IsOver (signed p t)
+  signed_over : (p : Bool) (t : Term) → Contains us t → IsOver (signed_term p t)
   signed_over p t i = subst (λ (x : Term). Contains us x) (sym (signed_atom p t)) (bare_among t i)
 
   module _ (ts : List Term) (among : (t : Term) → Contains ts t → Contains us t) where
@@ -172,10 +172,10 @@ module _ (us : List Term) (closed : IsClosed us) where
       | inr k ↦ absurd (none c k)
     ]
     rest_over (AnyOne p) h c i u j =
-        let x = from_image (λ (t : Term). signed p t ∷ []) ts c i in
-        elim (cases (signed p x.0) [] u (subst (λ (d : Clause). Contains d u) (sym x.2) j)) [ inl f ↦ subst IsOver f (signed_over p x.0 (among x.0 x.1)) | inr k ↦ absurd (none u k) ]
-    rest_over (Each p) h c i u j = elim (cases (map (signed p) ts) [] c i) [
-      | inl e ↦ let x = from_image (signed p) ts u (subst (λ (d : Clause). Contains d u) (sym e) j) in subst IsOver x.2 (signed_over p x.0 (among x.0 x.1))
+        let x = from_image (λ (t : Term). signed_term p t ∷ []) ts c i in
+        elim (cases (signed_term p x.0) [] u (subst (λ (d : Clause). Contains d u) (sym x.2) j)) [ inl f ↦ subst IsOver f (signed_over p x.0 (among x.0 x.1)) | inr k ↦ absurd (none u k) ]
+    rest_over (Each p) h c i u j = elim (cases (map (signed_term p) ts) [] c i) [
+      | inl e ↦ let x = from_image (signed_term p) ts u (subst (λ (d : Clause). Contains d u) (sym e) j) in subst IsOver x.2 (signed_over p x.0 (among x.0 x.1))
       | inr k ↦ absurd (none c k)
     ]
     rest_over Innermost h c i u j = innermost_over c i u j
@@ -184,14 +184,14 @@ module _ (us : List Term) (closed : IsClosed us) where
   given_over : (s : Scheme) → NamesPlaces s → (t : Term) → Contains us t → (c : Clause) → Contains (clauses_by s t) c → (u : Term) → Contains c u → IsOver u
   given_over s places (app g ts) t_in c i u j = go (is_formula_of s.head (app g ts)) refl i
     where
-      go : (b : Bool) → is_formula_of s.head (app g ts) ≡ b → Contains (cond b (map (λ ls. signed s.positive (app g ts) ∷ ls) (rests_of s.rest (list_of ts))) []) c → IsOver u
+      go : (b : Bool) → is_formula_of s.head (app g ts) ≡ b → Contains (cond b (map (λ ls. signed_term s.positive (app g ts) ∷ ls) (rests_of s.rest (list_of ts))) []) c → IsOver u
       go false e h = absurd (none c h)
       go true e h =
-          let x = from_image (λ ls. signed s.positive (app g ts) ∷ ls) (rests_of s.rest (list_of ts)) c h in
+          let x = from_image (λ ls. signed_term s.positive (app g ts) ∷ ls) (rests_of s.rest (list_of ts)) c h in
           let all = and_parts (same_head s.head g && head_takes [] g (map sort_of (list_of ts))) (all_same Truth (map sort_of (list_of ts))) e in
           let heads = and_parts (same_head s.head g) (head_takes [] g (map sort_of (list_of ts))) all.0 in
           let there = rw length-map at (places g (map sort_of (list_of ts)) heads.0 heads.1) in
-          elim (cases (signed s.positive (app g ts)) x.0 u (subst (λ (d : Clause). Contains d u) (sym x.2) j)) [
+          elim (cases (signed_term s.positive (app g ts)) x.0 u (subst (λ (d : Clause). Contains d u) (sym x.2) j)) [
             | inl f ↦ subst IsOver f (signed_over s.positive (app g ts) t_in)
             | inr k ↦ rest_over (list_of ts) (closed (app g ts) t_in) s.rest there x.0 x.1 u k
           ]

@@ -2,7 +2,7 @@
 use Rattle.std.proofs.Common.{◌≡◌, ◌≢◌, ◌⊎◌, List, [], ◌∷◌, ◌++◌, Contains, inl, inr, sym, ◌∙◌, subst}
 use Rattle.std.proofs.lemmas.List.Elements.{Contains-push_cases}
 use Rattle.spec_proofs.specs.Resolution.{Derives, given, unit, Conflicts, false_clause, both_ways}
-use Rattle.spec_derivations.specs.Quiet.{IsSettled, IsQuiet, IsConsistent}
+use Rattle.spec_derivations.specs.Quiet.{ImpliesNothing, IsQuiet, IsConsistent}
 
 -- Literals of any kind: their complements, and that two are one or not.
 module _ {L : Type 0} (negation : L → L) (decide : (l m : L) → (l ≡ m) ⊎ (l ≢ m)) (premises : List (List L)) (start held : List L) (quiet : IsQuiet negation premises held) (consistent : IsConsistent negation held) (started : (l : L) → Contains start l → Contains held l) where
@@ -29,8 +29,8 @@ module _ {L : Type 0} (negation : L → L) (decide : (l m : L) → (l ≡ m) ⊎
   ]
 
 -- a settled clause more
-pub settled_keeps : {L : Type 0} (negation : L → L) (premises : List (List L)) (held : List L) (c : List L) → IsQuiet negation premises held → IsSettled negation held c → IsQuiet negation (premises ++ c ∷ []) held
-settled_keeps negation premises held c quiet s d d_in = elim (Contains-push_cases premises c d d_in) [ inl old ↦ quiet d old | inr e ↦ subst (λ x. IsSettled negation held x) e s ]
+pub settled_keeps : {L : Type 0} (negation : L → L) (premises : List (List L)) (held : List L) (c : List L) → IsQuiet negation premises held → ImpliesNothing negation held c → IsQuiet negation (premises ++ c ∷ []) held
+settled_keeps negation premises held c quiet s d d_in = elim (Contains-push_cases premises c d d_in) [ inl old ↦ quiet d old | inr e ↦ subst (λ x. ImpliesNothing negation held x) e s ]
 
 -- fewer clauses
 pub quiet_fewer : {L : Type 0} (negation : L → L) (more fewer : List (List L)) (held : List L) → ((c : List L) → Contains fewer c → Contains more c) → IsQuiet negation more held → IsQuiet negation fewer held

@@ -4,8 +4,8 @@ use Rattle.spec_text.specs.Trees.{none}
 use Rattle.spec_sorts.specs.Terms.{Or, Ite, Equal, Apply, Truth, Number, Symbol, Term, of, negated}
 use Rattle.spec_sorts.specs.Literals.{Clause}
 use Rattle.spec_proofs.specs.declared.Rule.TheVariants as rules
-use Rattle.spec_rules.specs.Schemes.{signed}
-use Rattle.spec_rules.specs.Examples.{p, q, r, a, b, x, y, below}
+use Rattle.spec_rules.specs.Schemes.{signed_term}
+use Rattle.spec_rules.specs.Examples.{p, q, r, a, b, x, y, less_a_b}
 use Rattle.spec_derivations.specs.Problems.{Problem}
 use Rattle.spec_derivations.specs.Derivations.{Derivation, assumption, by_rule}
 
@@ -19,7 +19,7 @@ asserting ts = speaking ts []
 
 -- the disjunction of the constants, each as it stands or negated
 abbrev pub one_of : Bool → Bool → Bool → Term
-one_of i j k = of Or (signed i p ∷ signed j q ∷ signed k r ∷ [])
+one_of i j k = of Or (signed_term i p ∷ signed_term j q ∷ signed_term k r ∷ [])
 
 -- all eight
 abbrev pub eight : List Term
@@ -27,15 +27,15 @@ eight = one_of true true true ∷ one_of true true false ∷ one_of true false t
 
 -- p and q decided: not both
 abbrev pub not_both : Clause
-not_both = signed false p ∷ signed false q ∷ []
+not_both = signed_term false p ∷ signed_term false q ∷ []
 
 -- a derivation of it: two of the eight, the clauses of their arguments, and what these resolve to
 abbrev pub not_both_derived : Derivation
 not_both_derived =
     assumption (one_of false false true) ∷
     assumption (one_of false false false) ∷
-    by_rule rules.Or (0 ∷ []) none (signed false p ∷ signed false q ∷ signed true r ∷ []) ∷
-    by_rule rules.Or (1 ∷ []) none (signed false p ∷ signed false q ∷ signed false r ∷ []) ∷
+    by_rule rules.Or (0 ∷ []) none (signed_term false p ∷ signed_term false q ∷ signed_term true r ∷ []) ∷
+    by_rule rules.Or (1 ∷ []) none (signed_term false p ∷ signed_term false q ∷ signed_term false r ∷ []) ∷
     by_rule rules.Resolution (2 ∷ 3 ∷ []) none not_both ∷ []
 
 -- a disjunction of which one argument is a negation
@@ -55,7 +55,7 @@ abbrev pub same : Term
 same = of Equal (x ∷ y ∷ [])
 
 abbrev pub below_or_same : Term
-below_or_same = of Or (below ∷ same ∷ [])
+below_or_same = of Or (less_a_b ∷ same ∷ [])
 
 -- an equality of numbers, one of them chosen by a disjunction
 abbrev pub chosen : Term

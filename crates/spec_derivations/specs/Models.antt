@@ -8,8 +8,8 @@ use Rattle.spec_sorts.specs.Literals.{Clause}
 use Rattle.spec_rules.specs.Truths.{Truths, term_true_by}
 
 -- one term of each clause is true
-abbrev pub Meets : Truths → List Clause → Type 0
-Meets v cs = All (λ c. list_any (term_true_by v) c ≡ true) cs
+abbrev pub SatisfiesClauses : Truths → List Clause → Type 0
+SatisfiesClauses v cs = All (λ c. list_any (term_true_by v) c ≡ true) cs
 
 -- the head takes the arguments, and these and the term are of sort Bool
 abbrev pub joins_formulas : Term → Bool

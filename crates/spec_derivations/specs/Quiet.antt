@@ -2,13 +2,13 @@
 use Rattle.std.specs.Prelude.{◌≢◌, ◌⊎◌, List, Contains}
 
 -- nothing follows from a clause where these literals hold: one of its own holds, or two of its own are open
-abbrev pub IsSettled : {L : Type 0} → (L → L) → List L → List L → Type 0
-IsSettled {L} negation held clause = ((m : L) × Contains clause m × Contains held m)
+abbrev pub ImpliesNothing : {L : Type 0} → (L → L) → List L → List L → Type 0
+ImpliesNothing {L} negation held clause = ((m : L) × Contains clause m × Contains held m)
     ⊎ ((m : L) × (n : L) × Contains clause m × Contains clause n × (m ≢ n) × (Contains held (negation m) → ⊥) × (Contains held (negation n) → ⊥))
 
 -- nothing follows from any of the clauses
 abbrev pub IsQuiet : {L : Type 0} → (L → L) → List (List L) → List L → Type 0
-IsQuiet {L} negation clauses held = (c : List L) → Contains clauses c → IsSettled negation held c
+IsQuiet {L} negation clauses held = (c : List L) → Contains clauses c → ImpliesNothing negation held c
 
 -- no literal holds with its complement
 abbrev pub IsConsistent : {L : Type 0} → (L → L) → List L → Type 0

@@ -4,7 +4,7 @@
 
 ghost use Rattle.std.specs.Prelude.{◌≡◌, [], ◌∷◌, Contains};
 ghost use Rattle.spec_sorts.specs.Terms.{True, Or, Equal, AtMost, of, pair, negated};
-ghost use Rattle.spec_rules.specs.Examples.{p, q, r, a, b, below};
+ghost use Rattle.spec_rules.specs.Examples.{p, q, r, a, b, less_a_b};
 ghost use Rattle.spec_derivations.specs.Problems.{Problem};
 ghost use Rattle.spec_derivations.specs.Base.{base_clauses, search_terms, search_clauses};
 ghost use Rattle.spec_derivations.specs.Orders.{order_clauses};
@@ -45,8 +45,8 @@ pub fn base_clauses_are_stated()
 pub fn base_clauses_of_other_sorts_are_stated()
     ensures comparison { base_clauses (asserting (below_or_same ∷ []))
         ≡ (below_or_same ∷ [])
-        ∷ (negated below_or_same ∷ below ∷ same ∷ [])
-        ∷ (below_or_same ∷ negated below ∷ [])
+        ∷ (negated below_or_same ∷ less_a_b ∷ same ∷ [])
+        ∷ (below_or_same ∷ negated less_a_b ∷ [])
         ∷ (below_or_same ∷ negated same ∷ []) ∷ [] }
     ensures choice { base_clauses (asserting (equals_chosen ∷ []))
         ≡ (equals_chosen ∷ [])

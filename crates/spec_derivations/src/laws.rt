@@ -14,7 +14,7 @@ ghost use Rattle.spec_derivations.specs.Problems.{Problem, terms_of_problem, sub
 ghost use Rattle.spec_derivations.specs.Derivations.{Derivation, «assumption», conclusion};
 ghost use Rattle.spec_derivations.specs.Derivations.{inference_at, conclusion_at, IsDerivation, RestsOn};
 ghost use Rattle.spec_derivations.specs.Base.{base_clauses};
-ghost use Rattle.spec_derivations.specs.Models.{Meets, joins_formulas, Obeys};
+ghost use Rattle.spec_derivations.specs.Models.{SatisfiesClauses, joins_formulas, Obeys};
 ghost use Rattle.spec_derivations.specs.Learned.{IsOpenIn, IsNew};
 ghost use Rattle.spec_derivations.specs.Spent.{IsOverAtoms, AreLearned, IsConflictBudgetSpent, IsConflict};
 ghost use Rattle.spec_derivations.specs.Examples.{asserting, eight, not_both, not_both_derived};
@@ -120,7 +120,7 @@ pub fn learned_clauses_are_true()
 /// States what truths that meet the base clauses of a check say of its terms. Each subterm that joins formulas has
 /// the value of its head at its arguments' values. Source: Tseitin 1968.
 pub fn base_clauses_define_their_terms()
-    ensures obey { (p : Problem) (v : Truths) → Meets v (base_clauses p)
+    ensures obey { (p : Problem) (v : Truths) → SatisfiesClauses v (base_clauses p)
         → (t : Term) → Contains (subterms_in p) t → joins_formulas t ≡ true → Obeys v t }
 {}
 

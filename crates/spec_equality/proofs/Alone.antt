@@ -4,8 +4,8 @@ use Rattle.spec_sorts.specs.Terms.{Term}
 use Rattle.spec_sorts.specs.Literals.{Clause}
 use Rattle.spec_equality.specs.declared.EqualityRule.{EqualityRule}
 use Rattle.spec_equality.specs.declared.EqualityRule.TheVariants as rules
-use Rattle.spec_equality.specs.Reasons.{equal, alone, Lead, AreCongruent}
-use Rattle.spec_equality.specs.EqualityRules.{IsReflexive, IsTransitive, IsCongruent, IsCongruentPred, IsSymmetric, IsChained, IsJoined, IsThen, IsElse, IsEquating}
+use Rattle.spec_equality.specs.Reasons.{equal, alone, Lead, HaveJoinedArguments}
+use Rattle.spec_equality.specs.EqualityRules.{IsReflexive, IsTransitive, IsCongruenceRule, IsCongruentPred, IsSymmetric, IsChained, IsJoined, IsThen, IsElse, IsEquating}
 use Rattle.spec_equality.proofs.Sound.{alone_is}
 
 -- a rule that takes no premise
@@ -51,7 +51,7 @@ chained_same ps qs [] same h = absurd h
 chained_same ps qs (e ∷ f ∷ c) same h = absurd h
 
 pub joined_same : (ps qs : List Clause) (c : Clause) → map alone ps ≡ map alone qs → IsJoined ps c → IsJoined qs c
-joined_same ps qs (e ∷ []) same (t, u, is, joined) = (t, u, is, subst (λ (rs : List (Option Term)). AreCongruent rs t u) same joined)
+joined_same ps qs (e ∷ []) same (t, u, is, joined) = (t, u, is, subst (λ (rs : List (Option Term)). HaveJoinedArguments rs t u) same joined)
 joined_same ps qs [] same h = absurd h
 joined_same ps qs (e ∷ f ∷ c) same h = absurd h
 
@@ -61,7 +61,7 @@ none_reflexive p ps c h = h
 none_transitive : TakesNone IsTransitive
 none_transitive p ps c h = h
 
-none_congruent : TakesNone IsCongruent
+none_congruent : TakesNone IsCongruenceRule
 none_congruent p ps c h = h
 
 none_pred : TakesNone IsCongruentPred
@@ -79,7 +79,7 @@ same_steps rules.EqReflexive ps qs c same h = bare_same ps qs c same IsReflexive
 same_steps rules.Refl ps qs c same h = bare_same ps qs c same IsReflexive none_reflexive h
 same_steps rules.DistinctElim ps qs c same h = bare_same ps qs c same IsReflexive none_reflexive h
 same_steps rules.EqTransitive ps qs c same h = bare_same ps qs c same IsTransitive none_transitive h
-same_steps rules.EqCongruent ps qs c same h = bare_same ps qs c same IsCongruent none_congruent h
+same_steps rules.EqCongruent ps qs c same h = bare_same ps qs c same IsCongruenceRule none_congruent h
 same_steps rules.EqCongruentPred ps qs c same h = bare_same ps qs c same IsCongruentPred none_pred h
 same_steps rules.Symm ps qs c same h = symmetric_same ps qs c same h
 same_steps rules.Trans ps qs c same h = chained_same ps qs c same h

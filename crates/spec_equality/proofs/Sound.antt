@@ -12,8 +12,8 @@ use Rattle.spec_sorts.specs.TermValues.{value_at, values_at}
 use Rattle.spec_sorts.specs.Literals.{Clause}
 use Rattle.spec_equality.specs.declared.EqualityRule.{EqualityRule}
 use Rattle.spec_equality.specs.declared.EqualityRule.TheVariants as rules
-use Rattle.spec_equality.specs.Reasons.{equal, denied, alone, Joins, Lead, AreJoined, AreCongruent}
-use Rattle.spec_equality.specs.EqualityRules.{IsReflexive, IsTransitive, IsCongruent, IsCongruentPred, IsSymmetric, IsChained, IsJoined, IsThen, IsElse, IsEquating, IsTrueUnder}
+use Rattle.spec_equality.specs.Reasons.{equal, denied, alone, Joins, Lead, AreJoined, HaveJoinedArguments}
+use Rattle.spec_equality.specs.EqualityRules.{IsReflexive, IsTransitive, IsCongruenceRule, IsCongruentPred, IsSymmetric, IsChained, IsJoined, IsThen, IsElse, IsEquating, IsTrueClause}
 use Rattle.spec_equality.proofs.Values.{IsTrueTerm, sides_same, same_sides, true_or_not, negated_true, by_values}
 
 -- a literal that denies a term is its negation
@@ -64,14 +64,14 @@ module _ (i : Interpretation) where
   all_same rs nil (cons u us) each h = absurd h
   all_same rs (cons t ts) nil each h = absurd h
 
-  congruent_same : (rs : List (Option Term)) (t u : Term) → AreTrue rs → AreCongruent rs t u → value t ≡ value u
+  congruent_same : (rs : List (Option Term)) (t u : Term) → AreTrue rs → HaveJoinedArguments rs t u → value t ≡ value u
   congruent_same rs (app h ts) (app g us) each (same, some, joined) = by_values i h ts us (all_same rs ts us each joined) ∙ ap (λ k. value (app k us)) same
 
   -- what single premises say is true where the premises are
-  premises_true : (premises : List Clause) → All (IsTrueUnder i) premises → AreTrue (map alone premises)
+  premises_true : (premises : List Clause) → All (IsTrueClause i) premises → AreTrue (map alone premises)
   premises_true premises each e here =
       let c = from_image alone premises (Some e) here in
-      sym (or-false (is_true (value e))) ∙ subst (IsTrueUnder i) (alone_is c.0 e c.2) (All-contains (IsTrueUnder i) premises c.0 each c.1)
+      sym (or-false (is_true (value e))) ∙ subst (IsTrueClause i) (alone_is c.0 e c.2) (All-contains (IsTrueClause i) premises c.0 each c.1)
 
   -- where no literal is true, what the literals deny is
   denied_true : (literals : List Term) → list_any (λ t. is_true (value t)) literals ≡ false → AreTrue (map denied literals)
@@ -84,7 +84,7 @@ module _ (i : Interpretation) where
       go false is there = is
 
   -- a clause is true where what comes after some literals is true if what they deny is
-  behind_true : (literals rest : List Term) → (AreTrue (map denied literals) → IsTrueUnder i rest) → IsTrueUnder i (literals ++ rest)
+  behind_true : (literals rest : List Term) → (AreTrue (map denied literals) → IsTrueClause i rest) → IsTrueClause i (literals ++ rest)
   behind_true literals rest h = list_any-append (λ t. is_true (value t)) literals rest ∙ go (list_any (λ t. is_true (value t)) literals) refl
     where
       go : (b : Bool) → list_any (λ t. is_true (value t)) literals ≡ b → list_any (λ t. is_true (value t)) literals || list_any (λ t. is_true (value t)) rest ≡ true
@@ -92,53 +92,53 @@ module _ (i : Interpretation) where
       go false e = ap (λ b. list_any (λ t. is_true (value t)) literals || b) (h (denied_true literals e)) ∙ or-true (list_any (λ t. is_true (value t)) literals)
 
   -- a clause of one equality
-  equality_true : (t u : Term) → value t ≡ value u → IsTrueUnder i (equal t u ∷ [])
+  equality_true : (t u : Term) → value t ≡ value u → IsTrueClause i (equal t u ∷ [])
   equality_true t u e = ap (λ b. b || false) (same_sides i t u e)
 
   -- a negation with a term of the same value
-  either_true : (t u : Term) → value t ≡ value u → IsTrueUnder i (negated t ∷ u ∷ [])
+  either_true : (t u : Term) → value t ≡ value u → IsTrueClause i (negated t ∷ u ∷ [])
   either_true t u e = go (is_true (value t)) refl
     where
       go : (b : Bool) → is_true (value t) ≡ b → is_true (value (negated t)) || (is_true (value u) || false) ≡ true
       go true is = ap (λ b. is_true (value (negated t)) || (b || false)) (ap is_true (sym e) ∙ is) ∙ or-true (is_true (value (negated t)))
       go false is = ap (λ b. b || (is_true (value u) || false)) (negated_true i t is)
 
-  reflexive_true : (premises : List Clause) (clause : Clause) → IsReflexive premises clause → IsTrueUnder i clause
-  reflexive_true [] (e ∷ []) (t, is) = subst (λ x. IsTrueUnder i (x ∷ [])) (sym is) (equality_true t t refl)
+  reflexive_true : (premises : List Clause) (clause : Clause) → IsReflexive premises clause → IsTrueClause i clause
+  reflexive_true [] (e ∷ []) (t, is) = subst (λ x. IsTrueClause i (x ∷ [])) (sym is) (equality_true t t refl)
   reflexive_true _ _ h = absurd h
 
-  transitive_true : (premises : List Clause) (clause : Clause) → IsTransitive premises clause → IsTrueUnder i clause
-  transitive_true [] clause (e, some, led) = subst (IsTrueUnder i) (sym e.same)
+  transitive_true : (premises : List Clause) (clause : Clause) → IsTransitive premises clause → IsTrueClause i clause
+  transitive_true [] clause (e, some, led) = subst (IsTrueClause i) (sym e.same)
       (behind_true e.literals (equal e.one e.other ∷ []) (λ each. equality_true e.one e.other (led_same (map denied e.literals) e.one e.other each led)))
   transitive_true _ _ h = absurd h
 
-  congruent_true : (premises : List Clause) (clause : Clause) → IsCongruent premises clause → IsTrueUnder i clause
-  congruent_true [] clause (e, joined) = subst (IsTrueUnder i) (sym e.same)
+  congruent_true : (premises : List Clause) (clause : Clause) → IsCongruenceRule premises clause → IsTrueClause i clause
+  congruent_true [] clause (e, joined) = subst (IsTrueClause i) (sym e.same)
       (behind_true e.literals (equal e.one e.other ∷ []) (λ each. equality_true e.one e.other (congruent_same (map denied e.literals) e.one e.other each joined)))
   congruent_true _ _ h = absurd h
 
-  pred_true : (premises : List Clause) (clause : Clause) → IsCongruentPred premises clause → IsTrueUnder i clause
+  pred_true : (premises : List Clause) (clause : Clause) → IsCongruentPred premises clause → IsTrueClause i clause
   pred_true [] clause (inl (e, sort, joined)) = congruent_true [] clause (e, joined)
-  pred_true [] clause (inr (e, joined)) = subst (IsTrueUnder i) (sym e.same)
+  pred_true [] clause (inr (e, joined)) = subst (IsTrueClause i) (sym e.same)
       (behind_true e.literals (negated e.one ∷ e.other ∷ []) (λ each. either_true e.one e.other (congruent_same (map denied e.literals) e.one e.other each joined)))
   pred_true _ _ h = absurd h
 
-  symmetric_true : (premises : List Clause) (clause : Clause) → All (IsTrueUnder i) premises → IsSymmetric premises clause → IsTrueUnder i clause
+  symmetric_true : (premises : List Clause) (clause : Clause) → All (IsTrueClause i) premises → IsSymmetric premises clause → IsTrueClause i clause
   symmetric_true (p ∷ []) clause each (t, u, is, joins) = elim joins [
-    | inl e ↦ subst (IsTrueUnder i) (sym (alone_is clause (equal t u) e)) (equality_true t u same)
-    | inr e ↦ subst (IsTrueUnder i) (sym (alone_is clause (equal u t) e)) (equality_true u t (sym same))
+    | inl e ↦ subst (IsTrueClause i) (sym (alone_is clause (equal t u) e)) (equality_true t u same)
+    | inr e ↦ subst (IsTrueClause i) (sym (alone_is clause (equal u t) e)) (equality_true u t (sym same))
   ]
     where
       same : value t ≡ value u
       same = sides_same i t u (premises_true (p ∷ []) each (equal t u) (subst (λ x. Contains (x ∷ []) (Some (equal t u))) (sym (ap alone is)) (first (Some (equal t u)) [])))
   symmetric_true _ _ each h = absurd h
 
-  chained_true : (premises : List Clause) (clause : Clause) → All (IsTrueUnder i) premises → IsChained premises clause → IsTrueUnder i clause
-  chained_true premises (e ∷ []) each (t, u, is, some, led) = subst (λ x. IsTrueUnder i (x ∷ [])) (sym is) (equality_true t u (led_same (map alone premises) t u (premises_true premises each) led))
+  chained_true : (premises : List Clause) (clause : Clause) → All (IsTrueClause i) premises → IsChained premises clause → IsTrueClause i clause
+  chained_true premises (e ∷ []) each (t, u, is, some, led) = subst (λ x. IsTrueClause i (x ∷ [])) (sym is) (equality_true t u (led_same (map alone premises) t u (premises_true premises each) led))
   chained_true _ _ each h = absurd h
 
-  joined_true : (premises : List Clause) (clause : Clause) → All (IsTrueUnder i) premises → IsJoined premises clause → IsTrueUnder i clause
-  joined_true premises (e ∷ []) each (t, u, is, joined) = subst (λ x. IsTrueUnder i (x ∷ [])) (sym is) (equality_true t u (congruent_same (map alone premises) t u (premises_true premises each) joined))
+  joined_true : (premises : List Clause) (clause : Clause) → All (IsTrueClause i) premises → IsJoined premises clause → IsTrueClause i clause
+  joined_true premises (e ∷ []) each (t, u, is, joined) = subst (λ x. IsTrueClause i (x ∷ [])) (sym is) (equality_true t u (congruent_same (map alone premises) t u (premises_true premises each) joined))
   joined_true _ _ each h = absurd h
 
   -- the branch that is chosen has the choice's value
@@ -158,24 +158,24 @@ module _ (i : Interpretation) where
       go true e = absurd (false≢true (sym e))
       go false e = refl
 
-  then_true : (premises : List Clause) (clause : Clause) → IsThen premises clause → IsTrueUnder i clause
-  then_true [] (l ∷ e ∷ []) (c, s, t, denies, is, sort) = subst (λ x. IsTrueUnder i (x ∷ e ∷ [])) (sym denies) (subst (λ x. IsTrueUnder i (negated c ∷ x ∷ [])) (sym is) (go (is_true (value c)) refl))
+  then_true : (premises : List Clause) (clause : Clause) → IsThen premises clause → IsTrueClause i clause
+  then_true [] (l ∷ e ∷ []) (c, s, t, denies, is, sort) = subst (λ x. IsTrueClause i (x ∷ e ∷ [])) (sym denies) (subst (λ x. IsTrueClause i (negated c ∷ x ∷ [])) (sym is) (go (is_true (value c)) refl))
     where
-      go : (b : Bool) → is_true (value c) ≡ b → IsTrueUnder i (negated c ∷ equal (of Ite (c ∷ s ∷ t ∷ [])) s ∷ [])
+      go : (b : Bool) → is_true (value c) ≡ b → IsTrueClause i (negated c ∷ equal (of Ite (c ∷ s ∷ t ∷ [])) s ∷ [])
       go true holds = ap (λ b. is_true (value (negated c)) || b) (equality_true (of Ite (c ∷ s ∷ t ∷ [])) s (then_same c s t holds)) ∙ or-true (is_true (value (negated c)))
       go false fails = ap (λ b. b || list_any (λ t. is_true (value t)) (equal (of Ite (c ∷ s ∷ t ∷ [])) s ∷ [])) (negated_true i c fails)
   then_true _ _ h = absurd h
 
-  else_true : (premises : List Clause) (clause : Clause) → IsElse premises clause → IsTrueUnder i clause
-  else_true [] (c ∷ e ∷ []) (s, t, is, sort) = subst (λ x. IsTrueUnder i (c ∷ x ∷ [])) (sym is) (go (is_true (value c)) refl)
+  else_true : (premises : List Clause) (clause : Clause) → IsElse premises clause → IsTrueClause i clause
+  else_true [] (c ∷ e ∷ []) (s, t, is, sort) = subst (λ x. IsTrueClause i (c ∷ x ∷ [])) (sym is) (go (is_true (value c)) refl)
     where
-      go : (b : Bool) → is_true (value c) ≡ b → IsTrueUnder i (c ∷ equal (of Ite (c ∷ s ∷ t ∷ [])) t ∷ [])
+      go : (b : Bool) → is_true (value c) ≡ b → IsTrueClause i (c ∷ equal (of Ite (c ∷ s ∷ t ∷ [])) t ∷ [])
       go true holds = ap (λ b. b || list_any (λ t. is_true (value t)) (equal (of Ite (c ∷ s ∷ t ∷ [])) t ∷ [])) holds
       go false fails = ap (λ b. is_true (value c) || b) (equality_true (of Ite (c ∷ s ∷ t ∷ [])) t (else_same c s t fails)) ∙ or-true (is_true (value c))
   else_true _ _ h = absurd h
 
   -- what follows by a rule of equality from what is true is true
-  pub equating_true : (rule : EqualityRule) (premises : List Clause) (clause : Clause) → All (IsTrueUnder i) premises → IsEquating rule premises clause → IsTrueUnder i clause
+  pub equating_true : (rule : EqualityRule) (premises : List Clause) (clause : Clause) → All (IsTrueClause i) premises → IsEquating rule premises clause → IsTrueClause i clause
   equating_true rules.EqReflexive premises clause each right = reflexive_true premises clause right
   equating_true rules.Refl premises clause each right = reflexive_true premises clause right
   equating_true rules.DistinctElim premises clause each right = reflexive_true premises clause right

@@ -10,7 +10,7 @@ use Rattle.spec_sorts.specs.Terms.{Truth, same_sort, Equal, Ite, same_head, Term
 use Rattle.spec_sorts.specs.Literals.{Clause}
 use Rattle.spec_sorts.proofs.SameTerms.{terms_decide, one_head, head_itself}
 use Rattle.spec_sorts.proofs.WellSorted.{same_sort_is}
-use Rattle.spec_equality.specs.Reasons.{equal, denied, Joins, Lead, HasReason, AreJoined, AreCongruent}
+use Rattle.spec_equality.specs.Reasons.{equal, denied, Joins, Lead, HasReason, AreJoined, HaveJoinedArguments}
 use Rattle.spec_equality.specs.EqualityRules.{EndsEqual, EndsDenied}
 use Rattle.spec_equality.proofs.Sound.{denied_is}
 
@@ -176,7 +176,7 @@ is_some_decides (x ∷ xs) = (λ h e. cc, λ h. refl)
 abbrev pub are_congruent : List (Option Term) → Term → Term → Bool
 are_congruent rs (app h ts) (app g us) = same_head h g && (is_some (list_of ts) && are_joined rs (list_of ts) (list_of us))
 
-pub are_congruent_decides : (rs : List (Option Term)) (t u : Term) → Decides (are_congruent rs t u) (AreCongruent rs t u)
+pub are_congruent_decides : (rs : List (Option Term)) (t u : Term) → Decides (are_congruent rs t u) (HaveJoinedArguments rs t u)
 are_congruent_decides rs (app h ts) (app g us) = Decides-like _ (λ w. (w.0, w.1.0, w.1.1)) (λ w. (w.0, (w.1, w.2)))
     (Decides-and (same_head h g) (is_some (list_of ts) && are_joined rs (list_of ts) (list_of us))
     (one_head h g, λ e. subst (λ x. same_head h x ≡ true) e (head_itself h))

@@ -9,8 +9,8 @@ use Rattle.spec_sorts.specs.Literals.{Clause}
 use Rattle.spec_sorts.proofs.SameTerms.{terms_decide}
 use Rattle.spec_equality.specs.declared.EqualityRule.{EqualityRule}
 use Rattle.spec_equality.specs.declared.EqualityRule.TheVariants as rules
-use Rattle.spec_equality.specs.Reasons.{equal, denied, alone, Joins, Lead, AreCongruent}
-use Rattle.spec_equality.specs.EqualityRules.{IsReflexive, IsTransitive, IsCongruent, IsCongruentPred, IsSymmetric, IsChained, IsJoined, IsThen, IsElse, IsEquating, equality_name, every_equality_rule}
+use Rattle.spec_equality.specs.Reasons.{equal, denied, alone, Joins, Lead, HaveJoinedArguments}
+use Rattle.spec_equality.specs.EqualityRules.{IsReflexive, IsTransitive, IsCongruenceRule, IsCongruentPred, IsSymmetric, IsChained, IsJoined, IsThen, IsElse, IsEquating, equality_name, every_equality_rule}
 use Rattle.spec_equality.specs.Examples.{AreTakers}
 use Rattle.spec_equality.proofs.Taking.{sides, on_sides, sides_decide, never, joins, joins_decide, leads, leads_decide, is_some, is_some_decides, are_congruent, are_congruent_decides, ends_equal, ends_equal_decides, ends_denied, ends_denied_decides, branches, on_branches, branches_decide, is_formula, formula_decides}
 
@@ -41,15 +41,15 @@ transitive_decides (p ∷ ps) c = never (λ h. h)
 abbrev pub like : List Term → Term → Term → Bool
 like ls t u = are_congruent (map denied ls) t u
 
-like_decides : (ls : List Term) (t u : Term) → Decides (like ls t u) (AreCongruent (map denied ls) t u)
+like_decides : (ls : List Term) (t u : Term) → Decides (like ls t u) (HaveJoinedArguments (map denied ls) t u)
 like_decides ls t u = are_congruent_decides (map denied ls) t u
 
 abbrev pub congruent : List Clause → Clause → Bool
 congruent [] c = ends_equal like c
 congruent _ c = false
 
-congruent_decides : (ps : List Clause) (c : Clause) → Decides (congruent ps c) (IsCongruent ps c)
-congruent_decides [] c = ends_equal_decides like (λ ls t u. AreCongruent (map denied ls) t u) like_decides c
+congruent_decides : (ps : List Clause) (c : Clause) → Decides (congruent ps c) (IsCongruenceRule ps c)
+congruent_decides [] c = ends_equal_decides like (λ ls t u. HaveJoinedArguments (map denied ls) t u) like_decides c
 congruent_decides (p ∷ ps) c = never (λ h. h)
 
 abbrev pub formulas_like : List Term → Term → Term → Bool
@@ -62,8 +62,8 @@ pred _ c = false
 pred_decides : (ps : List Clause) (c : Clause) → Decides (pred ps c) (IsCongruentPred ps c)
 pred_decides [] c = Decides-or (ends_equal formulas_like c) (ends_denied like c)
     (Decides-like (ends_equal formulas_like c) (λ w. (w.0, w.1.0, w.1.1)) (λ w. (w.0, (w.1, w.2)))
-    (ends_equal_decides formulas_like (λ ls t u. (sort_of t ≡ Truth) × AreCongruent (map denied ls) t u) (λ ls t u. Decides-and (is_formula t) (like ls t u) (formula_decides t) (like_decides ls t u)) c))
-    (ends_denied_decides like (λ ls t u. AreCongruent (map denied ls) t u) like_decides c)
+    (ends_equal_decides formulas_like (λ ls t u. (sort_of t ≡ Truth) × HaveJoinedArguments (map denied ls) t u) (λ ls t u. Decides-and (is_formula t) (like ls t u) (formula_decides t) (like_decides ls t u)) c))
+    (ends_denied_decides like (λ ls t u. HaveJoinedArguments (map denied ls) t u) like_decides c)
 pred_decides (p ∷ ps) c = never (λ h. h)
 
 abbrev pub symmetric : List Clause → Clause → Bool
@@ -98,7 +98,7 @@ joined ps (e ∷ []) = on_sides (are_congruent (map alone ps)) (sides e)
 joined ps _ = false
 
 joined_decides : (ps : List Clause) (c : Clause) → Decides (joined ps c) (IsJoined ps c)
-joined_decides ps (e ∷ []) = sides_decide (are_congruent (map alone ps)) (AreCongruent (map alone ps)) (are_congruent_decides (map alone ps)) e
+joined_decides ps (e ∷ []) = sides_decide (are_congruent (map alone ps)) (HaveJoinedArguments (map alone ps)) (are_congruent_decides (map alone ps)) e
 joined_decides ps [] = never (λ h. h)
 joined_decides ps (e ∷ f ∷ c) = never (λ h. h)
 

@@ -8,7 +8,7 @@ use Rattle.spec_sorts.specs.TermValues.{value_at}
 use Rattle.spec_sorts.specs.Literals.{Clause}
 use Rattle.spec_equality.specs.declared.EqualityRule.{EqualityRule}
 use Rattle.spec_equality.specs.declared.EqualityRule.TheVariants as rules
-use Rattle.spec_equality.specs.Reasons.{equal, denied, alone, Joins, Lead, AreCongruent}
+use Rattle.spec_equality.specs.Reasons.{equal, denied, alone, Joins, Lead, HaveJoinedArguments}
 
 -- The last literal of a clause is an equality.
 pub record EndsEqual (clause : Clause) : Type 0 where
@@ -41,15 +41,15 @@ IsTransitive [] clause = (e : EndsEqual clause) × (e.literals ≢ []) × Lead (
 IsTransitive premises clause = ⊥
 
 -- no premise, and (cl (not (= t1 u1)) .. (not (= tn un)) (= (f t1 .. tn) (f u1 .. un))), the negated equalities in any order, maybe with other literals, and without those of equal sides
-abbrev pub IsCongruent : List Clause → Clause → Type 0
-IsCongruent [] clause = (e : EndsEqual clause) × AreCongruent (map denied e.literals) e.one e.other
-IsCongruent premises clause = ⊥
+abbrev pub IsCongruenceRule : List Clause → Clause → Type 0
+IsCongruenceRule [] clause = (e : EndsEqual clause) × HaveJoinedArguments (map denied e.literals) e.one e.other
+IsCongruenceRule premises clause = ⊥
 
 -- the same for terms of sort Bool; or with (not (f t1 .. tn)) (f u1 .. un) in the place of their equality
 abbrev pub IsCongruentPred : List Clause → Clause → Type 0
 IsCongruentPred [] clause =
-    ((e : EndsEqual clause) × (sort_of e.one ≡ Truth) × AreCongruent (map denied e.literals) e.one e.other)
-    ⊎ ((e : EndsDenied clause) × AreCongruent (map denied e.literals) e.one e.other)
+    ((e : EndsEqual clause) × (sort_of e.one ≡ Truth) × HaveJoinedArguments (map denied e.literals) e.one e.other)
+    ⊎ ((e : EndsDenied clause) × HaveJoinedArguments (map denied e.literals) e.one e.other)
 IsCongruentPred premises clause = ⊥
 
 -- one premise (cl (= t u)), and (cl (= u t)) or (cl (= t u))
@@ -64,7 +64,7 @@ IsChained premises clause = ⊥
 
 -- premises (cl (= t1 u1)) .. (cl (= tn un)) and (cl (= (f t1 .. tn) (f u1 .. un))), the premises in any order, maybe with others, and without those of equal sides
 abbrev pub IsJoined : List Clause → Clause → Type 0
-IsJoined premises (e ∷ []) = (t : Term) × (u : Term) × (e ≡ equal t u) × AreCongruent (map alone premises) t u
+IsJoined premises (e ∷ []) = (t : Term) × (u : Term) × (e ≡ equal t u) × HaveJoinedArguments (map alone premises) t u
 IsJoined premises clause = ⊥
 
 -- no premise, and (cl (not c) (= (ite c s t) s)), s of another sort than Bool
@@ -83,7 +83,7 @@ IsEquating rules.EqReflexive premises clause = IsReflexive premises clause
 IsEquating rules.Refl premises clause = IsReflexive premises clause
 IsEquating rules.DistinctElim premises clause = IsReflexive premises clause
 IsEquating rules.EqTransitive premises clause = IsTransitive premises clause
-IsEquating rules.EqCongruent premises clause = IsCongruent premises clause
+IsEquating rules.EqCongruent premises clause = IsCongruenceRule premises clause
 IsEquating rules.EqCongruentPred premises clause = IsCongruentPred premises clause
 IsEquating rules.Symm premises clause = IsSymmetric premises clause
 IsEquating rules.Trans premises clause = IsChained premises clause
@@ -110,5 +110,5 @@ abbrev pub every_equality_rule : List EqualityRule
 every_equality_rule = rules.EqReflexive ∷ rules.EqTransitive ∷ rules.EqCongruent ∷ rules.EqCongruentPred ∷ rules.Refl ∷ rules.Symm ∷ rules.Trans ∷ rules.Cong ∷ rules.DistinctElim ∷ rules.IteThen ∷ rules.IteElse ∷ []
 
 -- one of the clause's terms has the value true
-abbrev pub IsTrueUnder : Interpretation → Clause → Type 0
-IsTrueUnder i c = list_any (λ t. is_true (value_at i [] t)) c ≡ true
+abbrev pub IsTrueClause : Interpretation → Clause → Type 0
+IsTrueClause i c = list_any (λ t. is_true (value_at i [] t)) c ≡ true

@@ -37,5 +37,5 @@ AreJoined reasons (t ∷ ts) (u ∷ us) = ((t ≡ u) ⊎ HasReason reasons t u) 
 AreJoined reasons _ _ = ⊥
 
 -- the terms have one head and arguments, at least one, that are joined
-abbrev pub AreCongruent : List (Option Term) → Term → Term → Type 0
-AreCongruent reasons (app h ts) (app g us) = (h ≡ g) × (list_of ts ≢ []) × AreJoined reasons (list_of ts) (list_of us)
+abbrev pub HaveJoinedArguments : List (Option Term) → Term → Term → Type 0
+HaveJoinedArguments reasons (app h ts) (app g us) = (h ≡ g) × (list_of ts ≢ []) × AreJoined reasons (list_of ts) (list_of us)

@@ -3,16 +3,16 @@ use Rattle.std.proofs.Common.{◌≡◌, ℕ, List, [], ◌∷◌, ◌++◌, ref
 use Rattle.std.specs.Prelude.{codes}
 use Rattle.std.proofs.lemmas.Grind.{common_steps}
 use Rattle.spec_text.specs.Printed.{printed}
-use Rattle.spec_sorts.specs.Values.{Value, Row}
+use Rattle.spec_sorts.specs.Values.{Value, TableRow}
 use Rattle.spec_models.specs.Values.{value_tree}
 use Rattle.spec_models.specs.Models.{condition_tree, body_tree, body_front, body_back}
 
 -- closing parentheses, one more at either end
-back_push : (rows : List Row) → body_back rows ++ 41 ∷ [] ≡ 41 ∷ body_back rows
+back_push : (rows : List TableRow) → body_back rows ++ 41 ∷ [] ≡ 41 ∷ body_back rows
 back_push [] = refl
 back_push (r ∷ rs) = ap (λ (bytes : List ℕ). 41 ∷ bytes) (back_push rs)
 
-pub printed_rows : (rows : List Row) (default : Value) → printed (body_tree rows default) ≡ body_front rows ++ printed (value_tree default) ++ body_back rows
+pub printed_rows : (rows : List TableRow) (default : Value) → printed (body_tree rows default) ≡ body_front rows ++ printed (value_tree default) ++ body_back rows
 printed_rows [] default = sym (append-nil (printed (value_tree default)))
 printed_rows (r ∷ rs) default =
     let c = printed (condition_tree r.arguments) in

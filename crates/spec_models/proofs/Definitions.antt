@@ -11,7 +11,7 @@ use Rattle.spec_text.proofs.General.{bytes_itself}
 use Rattle.spec_text.proofs.Words.{HasWords, HaveWords}
 use Rattle.spec_text.proofs.Printing.{moved, open_read, close_read, space_read, feed_read, tree_read}
 use Rattle.spec_sorts.specs.Terms.{Sort, Symbol}
-use Rattle.spec_sorts.specs.Values.{Value, HasSort, HaveSorts, Row, Interpretation, IsRowOf, IsTableOf, Interprets}
+use Rattle.spec_sorts.specs.Values.{Value, HasSort, HaveSorts, TableRow, Interpretation, IsRowOf, IsTableOf, Interprets}
 use Rattle.spec_sorts.specs.Signatures.{Signature}
 use Rattle.spec_sorts.specs.Meaning.{bind}
 use Rattle.spec_models.specs.Values.{trees_of}
@@ -36,7 +36,7 @@ module _ (g : Signature) where
   condition_spelled ss (a ∷ []) d h = (equalities_spelled 0 ss (a ∷ []) d h).0
   condition_spelled ss (a ∷ c ∷ args) d h = (bare_word 97 _ refl, equalities_spelled 0 ss (a ∷ c ∷ args) d h)
 
-  body_spelled : (s : Symbol) (rows : List Row) (default : Value) → AllByRecursion (IsSortIn g) s.parameters → IsSortIn g s.result → AllByRecursion (IsRowOf s) rows → HasSort s.result default → HasWords (body_tree rows default)
+  body_spelled : (s : Symbol) (rows : List TableRow) (default : Value) → AllByRecursion (IsSortIn g) s.parameters → IsSortIn g s.result → AllByRecursion (IsRowOf s) rows → HasSort s.result default → HasWords (body_tree rows default)
   body_spelled s [] default d r h k = value_spelled s.result default (sort_named_well g s.result r) k
   body_spelled s (row ∷ rows) default d r h k =
       (bare_word 105 _ refl, (condition_spelled s.parameters row.arguments d h.0.arguments, (value_spelled s.result row.value (sort_named_well g s.result r) h.0.value, (body_spelled s rows default d r h.1 k, tt))))

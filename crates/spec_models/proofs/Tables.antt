@@ -8,7 +8,7 @@ use Rattle.std.proofs.lemmas.Slice.Eq.{bytes_eq-Decides}
 use Rattle.spec_text.specs.Bytes.{Name}
 use Rattle.spec_sorts.specs.Lists.{neighbours, all_pass}
 use Rattle.spec_sorts.specs.Terms.{Sort, Symbol}
-use Rattle.spec_sorts.specs.Values.{Value, truth, number, element, same_value, same_values, all_true, chosen, HasSort, HaveSorts, Row, first_fit, IsRowOf}
+use Rattle.spec_sorts.specs.Values.{Value, truth, number, element, same_value, same_values, all_true, chosen, HasSort, HaveSorts, TableRow, first_fit, IsRowOf}
 use Rattle.spec_sorts.specs.Theory.{look_up, is_of_theory}
 use Rattle.spec_sorts.specs.Meaning.{theory_values, Meaning, Bindings, value_by}
 use Rattle.spec_sorts.proofs.SameTerms.{fractions_decide}
@@ -113,7 +113,7 @@ module _ (m : Meaning) (b : Bindings) (hidden : (n : Name) → is_of_theory n �
       ∙ ap truth (all_tests (a ∷ c ∷ args) (w ∷ ws) e)
 
   -- a body has the value of its table
-  pub body_means : (s : Symbol) (rows : List Row) (default : Value) (ws : List Value) → AllByRecursion (IsRowOf s) rows → HasSort s.result default → length ws ≡ length s.parameters → AreBound b 0 ws → Means m b (body_tree rows default) (first_fit rows default ws)
+  pub body_means : (s : Symbol) (rows : List TableRow) (default : Value) (ws : List Value) → AllByRecursion (IsRowOf s) rows → HasSort s.result default → length ws ≡ length s.parameters → AreBound b 0 ws → Means m b (body_tree rows default) (first_fit rows default ws)
   body_means s [] default ws h d e f = value_means m b hidden s.result default d
   body_means s (r ∷ rs) default ws h d e f =
       let test = condition_means s.parameters r.arguments ws h.0.arguments (as_many s.parameters r.arguments h.0.arguments ∙ sym e) f in

@@ -4,7 +4,7 @@ use Rattle.spec_text.specs.Bytes.{Name}
 use Rattle.spec_text.specs.Trees.{Tree}
 use Rattle.spec_text.specs.Printed.{printed}
 use Rattle.spec_sorts.specs.Terms.{Sort, Symbol}
-use Rattle.spec_sorts.specs.Values.{Value, Row, Table, Interpretation}
+use Rattle.spec_sorts.specs.Values.{Value, TableRow, Table, Interpretation}
 use Rattle.spec_models.specs.Values.{numeral, in_list, word_tree, reserved_tree, symbol_tree, sort_tree, value_tree}
 
 -- the name of a parameter by its number, from 0
@@ -45,11 +45,11 @@ abbrev pub condition_tree : List Value → Tree
 condition_tree vs = all_of (equality_trees 0 vs)
 
 -- a row's value where the parameters have its arguments, else what is printed of the others
-abbrev pub row_tree : Row → Tree → Tree
+abbrev pub row_tree : TableRow → Tree → Tree
 row_tree r others = in_list (word_tree (codes "ite") ∷ condition_tree r.arguments ∷ value_tree r.value ∷ others ∷ [])
 
 -- the value of the first row whose arguments the parameters have, else the default
-abbrev pub body_tree : List Row → Value → Tree
+abbrev pub body_tree : List TableRow → Value → Tree
 body_tree [] default = value_tree default
 body_tree (r ∷ rs) default = row_tree r (body_tree rs default)
 
@@ -70,11 +70,11 @@ abbrev pub model_text : Interpretation → List Symbol → List ℕ
 model_text i symbols = 40 ∷ 10 ∷ flat_map (definition_line i) symbols ++ 41 ∷ 10 ∷ []
 
 -- what is printed for rows before the default
-abbrev pub body_front : List Row → List ℕ
+abbrev pub body_front : List TableRow → List ℕ
 body_front [] = []
 body_front (r ∷ rs) = codes "(ite " ++ printed (condition_tree r.arguments) ++ codes " " ++ printed (value_tree r.value) ++ codes " " ++ body_front rs
 
 -- and after it
-abbrev pub body_back : List Row → List ℕ
+abbrev pub body_back : List TableRow → List ℕ
 body_back [] = []
 body_back (r ∷ rs) = 41 ∷ body_back rs

@@ -4,7 +4,7 @@ ghost use Rattle.std.specs.Prelude.{◌≡◌, ℕ, ◌^◌, ◌<◌, decimal, L
 ghost use Rattle.spec_text.specs.Trees.{Tree, Trees, list, none, more, IsRead};
 ghost use Rattle.spec_text.specs.Printed.{printed};
 ghost use Rattle.spec_sorts.specs.Terms.{Sort, Symbol, Term};
-ghost use Rattle.spec_sorts.specs.Values.{Value, Row, Interpretation, Interprets, HasSort};
+ghost use Rattle.spec_sorts.specs.Values.{Value, TableRow, Interpretation, Interprets, HasSort};
 ghost use Rattle.spec_sorts.specs.WellSorted.{IsWellSorted};
 ghost use Rattle.spec_sorts.specs.TermValues.{value_at};
 ghost use Rattle.spec_sorts.specs.Signatures.{Signature};
@@ -52,6 +52,6 @@ pub fn other_texts_mean_what_they_do_in_scripts()
 /// States that the body of a table is printed row after row: what opens for each row, the default, and what closes for
 /// each row.
 pub fn bodies_are_printed_by_rows()
-    ensures { (rows : List Row) (default : Value)
+    ensures { (rows : List TableRow) (default : Value)
         → printed (body_tree rows default) ≡ body_front rows ++ value_text default ++ body_back rows }
 {}

@@ -3,19 +3,19 @@ use Rattle.std.proofs.Common.{◌≡◌, ℕ, zero, suc, ◌*◌, ◌/◌, ◌<�
 use Rattle.std.specs.Int.RustNames.{int_lt}
 use Rattle.std.proofs.Math.IntN.{*ℤ_comm}
 use Rattle.std.proofs.Math.Nat.{mul_comm, mul-div-mul_left, mul-div_cancel', div-one}
-use Rattle.spec_numbers.specs.Fractions.{Fraction, gcd, lowest, over, signed, IsReduced, SameValue}
+use Rattle.spec_numbers.specs.Fractions.{Fraction, gcd, lowest, over, signed_integer, IsReduced, SameValue}
 use Rattle.spec_numbers.proofs.Gcd.{gcd-mul_left, gcd-dvd_left, gcd-dvd_right, gcd_positive, gcd-over, quotient_positive}
 use Rattle.spec_numbers.proofs.Signs.{signed-self, over-signed, abs-signed, abs-over, signed-scale, pos-signed, zero-times}
 
 -- a common factor changes nothing
-scaled : (b : Bool) (n d k : ℕ) → 0 < k → lowest (signed b (k * n)) (k * d) ≡ lowest (signed b n) d
+scaled : (b : Bool) (n d k : ℕ) → 0 < k → lowest (signed_integer b (k * n)) (k * d) ≡ lowest (signed_integer b n) d
 scaled b n d k kp =
-    let g : gcd (unsigned_abs (signed b (k * n))) (k * d) ≡ k * gcd (unsigned_abs (signed b n)) d =
+    let g : gcd (unsigned_abs (signed_integer b (k * n))) (k * d) ≡ k * gcd (unsigned_abs (signed_integer b n)) d =
     ap (λ t. gcd t (k * d)) (abs-signed b (k * n)) ∙ gcd-mul_left k n d kp ∙ ap (λ t. k * gcd t d) (sym (abs-signed b n)) in
     λ i. record {
-      num = (ap (over (signed b (k * n))) g ∙ over-signed b (k * n) (k * gcd (unsigned_abs (signed b n)) d)
-          ∙ ap (signed b) (mul-div-mul_left n (gcd (unsigned_abs (signed b n)) d) kp) ∙ sym (over-signed b n (gcd (unsigned_abs (signed b n)) d))) i;
-      den = (ap (λ t. k * d / t) g ∙ mul-div-mul_left d (gcd (unsigned_abs (signed b n)) d) kp) i;
+      num = (ap (over (signed_integer b (k * n))) g ∙ over-signed b (k * n) (k * gcd (unsigned_abs (signed_integer b n)) d)
+          ∙ ap (signed_integer b) (mul-div-mul_left n (gcd (unsigned_abs (signed_integer b n)) d) kp) ∙ sym (over-signed b n (gcd (unsigned_abs (signed_integer b n)) d))) i;
+      den = (ap (λ t. k * d / t) g ∙ mul-div-mul_left d (gcd (unsigned_abs (signed_integer b n)) d) kp) i;
     }
 
 pub lowest-scale : (z : ℤ) (d k : ℕ) → 0 < k → lowest (pos k *ℤ z) (k * d) ≡ lowest z d
@@ -32,7 +32,7 @@ num_back z d =
     (λ i. pos (gcd (unsigned_abs z) d) *ℤ over (signed-self z i) (gcd (unsigned_abs z) d))
     ∙ ap (λ t. pos (gcd (unsigned_abs z) d) *ℤ t) (over-signed b (unsigned_abs z) (gcd (unsigned_abs z) d))
     ∙ pos-signed b (gcd (unsigned_abs z) d) (unsigned_abs z / gcd (unsigned_abs z) d)
-    ∙ ap (signed b) en ∙ sym (signed-self z)
+    ∙ ap (signed_integer b) en ∙ sym (signed-self z)
 
 pub den_back : (z : ℤ) (d : ℕ) → gcd (unsigned_abs z) d * (lowest z d).den ≡ d
 den_back z d = mul-div_cancel' _ (gcd-dvd_right (unsigned_abs z) d)
@@ -81,9 +81,9 @@ lowest-value z d dp =
     let b = int_lt z (pos 0) in
     (λ i. over (signed-self z i) (gcd (unsigned_abs z) d) *ℤ pos d)
     ∙ ap (λ t. t *ℤ pos d) (over-signed b (unsigned_abs z) (gcd (unsigned_abs z) d))
-    ∙ *ℤ_comm (signed b (unsigned_abs z / gcd (unsigned_abs z) d)) (pos d)
+    ∙ *ℤ_comm (signed_integer b (unsigned_abs z / gcd (unsigned_abs z) d)) (pos d)
     ∙ pos-signed b d (unsigned_abs z / gcd (unsigned_abs z) d)
-    ∙ ap (signed b) (parts (gcd (unsigned_abs z) d) (unsigned_abs z / gcd (unsigned_abs z) d) (d / gcd (unsigned_abs z) d) d (unsigned_abs z) ed en)
+    ∙ ap (signed_integer b) (parts (gcd (unsigned_abs z) d) (unsigned_abs z / gcd (unsigned_abs z) d) (d / gcd (unsigned_abs z) d) d (unsigned_abs z) ed en)
     ∙ sym (signed-scale z (d / gcd (unsigned_abs z) d))
   where
     parts : (g n k d m : ℕ) → g * k ≡ d → g * n ≡ m → d * n ≡ m * k
@@ -106,7 +106,7 @@ pub reduced-same : (x : Fraction) → IsReduced x → lowest x.num x.den ≡ x
 reduced-same x r =
     let b = int_lt x.num (pos 0) in
     λ i. record {
-      num = (ap (over x.num) r.coprime ∙ ap (λ z. over z 1) (signed-self x.num) ∙ over-signed b (unsigned_abs x.num) 1 ∙ ap (signed b) (div-one (unsigned_abs x.num)) ∙ sym (signed-self x.num)) i;
+      num = (ap (over x.num) r.coprime ∙ ap (λ z. over z 1) (signed-self x.num) ∙ over-signed b (unsigned_abs x.num) 1 ∙ ap (signed_integer b) (div-one (unsigned_abs x.num)) ∙ sym (signed-self x.num)) i;
       den = (ap (λ t. x.den / t) r.coprime ∙ div-one x.den) i;
     }
 

@@ -5,9 +5,9 @@ use Rattle.std.proofs.lemmas.Bool.Decides.{nat_tests}
 use Rattle.std.specs.Int.RustNames.{int_lt}
 use Rattle.std.proofs.Math.Nat.{zero-div}
 use Rattle.std.proofs.lemmas.Int.{ints}
-use Rattle.spec_numbers.specs.Fractions.{over, signed}
+use Rattle.spec_numbers.specs.Fractions.{over, signed_integer}
 
-pub signed-self : (z : ℤ) → z ≡ signed (int_lt z (pos 0)) (unsigned_abs z)
+pub signed-self : (z : ℤ) → z ≡ signed_integer (int_lt z (pos 0)) (unsigned_abs z)
 signed-self (pos zero) = refl
 signed-self (pos (suc n)) = grind (arith, nat_tests)
 signed-self (negsuc n) = refl
@@ -17,7 +17,7 @@ pub size_same : (z : ℤ) → int_lt z (pos 0) ≡ false → pos (unsigned_abs z
 size_same (pos n) e = refl
 size_same (negsuc n) e = absurd (true≢false e)
 
-pub signed-mul : (b c : Bool) (m n : ℕ) → signed b m *ℤ signed c n ≡ signed (not (beq b c)) (m * n)
+pub signed-mul : (b c : Bool) (m n : ℕ) → signed_integer b m *ℤ signed_integer c n ≡ signed_integer (not (beq b c)) (m * n)
 signed-mul true true zero zero = first_of (omega (arith, ints), search rules)
 signed-mul true true zero (suc n) = first_of (omega (arith, ints), search rules)
 signed-mul true true (suc m) zero = first_of (omega (arith, ints), search rules)
@@ -35,12 +35,12 @@ signed-mul false false zero (suc n) = first_of (omega (arith, ints), search rule
 signed-mul false false (suc m) zero = first_of (omega (arith, ints), search rules)
 signed-mul false false (suc m) (suc n) = first_of (omega (arith, ints), search rules)
 
-pub over-signed : (b : Bool) (n g : ℕ) → over (signed b n) g ≡ signed b (n / g)
+pub over-signed : (b : Bool) (n g : ℕ) → over (signed_integer b n) g ≡ signed_integer b (n / g)
 over-signed false n g = refl
 over-signed true zero g = rw zero-div refl
 over-signed true (suc n) g = refl
 
-pub abs-signed : (b : Bool) (n : ℕ) → unsigned_abs (signed b n) ≡ n
+pub abs-signed : (b : Bool) (n : ℕ) → unsigned_abs (signed_integer b n) ≡ n
 abs-signed false n = refl
 abs-signed true zero = refl
 abs-signed true (suc n) = refl
@@ -62,15 +62,15 @@ abs-neg (pos (suc n)) = refl
 abs-neg (negsuc n) = refl
 
 -- products with whole numbers that are not negative
-pub signed-scale : (x : ℤ) (k : ℕ) → x *ℤ pos k ≡ signed (int_lt x (pos 0)) (unsigned_abs x * k)
-signed-scale x k = ap (λ z. z *ℤ pos k) (signed-self x) ∙ signed-mul (int_lt x (pos 0)) false (unsigned_abs x) k ∙ ap (λ b. signed b (unsigned_abs x * k)) (flat (int_lt x (pos 0)))
+pub signed-scale : (x : ℤ) (k : ℕ) → x *ℤ pos k ≡ signed_integer (int_lt x (pos 0)) (unsigned_abs x * k)
+signed-scale x k = ap (λ z. z *ℤ pos k) (signed-self x) ∙ signed-mul (int_lt x (pos 0)) false (unsigned_abs x) k ∙ ap (λ b. signed_integer b (unsigned_abs x * k)) (flat (int_lt x (pos 0)))
   where
     flat : (b : Bool) → not (beq b false) ≡ b
     flat true = refl
     flat false = refl
 
-pub pos-signed : (b : Bool) (g n : ℕ) → pos g *ℤ signed b n ≡ signed b (g * n)
-pos-signed b g n = signed-mul false b g n ∙ ap (λ c. signed c (g * n)) (flat b)
+pub pos-signed : (b : Bool) (g n : ℕ) → pos g *ℤ signed_integer b n ≡ signed_integer b (g * n)
+pos-signed b g n = signed-mul false b g n ∙ ap (λ c. signed_integer c (g * n)) (flat b)
   where
     flat : (b : Bool) → not (beq false b) ≡ b
     flat true = refl

@@ -35,9 +35,9 @@ over (pos n) g = pos (n / g)
 over (negsuc n) g = neg_ℤ (pos (suc n / g))
 
 -- the integer of a sign and a size: minus the size where the sign is true
-abbrev pub signed : Bool → ℕ → ℤ
-signed false n = pos n
-signed true n = neg_ℤ (pos n)
+abbrev pub signed_integer : Bool → ℕ → ℤ
+signed_integer false n = pos n
+signed_integer true n = neg_ℤ (pos n)
 
 -- the fraction in lowest terms with the value of z over d, where d is above 0
 abbrev pub lowest : ℤ → ℕ → Fraction

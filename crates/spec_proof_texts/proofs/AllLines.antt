@@ -8,7 +8,7 @@ use Rattle.spec_text.specs.Printed.{printed}
 use Rattle.spec_text.proofs.Printing.{moved, moved_all}
 use Rattle.spec_sorts.specs.Terms.{Sort, Truth, Number, Declared, Symbol, Head, True, False, Not, And, Or, Xor, Implies, Equal, Ite, Minus, Plus, Times, Divide, Less, AtMost, Literal, Apply, Parameter, Term}
 use Rattle.spec_sorts.specs.Signatures.{Known as Found, declared, defined as by_definition, Signature, known_as}
-use Rattle.spec_checking.specs.Commands.{Entry}
+use Rattle.spec_checking.specs.Commands.{NamedClause}
 use Rattle.spec_checking.specs.Judging.{with_command}
 use Rattle.spec_checking.specs.Good.{AreGood}
 use Rattle.spec_checking.proofs.Good.{good_end, good_step}
@@ -58,12 +58,12 @@ numbers_more (assumes n a) ls = omega arith
 numbers_more (steps s) ls = omega arith
 
 module _ (limit : Option ℕ) (g : Signature) (asserted : List Term) (own : AreScriptNames g) where
-  line_goes : (told next : Told) (s : Signature) (entries : List Entry) (numbers : ℕ) (h : Stands g told s entries numbers) (l : Line) (at : ℕ) → IsLineAfter g asserted told l next → HasRoom limit g asserted own told s entries numbers h l → Goes limit g asserted told next s entries numbers l at
+  line_goes : (told next : Told) (s : Signature) (entries : List NamedClause) (numbers : ℕ) (h : Stands g told s entries numbers) (l : Line) (at : ℕ) → IsLineAfter g asserted told l next → HasRoom limit g asserted own told s entries numbers h l → Goes limit g asserted told next s entries numbers l at
   line_goes told next s entries numbers h (defines d) at x room = subst (λ k. Goes limit g asserted told k s entries numbers (defines d) at) (sym x.2) (define_goes limit g asserted own told s entries numbers h d at x.0 x.1 room)
   line_goes told next s entries numbers h (assumes n a) at x room = subst (λ k. Goes limit g asserted told k s entries numbers (assumes n a) at) (sym x.2) (assume_goes limit g asserted own told s entries numbers h n a x.0 at x.1 room)
   line_goes told next s entries numbers h (steps l) at x room = subst (λ k. Goes limit g asserted told k s entries numbers (steps l) at) (sym x.1) (step_goes limit g asserted own told s entries numbers h l at x.0 room)
 
-  good_lines : (told end : Told) (s : Signature) (entries : List Entry) (numbers : ℕ) (lines : List Line) (at : ℕ) → Stands g told s entries numbers → AreLinesAfter g asserted told lines end
+  good_lines : (told end : Told) (s : Signature) (entries : List NamedClause) (numbers : ℕ) (lines : List Line) (at : ℕ) → Stands g told s entries numbers → AreLinesAfter g asserted told lines end
       → IsWithin limit (length g + (numbers + numbers_in lines) + (length told.terms + definitions_in lines) + 2)
       → HasOne entries ⊎ EndsEmpty lines → AreGood limit (known asserted s entries) (moved_all at (trees_of (map line_tree lines)))
   good_lines told end s entries numbers [] at h right within (inl one) = good_end limit (known asserted s entries) (one.1.0, one.0, one.1.1, one.1.2, one.2)

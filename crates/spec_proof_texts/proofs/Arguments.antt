@@ -21,7 +21,7 @@ use Rattle.spec_sorts.specs.Signatures.{Known, declared, defined as by_definitio
 use Rattle.spec_sorts.specs.Subsets.{AreAmong}
 use Rattle.spec_sorts.proofs.SameTerms.{fractions_decide}
 use Rattle.spec_reading.specs.Names.{Setting}
-use Rattle.spec_reading.specs.Reading.{plain, literal, with_sorts, applied, applied_as, reading, readings}
+use Rattle.spec_reading.specs.Reading.{plain_reading, literal, with_sorts, applied, applied_as, reading, readings}
 use Rattle.spec_models.specs.Values.{trees_of, fraction_tree}
 use Rattle.spec_proof_texts.specs.Decimals.{places, literal_text, literal_kind, has_decimal, literal_tree, is_decimal}
 use Rattle.spec_proof_texts.specs.Lines.{Argument, truth, number, symbol, defined, defined_name, argument_tree}
@@ -86,12 +86,12 @@ module _ (s : Signature) (w : Setting) (at : ℕ) where
       ap (λ b. require b at NumberWide >>= λ fits. Ok (number_term (literal_value (literal_text q)))) fits
       ∙ ap (λ x. Ok (number_term x)) ((fractions_decide (literal_value (literal_text q)) q).0 same)
 
-  atom_read : (q : Fraction) (k : ℕ) → literal at (literal_text q) ≡ Ok (number_term q) → reading w s [] (atom at (kind_of (literal_kind k) (literal_text q)) (literal_text q)) ≡ Ok (plain (number_term q))
+  atom_read : (q : Fraction) (k : ℕ) → literal at (literal_text q) ≡ Ok (number_term q) → reading w s [] (atom at (kind_of (literal_kind k) (literal_text q)) (literal_text q)) ≡ Ok (plain_reading (number_term q))
   unfolding reading
-  atom_read q zero e = joined (literal at (literal_text q)) _ (number_term q) (plain (number_term q)) e refl
-  atom_read q (suc k) e = joined (literal at (literal_text q)) _ (number_term q) (plain (number_term q)) e refl
+  atom_read q zero e = joined (literal at (literal_text q)) _ (number_term q) (plain_reading (number_term q)) e refl
+  atom_read q (suc k) e = joined (literal at (literal_text q)) _ (number_term q) (plain_reading (number_term q)) e refl
 
-  number_read : (q : Fraction) → is_decimal q ≡ true → reading w s [] (moved at (literal_tree q)) ≡ Ok (plain (number_term q))
+  number_read : (q : Fraction) → is_decimal q ≡ true → reading w s [] (moved at (literal_tree q)) ≡ Ok (plain_reading (number_term q))
   unfolding is_decimal
   number_read q e =
       let one = and_parts (has_decimal q) (same_fraction (literal_value (literal_text q)) q && not (is_wide (literal_text q))) e in
@@ -130,22 +130,22 @@ module _ (g : Signature) (own : AreScriptNames g) (told : Told) where
             ∙ ap Ok (ap (filled []) h.1 ∙ knows.whole t (numbered_in told.terms n t e))
 
     -- a symbol is one between bars too
-    barred : (at : ℕ) (n : Name) (t : Term) (b : Bool) → applied s [] at n at [] ≡ Ok t → reading w s [] (atom at (cond b Simple Quoted) n) ≡ Ok (plain t)
+    barred : (at : ℕ) (n : Name) (t : Term) (b : Bool) → applied s [] at n at [] ≡ Ok t → reading w s [] (atom at (cond b Simple Quoted) n) ≡ Ok (plain_reading t)
     unfolding reading
-    barred at n t true e = joined (applied s [] at n at []) _ t (plain t) e refl
-    barred at n t false e = joined (applied s [] at n at []) _ t (plain t) e refl
+    barred at n t true e = joined (applied s [] at n at []) _ t (plain_reading t) e refl
+    barred at n t false e = joined (applied s [] at n at []) _ t (plain_reading t) e refl
 
-    pub argument_read : (a : Argument) (t : Term) → term_told g told a ≡ Some t → (at : ℕ) → reading w s [] (moved at (argument_tree a)) ≡ Ok (plain t)
+    pub argument_read : (a : Argument) (t : Term) → term_told g told a ≡ Some t → (at : ℕ) → reading w s [] (moved at (argument_tree a)) ≡ Ok (plain_reading t)
     unfolding reading require ◌>>=◌
-    argument_read (truth true) t e at = ap (λ u. Ok (plain u)) (same_Some _ _ e)
-    argument_read (truth false) t e at = ap (λ u. Ok (plain u)) (same_Some _ _ e)
+    argument_read (truth true) t e at = ap (λ u. Ok (plain_reading u)) (same_Some _ _ e)
+    argument_read (truth false) t e at = ap (λ u. Ok (plain_reading u)) (same_Some _ _ e)
     argument_read (number q) t e at = go (is_decimal q) refl e
       where
-        go : (b : Bool) → is_decimal q ≡ b → cond b (Some (number_term q)) None ≡ Some t → reading w s [] (moved at (argument_tree (number q))) ≡ Ok (plain t)
-        go true is e = number_read s w at q is ∙ ap (λ u. Ok (plain u)) (same_Some _ _ e)
+        go : (b : Bool) → is_decimal q ≡ b → cond b (Some (number_term q)) None ≡ Some t → reading w s [] (moved at (argument_tree (number q))) ≡ Ok (plain_reading t)
+        go true is e = number_read s w at q is ∙ ap (λ u. Ok (plain_reading u)) (same_Some _ _ e)
         go false is e = cc
     argument_read (symbol n) t e at = barred at n t (is_bare n) (symbol_applied n t e at)
-    argument_read (defined n) t e at = joined (applied s [] at (defined_name n) at []) _ t (plain t) (defined_applied n t e at) refl
+    argument_read (defined n) t e at = joined (applied s [] at (defined_name n) at []) _ t (plain_reading t) (defined_applied n t e at) refl
 
     -- terms one after the other
     pub arguments_read : (items : List Argument) (ts : List Term) → AreTold g told items ts → (at : ℕ) → readings w s [] (moved_all at (trees_of (map argument_tree items))) ≡ Ok (record { made = []; terms = ts })
@@ -156,7 +156,7 @@ module _ (g : Signature) (own : AreScriptNames g) (told : Told) where
     arguments_read (a ∷ items) (t ∷ ts) e at =
         let next : ℕ = at + length (printed (argument_tree a)) + 1 in
         let us : Trees = moved_all next (trees_of (map argument_tree items)) in
-        joined (reading w s [] (moved at (argument_tree a))) _ (plain t) (record { made = []; terms = t ∷ ts }) (argument_read a t (head_same e) at)
+        joined (reading w s [] (moved at (argument_tree a))) _ (plain_reading t) (record { made = []; terms = t ∷ ts }) (argument_read a t (head_same e) at)
         (joined (readings w (s ++ []) [] us) _ (record { made = []; terms = ts }) (record { made = []; terms = t ∷ ts }) (ap (λ x. readings w x [] us) (append-nil s) ∙ arguments_read items ts (tail_same e) next) refl)
 
   -- they are among those that can stand in place

@@ -13,7 +13,7 @@ use Rattle.spec_sorts.specs.Signatures.{Definition, Signature, definition, with_
 use Rattle.spec_sorts.proofs.WellSorted.{same_sort_itself}
 use Rattle.spec_reading.specs.Names.{proof, new_name, is_function}
 use Rattle.spec_reading.specs.Sorts.{sort_in}
-use Rattle.spec_reading.specs.Reading.{Readings, plain, reading, reading_of_sort}
+use Rattle.spec_reading.specs.Reading.{Readings, plain_reading, reading, reading_of_sort}
 use Rattle.spec_reading.specs.Definitions as definitions
 use Rattle.spec_reading.specs.Definitions.{parameters_in, definitions_in}
 use Rattle.spec_commands.specs.Commands.{first_name, define_fun}
@@ -33,11 +33,11 @@ abbrev pub word : ℕ → Name → Word
 word at n = record { at = at; kind = Simple; bytes = n }
 
 -- a text of a sort
-pub sorted_read : (s : Signature) (t : Tree) (u : Term) (r : Sort) → reading proof s [] t ≡ Ok (plain u) → sort_of u ≡ r → reading_of_sort proof s [] r t ≡ Ok (plain u)
+pub sorted_read : (s : Signature) (t : Tree) (u : Term) (r : Sort) → reading proof s [] t ≡ Ok (plain_reading u) → sort_of u ≡ r → reading_of_sort proof s [] r t ≡ Ok (plain_reading u)
 unfolding require ◌>>=◌
 sorted_read s t u r e is =
-    joined (reading proof s [] t) _ (plain u) (plain u) e
-    (ap (λ x. require (same_sort r x) (offset_of t) WrongSort >>= λ fits. Ok (plain u)) is ∙ ap (λ b. require b (offset_of t) WrongSort >>= λ fits. Ok (plain u)) (same_sort_itself r))
+    joined (reading proof s [] t) _ (plain_reading u) (plain_reading u) e
+    (ap (λ x. require (same_sort r x) (offset_of t) WrongSort >>= λ fits. Ok (plain_reading u)) is ∙ ap (λ b. require b (offset_of t) WrongSort >>= λ fits. Ok (plain_reading u)) (same_sort_itself r))
 
 -- the keywords of a step: a rule, and perhaps premises and arguments
 abbrev pub keywords : ℕ → ℕ → Name → Trees → Trees
@@ -105,16 +105,16 @@ step_read limit k at end ts p s shape r =
     ∙ (λ i. Ok (record { made = []; statement = stepped (record { at = sym r.place i; name = sym r.name i; clause = s.clause; rule = s.rule; premises = s.premises; arguments = sym r.arguments i }) }))
 
 pub assume_read : (limit : Option ℕ) (k : Known) (at b c end : ℕ) (n : Name) (t : Tree) (u : Term)
-    → among (entry_names k.entries) n ≡ false → reading_of_sort proof k.scope [] Truth t ≡ Ok (plain u) → room limit at k.scope (u ∷ []) ≡ Ok tt
+    → among (entry_names k.entries) n ≡ false → reading_of_sort proof k.scope [] Truth t ≡ Ok (plain_reading u) → room limit at k.scope (u ∷ []) ≡ Ok tt
     → command_of limit k (list at (more (atom b Simple (codes "assume")) (more (atom c Simple n) (more t none))) end) ≡ Ok (record { made = []; statement = assumed (offset_of t) n u })
 unfolding command_of shape_of assume_shape read_shape in_proof roomy_formula ◌>>=◌
 assume_read limit k at b c end n t u fresh read fits =
     let out : Command = record { made = []; statement = assumed (offset_of t) n u } in
-    let roomy : roomy_formula limit at k.scope t ≡ Ok (plain u) =
-    joined (reading_of_sort proof k.scope [] Truth t) _ (plain u) (plain u) read
-    (joined (room limit at (k.scope ++ []) (u ∷ [])) _ tt (plain u) (ap (λ x. room limit at x (u ∷ [])) (append-nil k.scope) ∙ fits) refl) in
+    let roomy : roomy_formula limit at k.scope t ≡ Ok (plain_reading u) =
+    joined (reading_of_sort proof k.scope [] Truth t) _ (plain_reading u) (plain_reading u) read
+    (joined (room limit at (k.scope ++ []) (u ∷ [])) _ tt (plain_reading u) (ap (λ x. room limit at x (u ∷ [])) (append-nil k.scope) ∙ fits) refl) in
     joined (fresh_name k (word c n)) _ n out (fresh_read k (word c n) fresh)
-    (joined (in_proof (named_in t) (roomy_formula limit at k.scope t)) _ (plain u) out (ap (in_proof (named_in t)) roomy) refl)
+    (joined (in_proof (named_in t) (roomy_formula limit at k.scope t)) _ (plain_reading u) out (ap (in_proof (named_in t)) roomy) refl)
 
 -- a definition without parameters
 abbrev pub defining : Name → Sort → Tree → Term → Definition
@@ -124,7 +124,7 @@ defining n r t u = record { name = n; parameters = []; result = r; body = t; ter
 pub record ReadsDefinition (limit : Option ℕ) (k : Known) (at : ℕ) (d : Definition) (sort : Tree) : Type 0 where
   pub new : is_function k.scope d.name ≡ false
   pub sort_read : sort_in k.scope sort ≡ Ok d.result
-  pub read : reading (record proof { own = Some d.name }) k.scope [] d.body ≡ Ok (plain d.term)
+  pub read : reading (record proof { own = Some d.name }) k.scope [] d.body ≡ Ok (plain_reading d.term)
   pub sort_is : sort_of d.term ≡ d.result
   pub fits : room limit at (k.scope ++ definition d ∷ []) (d.term ∷ []) ≡ Ok tt
 
@@ -137,13 +137,13 @@ define_read limit k at b c e f end n r sort t u h =
     let out : Command = record { made = d ∷ []; statement = nothing at } in
     let p : definitions.Parts = record { name = word c n; parameters = none; result = sort; body = t } in
     let named : new_name proof (is_function k.scope) (word c n) ≡ Ok n = ap (λ b. require (not b) c Twice >>= λ x. Ok n) h.new in
-    let body : reading_of_sort (record proof { own = Some n }) k.scope [] r t ≡ Ok (plain u) =
-    joined (reading (record proof { own = Some n }) k.scope [] t) _ (plain u) (plain u) h.read
-    (ap (λ x. require (same_sort r x) (offset_of t) WrongSort >>= λ fits. Ok (plain u)) h.sort_is ∙ ap (λ b. require b (offset_of t) WrongSort >>= λ fits. Ok (plain u)) (same_sort_itself r)) in
+    let body : reading_of_sort (record proof { own = Some n }) k.scope [] r t ≡ Ok (plain_reading u) =
+    joined (reading (record proof { own = Some n }) k.scope [] t) _ (plain_reading u) (plain_reading u) h.read
+    (ap (λ x. require (same_sort r x) (offset_of t) WrongSort >>= λ fits. Ok (plain_reading u)) h.sort_is ∙ ap (λ b. require b (offset_of t) WrongSort >>= λ fits. Ok (plain_reading u)) (same_sort_itself r)) in
     let made : definitions_in proof k.scope p ≡ Ok (d ∷ []) =
     joined (new_name proof (is_function k.scope) (word c n)) _ n (d ∷ []) named
     (joined (sort_in k.scope sort) _ r (d ∷ []) h.sort_read
-    (joined (reading_of_sort (record proof { own = Some n }) k.scope [] r t) _ (plain u) (d ∷ []) body refl)) in
+    (joined (reading_of_sort (record proof { own = Some n }) k.scope [] r t) _ (plain_reading u) (d ∷ []) body refl)) in
     let roomy : roomy_definitions limit at k.scope p ≡ Ok (d ∷ []) =
     joined (definitions_in proof k.scope p) _ (d ∷ []) (d ∷ []) made
     (joined (room limit at (with_definitions k.scope (d ∷ [])) (u ∷ [])) _ tt (d ∷ []) h.fits refl) in

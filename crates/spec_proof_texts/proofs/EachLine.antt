@@ -14,7 +14,7 @@ use Rattle.spec_sorts.specs.Literals.{Clause}
 use Rattle.spec_sorts.specs.Subsets.{arguments_of, AreAmong}
 use Rattle.spec_sorts.proofs.General.{list_of-terms_of}
 use Rattle.spec_reading.specs.Names.{proof}
-use Rattle.spec_reading.specs.Reading.{plain, reading_of_sort}
+use Rattle.spec_reading.specs.Reading.{plain_reading, reading_of_sort}
 use Rattle.spec_proofs.specs.declared.Rule.{Rule}
 use Rattle.spec_proofs.specs.RuleNames.{rule_name}
 use Rattle.spec_arithmetic.specs.declared.ArithmeticRule.{ArithmeticRule}
@@ -24,7 +24,7 @@ use Rattle.spec_arithmetic.specs.ArithmeticRules.{IsArithmetic}
 use Rattle.spec_rules.specs.Rules.{IsRight}
 use Rattle.spec_rules.specs.Schemes.{Kind, opens, keeps, resolves, states, turns, equates, calculates, kind_of}
 use Rattle.spec_rules.specs.Rules.{IsBy}
-use Rattle.spec_checking.specs.Commands.{Known, Entry, Step, Command, assumed, stepped, nothing}
+use Rattle.spec_checking.specs.Commands.{Known, NamedClause, Step, Command, assumed, stepped, nothing}
 use Rattle.spec_checking.specs.Commands as checking
 use Rattle.spec_checking.specs.Reading.{literals_in, room, command_of}
 use Rattle.spec_checking.specs.Judging.{with_command, IsRightAfter}
@@ -43,12 +43,12 @@ use Rattle.spec_proof_texts.proofs.Room.{IsWithin, no_more, has_place}
 use Rattle.spec_proof_texts.proofs.Standing.{Stands, with_numbers, numbers_closed, numbers_few, assume_stands, step_stands, definition_stands, new_assume, new_step, new_definition, sort_known, references_read, references_are_symbols}
 
 -- what is known, by the names and the entries up to here
-abbrev pub known : List Term → Signature → List Entry → Known
+abbrev pub known : List Term → Signature → List NamedClause → Known
 known asserted s entries = record { scope = s; asserted = asserted; entries = entries }
 
 -- some entry has the empty clause
-abbrev pub HasOne : List Entry → Type 0
-HasOne entries = (e : Entry) × Contains entries e × (e.clause ≡ [])
+abbrev pub HasOne : List NamedClause → Type 0
+HasOne entries = (e : NamedClause) × Contains entries e × (e.clause ≡ [])
 
 -- the offsets of the texts of arguments change nothing
 moved_calculated : (rule : ArithmeticRule) (ps : List Clause) (ts : Trees) (at : ℕ) (c : Clause) → IsArithmetic rule ps ts c → IsArithmetic rule ps (moved_all at ts) c
@@ -76,19 +76,19 @@ abbrev with_parts : StepLine → List Reference → Trees → StepLine
 with_parts l ps ts = record { number = l.number; literals = l.literals; rule = l.rule; premises = ps; arguments = ts }
 
 -- What a line is as a command, and what it leaves.
-pub record Goes (limit : Option ℕ) (g : Signature) (asserted : List Term) (told next : Told) (s : Signature) (entries : List Entry) (numbers : ℕ) (l : Line) (at : ℕ) : Type 0 where
+pub record Goes (limit : Option ℕ) (g : Signature) (asserted : List Term) (told next : Told) (s : Signature) (entries : List NamedClause) (numbers : ℕ) (l : Line) (at : ℕ) : Type 0 where
   pub command : Command
   pub later_names : Signature
-  pub later_entries : List Entry
+  pub later_entries : List NamedClause
   pub reads : command_of limit (known asserted s entries) (moved at (line_tree l)) ≡ Ok command
   pub right : IsRightAfter (known asserted s entries) command.statement
   pub after : known asserted later_names later_entries ≡ with_command (known asserted s entries) command
   pub stands : Stands g next later_names later_entries (numbers + numbers_in (l ∷ []))
-  pub kept : (e : Entry) → Contains entries e → Contains later_entries e
+  pub kept : (e : NamedClause) → Contains entries e → Contains later_entries e
   pub more_terms : length next.terms ≡ length told.terms + definitions_in (l ∷ [])
   pub empty : (x : StepLine) → l ≡ steps x → x.literals ≡ [] → HasOne later_entries
 
-module _ (limit : Option ℕ) (g : Signature) (asserted : List Term) (own : AreScriptNames g) (told : Told) (s : Signature) (entries : List Entry) (numbers : ℕ) (h : Stands g told s entries numbers) where
+module _ (limit : Option ℕ) (g : Signature) (asserted : List Term) (own : AreScriptNames g) (told : Told) (s : Signature) (entries : List NamedClause) (numbers : ℕ) (h : Stands g told s entries numbers) where
   abbrev here : Known
   here = known asserted s entries
 
@@ -113,7 +113,7 @@ module _ (limit : Option ℕ) (g : Signature) (asserted : List Term) (own : AreS
       let next : ℕ = at + length (printed (argument_tree a)) + 1 in
       let us : Trees = moved_all next (trees_of (map argument_tree items)) in
       let one = sorted_read s (moved at (argument_tree a)) t Truth (argument_read g own told s h.knows proof a t (head_same e) at) (All-head (λ t. sort_of t ≡ Truth) t ts sorts) in
-      joined (reading_of_sort proof s [] Truth (moved at (argument_tree a))) _ (plain t) (record { made = []; terms = t ∷ ts }) one
+      joined (reading_of_sort proof s [] Truth (moved at (argument_tree a))) _ (plain_reading t) (record { made = []; terms = t ∷ ts }) one
       (joined (literals_in (s ++ []) us) _ (record { made = []; terms = ts }) (record { made = []; terms = t ∷ ts }) (ap (λ x. literals_in x us) (append-nil s) ∙ literals_read items ts (tail_same e) (All-tail (λ t. sort_of t ≡ Truth) t ts sorts) next) refl)
 
   pub assume_goes : (n : ℕ) (a : Argument) (t : Term) (at : ℕ) → IsAssume g asserted told n a t → HasRoom (assumes n a) → Goes limit g asserted told (with_assume told (t ∷ [])) s entries numbers (assumes n a) at
@@ -203,7 +203,7 @@ module _ (limit : Option ℕ) (g : Signature) (asserted : List Term) (own : AreS
         reads = define_read limit here at _ _ _ _ _ n l.sort (moved p (sort_tree l.sort)) (moved q (term_tree l)) t (record {
           new = new_definition g told s entries numbers h l.number d.number;
           sort_read = sort_read s l.sort (sort_known g told s entries numbers h l.sort d.known_sort) p;
-          read = compound_read g own told s h.knows (record proof { own = Some n }) l d.arguments d.told d.some d.takes q ∙ ap (λ u. Ok (plain u)) (sym d.term);
+          read = compound_read g own told s h.knows (record proof { own = Some n }) l d.arguments d.told d.some d.takes q ∙ ap (λ u. Ok (plain_reading u)) (sym d.term);
           sort_is = d.sort;
           fits = roomy x refl refl refl at;
         });

@@ -20,7 +20,7 @@ use Rattle.spec_sorts.specs.HeadNames.{head_name}
 use Rattle.spec_sorts.specs.Forms.{Form, applies, head_form}
 use Rattle.spec_sorts.proofs.WellSorted.{less_takes, at_most_takes}
 use Rattle.spec_reading.specs.Names.{Setting}
-use Rattle.spec_reading.specs.Reading.{plain, with_sorts, applied, applied_as, reading, readings}
+use Rattle.spec_reading.specs.Reading.{plain_reading, with_sorts, applied, applied_as, reading, readings}
 use Rattle.spec_reading.proofs.Values.{by_form, rule_reads}
 use Rattle.spec_models.specs.Values.{trees_of, in_list, symbol_tree}
 use Rattle.spec_proof_texts.specs.Lines.{Argument, DefinitionLine, argument_tree, term_tree}
@@ -138,7 +138,7 @@ module _ (g : Signature) (own : AreScriptNames g) (told : Told) (s : Signature) 
   front_form at n false us = refl
 
   -- a head before its arguments, wherever it stands
-  pub compound_read : (w : Setting) (d : DefinitionLine) (ts : List Term) → AreTold g told d.arguments ts → ts ≢ [] → TakesAll g d.head ts → (at : ℕ) → reading w s [] (moved at (term_tree d)) ≡ Ok (plain (of d.head ts))
+  pub compound_read : (w : Setting) (d : DefinitionLine) (ts : List Term) → AreTold g told d.arguments ts → ts ≢ [] → TakesAll g d.head ts → (at : ℕ) → reading w s [] (moved at (term_tree d)) ≡ Ok (plain_reading (of d.head ts))
   unfolding reading
   compound_read w d ts e some takes at = go d.arguments e
     where
@@ -148,7 +148,7 @@ module _ (g : Signature) (own : AreScriptNames g) (told : Told) (s : Signature) 
       u : Term
       u = of d.head ts
 
-      go : (items : List Argument) → AreTold g told items ts → reading w s [] (moved at (in_list (symbol_tree n ∷ map argument_tree items))) ≡ Ok (plain u)
+      go : (items : List Argument) → AreTold g told items ts → reading w s [] (moved at (in_list (symbol_tree n ∷ map argument_tree items))) ≡ Ok (plain_reading u)
       go [] e = absurd (some (nothing ts e))
         where
           nothing : (vs : List Term) → AreTold g told [] vs → vs ≡ []
@@ -158,5 +158,5 @@ module _ (g : Signature) (own : AreScriptNames g) (told : Told) (s : Signature) 
           let next : ℕ = at + 1 + length (printed (symbol_tree n)) + 1 in
           let us : Trees = moved_all next (trees_of (map argument_tree (a ∷ items))) in
           ap (λ (f : Form). by_form w s [] at us f) (front_form (at + 1) n (is_bare n) us)
-          ∙ joined (readings w s [] us) _ (record { made = []; terms = ts }) (plain u) (arguments_read g own told s knows w (a ∷ items) ts e next)
-          (joined (applied (s ++ []) [] (at + 1) n at ts) _ u (plain u) (ap (λ x. applied x [] (at + 1) n at ts) (append-nil s) ∙ head_read d.head ts takes some (at + 1) at) refl)
+          ∙ joined (readings w s [] us) _ (record { made = []; terms = ts }) (plain_reading u) (arguments_read g own told s knows w (a ∷ items) ts e next)
+          (joined (applied (s ++ []) [] (at + 1) n at ts) _ u (plain_reading u) (ap (λ x. applied x [] (at + 1) n at ts) (append-nil s) ∙ head_read d.head ts takes some (at + 1) at) refl)

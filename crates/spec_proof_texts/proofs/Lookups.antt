@@ -12,7 +12,7 @@ use Rattle.spec_sorts.specs.Numerals.{number_after}
 use Rattle.spec_sorts.specs.Terms.{Symbol}
 use Rattle.spec_sorts.specs.Signatures.{Known, known_name, declared, defined, of_sort, of_function, Signature, known_as, symbols_in}
 use Rattle.spec_sorts.specs.Literals.{Clause}
-use Rattle.spec_checking.specs.Commands.{Entry}
+use Rattle.spec_checking.specs.Commands.{NamedClause}
 use Rattle.spec_checking.specs.Reading.{clause_of, entry_names}
 use Rattle.spec_models.specs.Values.{numeral}
 use Rattle.spec_models.proofs.Numerals.{numeral_number}
@@ -96,10 +96,10 @@ symbol_found (of_function (declared g) ∷ s) n f e = go (bytes_eq g.name n) (by
     go false same e rest = let r = rest e in (later g (symbols_in s) f r.0, r.1)
 
 -- an entry by its parts
-abbrev pub entry : Name → Clause → Entry
+abbrev pub entry : Name → Clause → NamedClause
 entry n c = record { name = n; clause = c }
 
-pub clause_push : (es : List Entry) (m n : Name) (c : Clause) → clause_of (es ++ entry m c ∷ []) n ≡ extended (clause_of es n) (bytes_eq m n) c
+pub clause_push : (es : List NamedClause) (m n : Name) (c : Clause) → clause_of (es ++ entry m c ∷ []) n ≡ extended (clause_of es n) (bytes_eq m n) c
 clause_push [] m n c = go (bytes_eq m n)
   where
     go : (b : Bool) → cond b (Some c) None ≡ extended None b c
@@ -122,7 +122,7 @@ told_apart p m n =
     (λ e. sym (numeral_number n) ∙ ap (number_after 0) (sym (rest_same p (numeral m) (numeral n) (d.0 e))) ∙ numeral_number m, λ e. d.1 (ap (λ k. p ++ numeral k) (sym e)))
 
 -- what is not found is none of the names
-pub entry_unfound : (es : List Entry) (n : Name) → clause_of es n ≡ None → among (entry_names es) n ≡ false
+pub entry_unfound : (es : List NamedClause) (n : Name) → clause_of es n ≡ None → among (entry_names es) n ≡ false
 entry_unfound [] n e = refl
 entry_unfound (x ∷ es) n e = go (bytes_eq x.name n) (entry_unfound es n) e
   where

@@ -22,7 +22,7 @@ use Rattle.spec_sorts.specs.Forms.{Form, malformed, reserved, applies, binds, an
 use Rattle.spec_sorts.proofs.Signatures.{sort_same}
 use Rattle.spec_reading.specs.Names.{Setting, new_name, is_kept_name, is_barred, is_function, is_own}
 use Rattle.spec_reading.specs.Sorts.{sort_found, sort_named}
-use Rattle.spec_reading.specs.Reading.{Bound, Reading, Readings, Bindings, Annotated, plain, naming, made_by, annotated_as, reading, readings, let_reading, bindings_reading, annotated_reading}
+use Rattle.spec_reading.specs.Reading.{Bound, Reading, Readings, Bindings, Annotated, plain_reading, naming, made_by, annotated_as, reading, readings, let_reading, bindings_reading, annotated_reading}
 use Rattle.spec_reading.proofs.Values.{with_both, by_form}
 use Rattle.spec_reading.proofs.Kept.{text_keeps}
 use Rattle.spec_reading.proofs.Sound.{not_taken}
@@ -253,7 +253,7 @@ mutual
   unfolding reading readings let_reading bindings_reading annotated_reading
 
   pub text_few : (w : Setting) (s : Signature) (b : Bound) (t : Tree) (r : Reading) → reading w s b t ≡ Ok r → IsFew r.made (weight t)
-  text_few w s b (atom at k n) r e = let p = went _ _ _ e in subst (λ (x : Reading). IsFew x.made (length n)) (answer (Ok (plain p.first)) r p.then) (omega arith)
+  text_few w s b (atom at k n) r e = let p = went _ _ _ e in subst (λ (x : Reading). IsFew x.made (length n)) (answer (Ok (plain_reading p.first)) r p.then) (omega arith)
   text_few w s b (list at none end) r e = absurd (answer (refused at BadShape) r e)
   text_few w s b (list at (more head us) end) r e = go (form head us) (texts_few w s b us) (let_few w s b at us) (annotated_few w s b at us) e
     where

@@ -12,7 +12,7 @@ use Rattle.spec_derivations.proofs.Spending.{rests_onward}
 use Rattle.spec_proof_texts.specs.Lines.{Argument, Reference, StepLine, Line, defines, assumes, steps}
 use Rattle.spec_proof_texts.specs.Meaning.{Told, nothing_told, with_assume, with_step, term_told, clause_told, IsLineAfter, AreLinesAfter, AreRightLines}
 use Rattle.spec_proof_texts.specs.Plans.{Plan, number_of, argument_by, argument_for, definition_lines, reference_for, reference_by, number_or_zero, inference_lines, lines_of, is_compound, IsPrinted, in_clause, as_argument, counted, compounds, counted_inferences, AreRests, ArePrinted, IsPlan}
-use Rattle.spec_proof_texts.specs.Printable.{IsPrintable, ArePrintable, AreOver}
+use Rattle.spec_proof_texts.specs.Printable.{IsPrintable, ArePrintable, AllConcludeOver}
 use Rattle.spec_proof_texts.proofs.Numbers.{picked, picked_more, picked_same, has_number, has_none, counted_front, number_at_place, compound_at, compounds_length, assumes_of, steps_of, assumes_more, steps_more, inference_number, inferences_front}
 use Rattle.spec_proof_texts.proofs.Told.{in_place_told, all_told, reference_told, premises_told}
 
@@ -131,7 +131,7 @@ module _ (g : Signature) (terms asserted : List Term) (d : Derivation) (n : ℕ)
       (append_assoc front (t ∷ []) rest ∙ ts) (append_assoc fm (false ∷ []) rm ∙ ms)
       (told ∙ sym (picked_same fm front t as_many)) number
 
-  module _ (over : AreOver terms d) (right : IsDerivation d) (from : IsDerivedFrom asserted d n) (rests : List Bool) (are_rests : AreRests d n rests) where
+  module _ (over : AllConcludeOver terms d) (right : IsDerivation d) (from : IsDerivedFrom asserted d n) (rests : List Bool) (are_rests : AreRests d n rests) where
     abbrev refer : ℕ → Reference
     refer p = reference_for d (counted_inferences 1 1 rests d) p
 
@@ -260,7 +260,7 @@ ends_empty name refer h t (x ∷ xs) (false ∷ bs) (suc n) e lt mark empty = en
 by_numbers : (g : Signature) (terms asserted : List Term) (d : Derivation) (p q : Plan) → p.terms ≡ q.terms → p.inferences ≡ q.inferences → AreRightLines g asserted (lines_of terms d q) → AreRightLines g asserted (lines_of terms d p)
 by_numbers g terms asserted d p q e f h = subst (λ ns. AreRightLines g asserted (lines_of terms d (record { terms = ns; inferences = p.inferences }))) (sym e) (subst (λ ns. AreRightLines g asserted (lines_of terms d (record { terms = q.terms; inferences = ns }))) (sym f) h)
 
-pub planned : (g : Signature) (terms asserted : List Term) (d : Derivation) (n : ℕ) (plan : Plan) → ArePrintable g terms d n → AreOver terms d → IsDerivation d → IsDerivedFrom asserted d n → conclusion_at d n ≡ [] → IsPlan terms d n plan → AreRightLines g asserted (lines_of terms d plan)
+pub planned : (g : Signature) (terms asserted : List Term) (d : Derivation) (n : ℕ) (plan : Plan) → ArePrintable g terms d n → AllConcludeOver terms d → IsDerivation d → IsDerivedFrom asserted d n → conclusion_at d n ≡ [] → IsPlan terms d n plan → AreRightLines g asserted (lines_of terms d plan)
 planned g terms asserted d n plan printable over right from empty p =
     let marks : List Bool = compounds terms p.printed in
     let q : Plan = record { terms = counted 1 marks; inferences = counted_inferences 1 1 p.rests d } in

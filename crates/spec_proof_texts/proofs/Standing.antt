@@ -16,7 +16,7 @@ use Rattle.spec_sorts.specs.Literals.{Clause}
 use Rattle.spec_sorts.specs.Subsets.{arguments_of, AreAmong, IsClosed}
 use Rattle.spec_reading.specs.Names.{is_function}
 use Rattle.spec_reading.specs.Sorts.{sort_found}
-use Rattle.spec_checking.specs.Commands.{Known, Entry, are_symbols}
+use Rattle.spec_checking.specs.Commands.{Known, NamedClause, are_symbols}
 use Rattle.spec_checking.specs.Reading.{clause_of, entry_names, clause_at, premise_of, premises_of}
 use Rattle.spec_models.specs.Values.{trees_of, numeral}
 use Rattle.spec_models.specs.Meaning.{IsSortIn}
@@ -28,7 +28,7 @@ use Rattle.spec_proof_texts.proofs.Known.{number_terms, number_terms_count, clos
 use Rattle.spec_proof_texts.proofs.Arguments.{StandsFor, Knows, Holds}
 
 -- A signature and entries are those that lines make known, after which so many numbers were printed.
-pub record Stands (g : Signature) (told : Told) (s : Signature) (entries : List Entry) (numbers : ℕ) : Type 0 where
+pub record Stands (g : Signature) (told : Told) (s : Signature) (entries : List NamedClause) (numbers : ℕ) : Type 0 where
   pub knows : Knows g told s
   pub count : length s ≡ length g + length told.terms
   pub sorts : (n : Name) → sort_as s n ≡ sort_as g n
@@ -106,7 +106,7 @@ stands_more (Some (declared x)) None b d t e f h = absurd h
 stands_more (Some (by_definition x)) None b d t e f h = absurd h
 stands_more (Some (by_definition x)) (Some u) b d t e f h = h
 
-module _ (g : Signature) (told : Told) (s : Signature) (entries : List Entry) (numbers : ℕ) (h : Stands g told s entries numbers) where
+module _ (g : Signature) (told : Told) (s : Signature) (entries : List NamedClause) (numbers : ℕ) (h : Stands g told s entries numbers) where
   -- terms that are known with the numbers among arguments
   abbrev pub with_numbers : List Argument → List Term
   with_numbers items = h.among ++ number_terms items

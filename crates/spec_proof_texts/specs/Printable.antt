@@ -36,12 +36,12 @@ HasGiven («assumption» t) = Unit {0}
 HasGiven (by_rule r ps given c) = AreGiven given
 
 -- the terms of its clause are some of these, and of sort Bool
-abbrev pub IsOver : List Term → Inference → Type 0
-IsOver terms x = (u : Term) → Contains (conclusion x) u → ((j : ℕ) × (slice_get terms j ≡ Some u)) × (sort_of u ≡ Truth)
+abbrev pub ConcludesOver : List Term → Inference → Type 0
+ConcludesOver terms x = (u : Term) → Contains (conclusion x) u → ((j : ℕ) × (slice_get terms j ≡ Some u)) × (sort_of u ≡ Truth)
 
 -- each inference is over these terms, and has arguments that can be printed
-abbrev pub AreOver : List Term → Derivation → Type 0
-AreOver terms d = (k : ℕ) (x : Inference) → slice_get d k ≡ Some x → IsOver terms x × HasGiven x
+abbrev pub AllConcludeOver : List Term → Derivation → Type 0
+AllConcludeOver terms d = (k : ℕ) (x : Inference) → slice_get d k ≡ Some x → ConcludesOver terms x × HasGiven x
 
 -- the head has a text: a number is a decimal
 abbrev pub HasText : Head → Type 0

@@ -23,7 +23,7 @@ ghost use Rattle.spec_proof_texts.specs.Decimals.{is_decimal};
 ghost use Rattle.spec_proof_texts.specs.Lines.{Line, line_tree, proof_text};
 ghost use Rattle.spec_proof_texts.specs.Meaning.{AreGiven, AreRightLines};
 ghost use Rattle.spec_proof_texts.specs.Plans.{Plan, lines_of, IsPlan};
-ghost use Rattle.spec_proof_texts.specs.Printable.{IsPrintable, ArePrintable, AreOver, IsReadable};
+ghost use Rattle.spec_proof_texts.specs.Printable.{IsPrintable, ArePrintable, AllConcludeOver, IsReadable};
 ghost use Rattle.spec_proof_texts.specs.ReadBack.{IsWritableLine, AreScriptNames, known_before};
 ghost use Rattle.spec_proof_texts.specs.ReadBack.{definitions_in, numbers_in, numerals_in};
 
@@ -31,7 +31,7 @@ ghost use Rattle.spec_proof_texts.specs.ReadBack.{definitions_in, numbers_in, nu
 /// terms.
 pub fn planned_lines_are_right()
     ensures { (g : Signature) (terms asserted : List Term) (d : Derivation) (n : ℕ) (plan : Plan)
-        → ArePrintable g terms d n → AreOver terms d → IsDerivation d
+        → ArePrintable g terms d n → AllConcludeOver terms d → IsDerivation d
         → IsDerivedFrom asserted d n → conclusion_at d n ≡ [] → IsPlan terms d n plan
         → AreRightLines g asserted (lines_of terms d plan) }
 {}

@@ -5,7 +5,7 @@ use Rattle.std.proofs.lemmas.List.{take-take}
 use Rattle.spec_text.specs.Lexemes.{lexemes}
 use Rattle.spec_text.specs.Trees.{Trees}
 use Rattle.spec_text.specs.Faults.{Located}
-use Rattle.spec_text.specs.Readings.{AreTrees, Stops, text_limit, prefix, limited, IsReadUpTo}
+use Rattle.spec_text.specs.Readings.{AreTrees, EndsTrees, text_limit, prefix, limited, IsReadUpTo}
 
 -- of a prefix the same bytes are kept
 pub same_kept : (n : ℕ) (text : List ℕ) → take n (take (n + 1) text) ≡ take n text
@@ -21,6 +21,6 @@ read_by text ts found r = record {
   rest = r.rest;
   trees = subst (λ bytes. AreTrees 0 (lexemes 0 0 bytes) ts r.rest) (same_kept text_limit text) r.trees;
   stop = r.stop;
-  stops = subst (λ bytes. Stops (length bytes) r.rest r.stop) (same_kept text_limit text) r.stops;
+  stops = subst (λ bytes. EndsTrees (length bytes) r.rest r.stop) (same_kept text_limit text) r.stops;
   is = subst (λ long. found ≡ limited long r.stop) (same_long text_limit text) r.is;
 }

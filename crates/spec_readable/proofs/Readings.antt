@@ -19,7 +19,7 @@ use Rattle.spec_sorts.specs.Theory.{look_up, Rule, theory}
 use Rattle.spec_sorts.specs.Signatures.{Definition, Known, declared, defined, of_sort, of_function, Signature, known_name, known_as, definition, with_definitions}
 use Rattle.spec_sorts.specs.Forms.{Form, malformed, reserved, applies, binds, annotates, form, a_keyword, named_words}
 use Rattle.spec_reading.specs.Names.{Setting}
-use Rattle.spec_reading.specs.Reading.{Bound, Reading, Readings, Bindings, plain, unless, by_rule, sorts_taken, by_known, applied_as, applied, literal, atom_term, Annotated, naming, made_by, annotated_as, reading, readings, let_reading, bindings_reading, annotated_reading}
+use Rattle.spec_reading.specs.Reading.{Bound, Reading, Readings, Bindings, plain_reading, unless, by_rule, sorts_taken, by_known, applied_as, applied, literal, atom_term, Annotated, naming, made_by, annotated_as, reading, readings, let_reading, bindings_reading, annotated_reading}
 use Rattle.spec_reading.specs.Definitions.{Parts, bound_parameters, definitions_in}
 use Rattle.spec_reading.proofs.Values.{with_sorts_ok, by_rule_ok, by_form}
 use Rattle.spec_reading.proofs.Kept.{with_none, with_two}
@@ -142,7 +142,7 @@ module _ (decimal : ReadDecimals) where
       pub text_readable : (s : Signature) (b : Bound) (t : Tree) (r : Reading) → reading w s b t ≡ Ok r → Good s → EachBound b → Reads s r
       text_readable s b (atom at k n) r e h bound =
           let a = went _ _ _ e in
-          subst (Reads s) (answer (Ok (plain a.first)) r a.then) (atom_readable s b at k n a.first a.was h bound, with_none Good s h)
+          subst (Reads s) (answer (Ok (plain_reading a.first)) r a.then) (atom_readable s b at k n a.first a.was h bound, with_none Good s h)
       text_readable s b (list at none end) r e h bound = absurd (answer (refused at BadShape) r e)
       text_readable s b (list at (more head us) end) r e h bound = go (form head us) (texts_readable s b us) (let_readable s b at us) (annotated_readable s b at us) e
         where

@@ -16,7 +16,7 @@ use Rattle.spec_reading.specs.Definitions.{definitions_in}
 use Rattle.spec_commands.specs.Commands.{Command, SetLogic, SetOption, SetInfo, DeclareSort, DefineSort, DeclareFun, DefineFun, Assert, CheckSat, Echo, Exit, command_of}
 use Rattle.spec_commands.specs.Stack.{Assertion, Stack, Key, Effect, done, unsupported, check, say, leave, Taken, did, signature_of, assertions_of, begun, with_declaration, with_definitions, with_assertion, key_named, truth_in, option_set, terms_defined, performed, step}
 use Rattle.spec_commands.specs.Checks.{Check, this_or, after_effect, after_command, current_at}
-use Rattle.spec_commands.specs.Kept.{IsAsserted, IsKept}
+use Rattle.spec_commands.specs.Kept.{IsAsserted, IsSoundStack}
 use Rattle.spec_commands.proofs.Kept.{signature_last, signature_with, roomy_ok}
 use Rattle.spec_readable.specs.Readable.{IsReadableWhole, IsReadableDeclaration}
 use Rattle.spec_readable.proofs.Readings.{Good, append_each, ReadDecimals, text_readable, definition_readable}
@@ -48,7 +48,7 @@ module _ (decimal : ReadDecimals) where
       subst IsReadableWhole r.same (text_readable decimal script r.before [] a.text r.found r.read before tt).0
 
   -- so is each assertion that is kept
-  pub kept_readable : (limit : ℕ) (s : Stack) → IsKept limit s → GoodStack s → All (λ (a : Assertion). IsReadableWhole a.term) (assertions_of s)
+  pub kept_readable : (limit : ℕ) (s : Stack) → IsSoundStack limit s → GoodStack s → All (λ (a : Assertion). IsReadableWhole a.term) (assertions_of s)
   kept_readable limit s k h = All-weaker (IsAsserted limit (signature_of s)) (λ (a : Assertion). IsReadableWhole a.term) (λ a w. asserted_readable limit (signature_of s) a h w) (assertions_of s) k.assertions
 
   module _ (limit at : ℕ) where

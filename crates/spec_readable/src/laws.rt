@@ -11,7 +11,7 @@ ghost use Rattle.spec_reading.specs.Reading.{Bound, Reading, reading};
 ghost use Rattle.spec_reading.specs.Definitions.{Parts, definitions_in};
 ghost use Rattle.spec_commands.specs.Stack.{Assertion, Stack, Taken, empty_stack, signature_of, assertions_of, step};
 ghost use Rattle.spec_commands.specs.Checks.{Check, asked, IsCurrent};
-ghost use Rattle.spec_commands.specs.Kept.{IsKept};
+ghost use Rattle.spec_commands.specs.Kept.{IsSoundStack};
 ghost use Rattle.spec_arithmetic.specs.Numbers.{IsLinear};
 ghost use Rattle.spec_derivations.specs.Problems.{Problem, terms_of_problem, known_terms, problem_of};
 ghost use Rattle.spec_derivations.specs.Orders.{whole_terms};
@@ -65,7 +65,7 @@ pub fn commands_leave_readable_definitions()
 
 /// States that the term of each assertion that is kept is readable whole, where the definitions are.
 pub fn assertions_are_readable()
-    ensures { (limit : ℕ) (s : Stack) → IsKept limit s → AreReadable (signature_of s)
+    ensures { (limit : ℕ) (s : Stack) → IsSoundStack limit s → AreReadable (signature_of s)
         → All (λ (a : Assertion). IsReadableWhole a.term) (assertions_of s) }
 {
     read_numbers_are_decimals();

@@ -11,7 +11,7 @@ use Rattle.spec_text.proofs.AnswerLaws.{answer, went}
 use Rattle.spec_sorts.specs.Signatures.{Definition, Signature, with_definitions}
 use Rattle.spec_sorts.specs.Forms.{Form, malformed, reserved, applies, binds, annotates, form, a_keyword, named_words}
 use Rattle.spec_reading.specs.Names.{Setting}
-use Rattle.spec_reading.specs.Reading.{Bound, Reading, Readings, Bindings, plain, made_by, annotated_as, reading, readings, let_reading, bindings_reading, annotated_reading}
+use Rattle.spec_reading.specs.Reading.{Bound, Reading, Readings, Bindings, plain_reading, made_by, annotated_as, reading, readings, let_reading, bindings_reading, annotated_reading}
 use Rattle.spec_reading.proofs.Values.{with_both, by_form}
 
 module _ (P : Signature → Type 0) where
@@ -36,7 +36,7 @@ module _ (w : Setting) (P : Signature → Type 0) (made_keep : MadeKeep w P) whe
 
     -- a signature with the definitions that a text makes has the property that it had
     pub text_keeps : (s : Signature) (b : Bound) (t : Tree) (r : Reading) → reading w s b t ≡ Ok r → P s → P (with_definitions s r.made)
-    text_keeps s b (atom at k n) r e a = let p = went _ _ _ e in subst (λ (x : Reading). P (with_definitions s x.made)) (answer (Ok (plain p.first)) r p.then) (with_none P s a)
+    text_keeps s b (atom at k n) r e a = let p = went _ _ _ e in subst (λ (x : Reading). P (with_definitions s x.made)) (answer (Ok (plain_reading p.first)) r p.then) (with_none P s a)
     text_keeps s b (list at none end) r e a = absurd (answer (refused at BadShape) r e)
     text_keeps s b (list at (more head us) end) r e a = go (form head us) (texts_keep s b us) (let_keeps s b at us) (annotated_keeps s b at us) e
       where

@@ -25,7 +25,7 @@ use Rattle.spec_sorts.specs.Meaning as meaning
 use Rattle.spec_sorts.specs.Meaning.{theory_values, Meaning, value_by, name_value, atom_value, value_of, values_of, let_value, bound_values, first_value}
 use Rattle.spec_sorts.proofs.Heads.{MeansAt, theory_at, theory_means, values_of_list, filled_value}
 use Rattle.spec_reading.specs.Names.{Setting, new_name, is_in_list}
-use Rattle.spec_reading.specs.Reading.{Bound, Reading, Readings, Bindings, plain, unless, by_rule, with_sorts, sorts_taken, by_known, applied_as, applied, literal, atom_term, reading, readings, let_reading, bindings_reading, annotated_reading}
+use Rattle.spec_reading.specs.Reading.{Bound, Reading, Readings, Bindings, plain_reading, unless, by_rule, with_sorts, sorts_taken, by_known, applied_as, applied, literal, atom_term, reading, readings, let_reading, bindings_reading, annotated_reading}
 use Rattle.spec_reading.specs.Agreement.{AgreesAt, Agrees, values_bound}
 
 -- definitions in two parts come one after the other
@@ -169,7 +169,7 @@ module _ (i : Interpretation) (ps : List Value) (m : Meaning) where
     pub sound : (w : Setting) (s : Signature) (b : Bound) (t : Tree) (r : Reading) → reading w s b t ≡ Ok r → Agrees i m (with_definitions s r.made) → value_of m (values_bound i ps b) t ≡ value_at i ps r.term
     sound w s b (atom at k n) r e h =
         let a = went _ _ _ e in
-        atom_sound i ps m s b at k n a.first a.was (agrees_before i m s (map definition r.made) h) ∙ ap (λ (x : Reading). value_at i ps x.term) (answer (Ok (plain a.first)) r a.then)
+        atom_sound i ps m s b at k n a.first a.was (agrees_before i m s (map definition r.made) h) ∙ ap (λ (x : Reading). value_at i ps x.term) (answer (Ok (plain_reading a.first)) r a.then)
     sound w s b (list at none end) r e h = absurd (answer (refused at BadShape) r e)
     sound w s b (list at (more head us) end) r e h = go (form head us) (sound_all w s b us) (sound_let w s b at us) (sound_first w s b at us) e h
       where

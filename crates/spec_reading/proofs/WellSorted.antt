@@ -23,7 +23,7 @@ use Rattle.spec_sorts.proofs.WellSorted.{Each, before, filled_sorted, sorted_ove
 use Rattle.spec_sorts.proofs.SortedHeads.{head_keeps}
 use Rattle.spec_sorts.proofs.SortsOfValues.{literal_reduced}
 use Rattle.spec_reading.specs.Names.{Setting, is_in_list, is_mentioned, names_bound, without, mentions, any_mentions, first_mentions, let_mentions, binding_mentions}
-use Rattle.spec_reading.specs.Reading.{Bound, Reading, Readings, Bindings, plain, by_rule, with_sorts, sorts_taken, by_known, applied_as, applied, literal, atom_term, Annotated, naming, made_by, annotated_as, bound_names, reading, readings, let_reading, bindings_reading, annotated_reading}
+use Rattle.spec_reading.specs.Reading.{Bound, Reading, Readings, Bindings, plain_reading, by_rule, with_sorts, sorts_taken, by_known, applied_as, applied, literal, atom_term, Annotated, naming, made_by, annotated_as, bound_names, reading, readings, let_reading, bindings_reading, annotated_reading}
 use Rattle.spec_reading.specs.Definitions.{Parts, bound_parameters, definitions_in}
 use Rattle.spec_reading.specs.WellSorted.{IsDefinedOver, IsDeclaredOver, AreWellSorted}
 use Rattle.spec_reading.proofs.Values.{with_both, with_sorts_ok, by_rule_ok, new_name_is, by_form}
@@ -164,7 +164,7 @@ module _ (symbols : List Symbol) where
       pub sorted : (names : List Name) (w : Setting) (s : Signature) (b : Bound) (t : Tree) (r : Reading) → reading w s b t ≡ Ok r → Over (with_definitions s r.made) → BoundOver names b → mentions names t ≡ false → IsWellSorted symbols ps r.term
       sorted names w s b (atom at k n) r e h bound free =
           let a = went _ _ _ e in
-          subst (λ (x : Reading). IsWellSorted symbols ps x.term) (answer (Ok (plain a.first)) r a.then) (atom_sorted names s b at k n a.first a.was (over_before s (map definition r.made) h) bound free)
+          subst (λ (x : Reading). IsWellSorted symbols ps x.term) (answer (Ok (plain_reading a.first)) r a.then) (atom_sorted names s b at k n a.first a.was (over_before s (map definition r.made) h) bound free)
       sorted names w s b (list at none end) r e h bound free = absurd (answer (refused at BadShape) r e)
       sorted names w s b (list at (more head us) end) r e h bound free = go (form head us) (sorted_all names w s b us) (sorted_let names w s b at us) (sorted_first names w s b at us) e h free
         where

@@ -41,8 +41,8 @@ pub record Bindings : Type 0 where
   pub bound : Bound
 
 -- a term without definitions
-abbrev pub plain : Term → Reading
-plain t = record { made = []; term = t }
+abbrev pub plain_reading : Term → Reading
+plain_reading t = record { made = []; term = t }
 
 -- a term, or why not
 abbrev pub unless : Option Fault → ℕ → Term → Answer Term
@@ -131,7 +131,7 @@ annotated_as w b at t u = record { at = at; text = t; term = u; may_name = w.may
 unfoldable mutual
   -- what a text is read as, with a signature and bound names
   pub reading : Setting → Signature → Bound → Tree → Answer Reading
-  reading w s b (atom at k n) = atom_term s b at k n >>= λ t. Ok (plain t)
+  reading w s b (atom at k n) = atom_term s b at k n >>= λ t. Ok (plain_reading t)
   reading w s b (list at none end) = refused at BadShape
   reading w s b (list at (more head us) end) = elim (form head us) [
     | malformed ↦ refused at BadShape

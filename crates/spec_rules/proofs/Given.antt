@@ -14,7 +14,7 @@ use Rattle.spec_sorts.proofs.SameTerms.{one_term, term_itself}
 use Rattle.spec_proofs.specs.declared.Rule.{Rule}
 use Rattle.spec_proofs.specs.declared.Rule.TheVariants as rules
 use Rattle.spec_proofs.specs.RuleNames.{every_rule}
-use Rattle.spec_rules.specs.Schemes.{Scheme, signed, rests_of, is_formula_of, clauses_by, Kind, states, turns, kind_of}
+use Rattle.spec_rules.specs.Schemes.{Scheme, signed_term, rests_of, is_formula_of, clauses_by, Kind, states, turns, kind_of}
 use Rattle.spec_proofs.specs.RuleNames.{rule_named}
 use Rattle.spec_rules.specs.Rules.{flipped, IsGiven, IsBy, IsRight}
 use Rattle.spec_rules.specs.Examples.{has_scheme, IsOnlyBy, IsByNone}
@@ -45,15 +45,15 @@ abbrev pub given_by : Scheme → Clause → Bool
 given_by s c = list_any (λ t. list_any (same_clause c) (clauses_by s t)) (fronts s.positive c)
 
 -- a term comes before the clauses that it gives
-front_alone : (p : Bool) (t : Term) (ls : Clause) → fronts p (signed p t ∷ ls) ≡ t ∷ []
+front_alone : (p : Bool) (t : Term) (ls : Clause) → fronts p (signed_term p t ∷ ls) ≡ t ∷ []
 front_alone true t ls = refl
 front_alone false t ls = refl
 
 front_of_each : (s : Scheme) (t : Term) → All (λ c. fronts s.positive c ≡ t ∷ []) (clauses_by s t)
 front_of_each s t = go (is_formula_of s.head t)
   where
-    go : (b : Bool) → All (λ c. fronts s.positive c ≡ t ∷ []) (cond b (map (λ ls. signed s.positive t ∷ ls) (rests_of s.rest (arguments_of t))) [])
-    go true = All-map (λ c. fronts s.positive c ≡ t ∷ []) (λ ls. signed s.positive t ∷ ls) (rests_of s.rest (arguments_of t)) (λ k d h. front_alone s.positive t _)
+    go : (b : Bool) → All (λ c. fronts s.positive c ≡ t ∷ []) (cond b (map (λ ls. signed_term s.positive t ∷ ls) (rests_of s.rest (arguments_of t))) [])
+    go true = All-map (λ c. fronts s.positive c ≡ t ∷ []) (λ ls. signed_term s.positive t ∷ ls) (rests_of s.rest (arguments_of t)) (λ k d h. front_alone s.positive t _)
     go false = All-nil (λ c. fronts s.positive c ≡ t ∷ [])
 
 -- the test tells whether some term gives the clause

@@ -11,7 +11,7 @@ use Rattle.spec_sorts.specs.TermValues.{value_at, values_at}
 use Rattle.spec_proofs.specs.declared.Rule.{Rule}
 use Rattle.spec_proofs.specs.declared.Rule.TheVariants as rules
 use Rattle.spec_rules.specs.Clauses.{term_true, clause_true}
-use Rattle.spec_rules.specs.Schemes.{Scheme, signed, rests_of, is_formula_of, clauses_by, Kind, states, turns, kind_of, true_scheme, false_scheme, and_pos, and_neg, or_pos, or_neg, implies_pos, implies_neg1, implies_neg2, equiv_pos1, equiv_pos2, equiv_neg1, equiv_neg2, xor_pos1, xor_pos2, xor_neg1, xor_neg2, ite_pos1, ite_pos2, ite_neg1, ite_neg2, not_not}
+use Rattle.spec_rules.specs.Schemes.{Scheme, signed_term, rests_of, is_formula_of, clauses_by, Kind, states, turns, kind_of, true_scheme, false_scheme, and_pos, and_neg, or_pos, or_neg, implies_pos, implies_neg1, implies_neg2, equiv_pos1, equiv_pos2, equiv_neg1, equiv_neg2, xor_pos1, xor_pos2, xor_neg1, xor_neg2, ite_pos1, ite_pos2, ite_neg1, ite_neg2, not_not}
 
 -- a test of one truth, and one of two, that passes in each case
 by_one : (f : Bool → Bool) → f true ≡ true → f false ≡ true → (x : Bool) → f x ≡ true
@@ -148,7 +148,7 @@ module _ (i : Interpretation) where
 
   -- each clause that some arguments give by a scheme is true
   abbrev pub IsSoundAt : Scheme → Terms → Type 0
-  IsSoundAt s ts = All Holds (map (λ ls. signed s.positive (app s.head ts) ∷ ls) (rests_of s.rest (list_of ts)))
+  IsSoundAt s ts = All Holds (map (λ ls. signed_term s.positive (app s.head ts) ∷ ls) (rests_of s.rest (list_of ts)))
 
   -- and so for all arguments, as many as the head takes
   pub record IsSound (s : Scheme) : Type 0 where
@@ -190,13 +190,13 @@ module _ (i : Interpretation) where
 
   and_pos_sound : IsSound and_pos
   unfolding value_at values_at
-  and_pos_sound = record { core = tt; each = λ ts n. one_each (negated (app And ts)) (signed true) (list_of ts) (λ k d h _. or_else (all_true (values_at i [] ts)) _ (λ e. ap (λ b. b || false) (each_true ts e k d h))) }
+  and_pos_sound = record { core = tt; each = λ ts n. one_each (negated (app And ts)) (signed_term true) (list_of ts) (λ k d h _. or_else (all_true (values_at i [] ts)) _ (λ e. ap (λ b. b || false) (each_true ts e k d h))) }
 
   -- a conjunction is true, or one of its arguments is not
-  and_or_not : (ts : Terms) → all_true (values_at i [] ts) || clause_true i (map (signed false) (list_of ts)) ≡ true
+  and_or_not : (ts : Terms) → all_true (values_at i [] ts) || clause_true i (map (signed_term false) (list_of ts)) ≡ true
   unfolding value_at values_at
   and_or_not nil = refl
-  and_or_not (cons t ts) = go (term_true i t) (all_true (values_at i [] ts)) (clause_true i (map (signed false) (list_of ts))) (and_or_not ts)
+  and_or_not (cons t ts) = go (term_true i t) (all_true (values_at i [] ts)) (clause_true i (map (signed_term false) (list_of ts))) (and_or_not ts)
     where
       go : (x a c : Bool) → a || c ≡ true → (x && a) || (not (x && true) || c) ≡ true
       go true a c h = h
@@ -207,10 +207,10 @@ module _ (i : Interpretation) where
   and_neg_sound = record { core = tt; each = λ ts n. only _ (λ _. and_or_not ts) }
 
   -- a disjunction is not true, or one of its arguments is
-  not_or_one : (ts : Terms) → not (any_true (values_at i [] ts) && true) || clause_true i (map (signed true) (list_of ts)) ≡ true
+  not_or_one : (ts : Terms) → not (any_true (values_at i [] ts) && true) || clause_true i (map (signed_term true) (list_of ts)) ≡ true
   unfolding value_at values_at
   not_or_one nil = refl
-  not_or_one (cons t ts) = go (term_true i t) (any_true (values_at i [] ts)) (clause_true i (map (signed true) (list_of ts))) (not_or_one ts)
+  not_or_one (cons t ts) = go (term_true i t) (any_true (values_at i [] ts)) (clause_true i (map (signed_term true) (list_of ts))) (not_or_one ts)
     where
       go : (x a c : Bool) → not (a && true) || c ≡ true → not ((x || a) && true) || (x || c) ≡ true
       go true a c h = refl
@@ -239,7 +239,7 @@ module _ (i : Interpretation) where
 
   or_neg_sound : IsSound or_neg
   unfolding value_at values_at
-  or_neg_sound = record { core = tt; each = λ ts n. one_each (app Or ts) (signed false) (list_of ts) (λ k d h _. or_unless ts k d h) }
+  or_neg_sound = record { core = tt; each = λ ts n. one_each (app Or ts) (signed_term false) (list_of ts) (λ k d h _. or_unless ts k d h) }
 
   implies_pos_sound : IsSound implies_pos
   unfolding value_at values_at
@@ -322,10 +322,10 @@ module _ (i : Interpretation) where
   clauses_hold s sound (app g ts) = go (is_formula_of s.head (app g ts)) λ e.
       let sorts = map sort_of (list_of ts) in
       let parts = and_parts (same_head s.head g) (head_takes [] g sorts) (and_parts (same_head s.head g && head_takes [] g sorts) (all_same Truth sorts) e).0 in
-      let Of : Head → Type 0 = λ h. head_takes [] h sorts ≡ true → All Holds (map (λ ls. signed s.positive (app h ts) ∷ ls) (rests_of s.rest (list_of ts))) in
+      let Of : Head → Type 0 = λ h. head_takes [] h sorts ≡ true → All Holds (map (λ ls. signed_term s.positive (app h ts) ∷ ls) (rests_of s.rest (list_of ts))) in
       subst Of (one_head s.head g sound.core parts.0) (λ k. sound.each ts (counted s.head sorts k)) parts.1
     where
-      go : (b : Bool) → (b ≡ true → All Holds (map (λ ls. signed s.positive (app g ts) ∷ ls) (rests_of s.rest (list_of ts)))) → All Holds (cond b (map (λ ls. signed s.positive (app g ts) ∷ ls) (rests_of s.rest (list_of ts))) [])
+      go : (b : Bool) → (b ≡ true → All Holds (map (λ ls. signed_term s.positive (app g ts) ∷ ls) (rests_of s.rest (list_of ts)))) → All Holds (cond b (map (λ ls. signed_term s.positive (app g ts) ∷ ls) (rests_of s.rest (list_of ts))) [])
       go true h = h refl
       go false h = All-nil Holds
 

@@ -54,12 +54,12 @@ a = constant_term (constant (codes "a") Number)
 abbrev pub b : Term
 b = constant_term (constant (codes "b") Number)
 
-abbrev pub below : Term
-below = of Less (a ∷ b ∷ [])
+abbrev pub less_a_b : Term
+less_a_b = of Less (a ∷ b ∷ [])
 
 -- (= p q), and (xor p q)
-abbrev pub equal : Term
-equal = of Equal (p ∷ q ∷ [])
+abbrev pub equal_p_q : Term
+equal_p_q = of Equal (p ∷ q ∷ [])
 
 abbrev pub exclusive : Term
 exclusive = of Xor (p ∷ q ∷ [])

@@ -23,13 +23,13 @@ pub record Scheme : Type 0 where
   pub rest : Rest
 
 -- the term as it stands where that is wanted, else its negation
-abbrev pub signed : Bool → Term → Term
-signed true t = t
-signed false t = negated t
+abbrev pub signed_term : Bool → Term → Term
+signed_term true t = t
+signed_term false t = negated t
 
 -- the argument of a place, as it stands or negated
 abbrev pub side_of : List Term → Side → Term
-side_of ts x = signed x.positive (slice_index_or ts x.place no_term)
+side_of ts x = signed_term x.positive (slice_index_or ts x.place no_term)
 
 -- what the one argument, a negation, negates
 abbrev pub innermost : List Term → List Clause
@@ -41,8 +41,8 @@ abbrev pub rests_of : Rest → List Term → List Clause
 rests_of Nothing ts = [] ∷ []
 rests_of (One x) ts = (side_of ts x ∷ []) ∷ []
 rests_of (Two x y) ts = (side_of ts x ∷ side_of ts y ∷ []) ∷ []
-rests_of (AnyOne p) ts = map (λ t. signed p t ∷ []) ts
-rests_of (Each p) ts = map (signed p) ts ∷ []
+rests_of (AnyOne p) ts = map (λ t. signed_term p t ∷ []) ts
+rests_of (Each p) ts = map (signed_term p) ts ∷ []
 rests_of Innermost ts = innermost ts
 
 -- the term has that head, which takes its arguments, and these are all of sort Bool
@@ -51,7 +51,7 @@ is_formula_of h (app g ts) = same_head h g && head_takes [] g (map sort_of (list
 
 -- the clauses that a term gives by a scheme
 abbrev pub clauses_by : Scheme → Term → List Clause
-clauses_by s t = if is_formula_of s.head t then map (λ ls. signed s.positive t ∷ ls) (rests_of s.rest (arguments_of t)) else []
+clauses_by s t = if is_formula_of s.head t then map (λ ls. signed_term s.positive t ∷ ls) (rests_of s.rest (arguments_of t)) else []
 
 -- What a rule asks of a step.
 pub data Kind : Type 0 where
@@ -71,8 +71,8 @@ pub data Kind : Type 0 where
   calculates : ArithmeticRule → Kind
 
 -- a scheme of a term as it stands, and of a negated one
-abbrev pub plain : Head → Rest → Scheme
-plain h r = record { head = h; positive = true; rest = r }
+abbrev pub plain_scheme : Head → Rest → Scheme
+plain_scheme h r = record { head = h; positive = true; rest = r }
 
 abbrev pub refuted : Head → Rest → Scheme
 refuted h r = record { head = h; positive = false; rest = r }
@@ -86,7 +86,7 @@ no n = record { place = n; positive = false }
 
 -- (cl true), and (cl (not false))
 abbrev pub true_scheme : Scheme
-true_scheme = plain True Nothing
+true_scheme = plain_scheme True Nothing
 
 abbrev pub false_scheme : Scheme
 false_scheme = refuted False Nothing
@@ -96,24 +96,24 @@ abbrev pub and_pos : Scheme
 and_pos = refuted And (AnyOne true)
 
 abbrev pub and_neg : Scheme
-and_neg = plain And (Each false)
+and_neg = plain_scheme And (Each false)
 
 -- (cl (not (or a1 .. an)) a1 .. an), and (cl (or a1 .. an) (not ak))
 abbrev pub or_pos : Scheme
 or_pos = refuted Or (Each true)
 
 abbrev pub or_neg : Scheme
-or_neg = plain Or (AnyOne false)
+or_neg = plain_scheme Or (AnyOne false)
 
 -- (cl (not (=> a b)) (not a) b), (cl (=> a b) a), and (cl (=> a b) (not b))
 abbrev pub implies_pos : Scheme
 implies_pos = refuted Implies (Two (no 0) (yes 1))
 
 abbrev pub implies_neg1 : Scheme
-implies_neg1 = plain Implies (One (yes 0))
+implies_neg1 = plain_scheme Implies (One (yes 0))
 
 abbrev pub implies_neg2 : Scheme
-implies_neg2 = plain Implies (One (no 1))
+implies_neg2 = plain_scheme Implies (One (no 1))
 
 -- (cl (not (= a b)) a (not b)), and (cl (not (= a b)) (not a) b)
 abbrev pub equiv_pos1 : Scheme
@@ -124,10 +124,10 @@ equiv_pos2 = refuted Equal (Two (no 0) (yes 1))
 
 -- (cl (= a b) (not a) (not b)), and (cl (= a b) a b)
 abbrev pub equiv_neg1 : Scheme
-equiv_neg1 = plain Equal (Two (no 0) (no 1))
+equiv_neg1 = plain_scheme Equal (Two (no 0) (no 1))
 
 abbrev pub equiv_neg2 : Scheme
-equiv_neg2 = plain Equal (Two (yes 0) (yes 1))
+equiv_neg2 = plain_scheme Equal (Two (yes 0) (yes 1))
 
 -- (cl (not (xor a b)) a b), and (cl (not (xor a b)) (not a) (not b))
 abbrev pub xor_pos1 : Scheme
@@ -138,10 +138,10 @@ xor_pos2 = refuted Xor (Two (no 0) (no 1))
 
 -- (cl (xor a b) a (not b)), and (cl (xor a b) (not a) b)
 abbrev pub xor_neg1 : Scheme
-xor_neg1 = plain Xor (Two (yes 0) (no 1))
+xor_neg1 = plain_scheme Xor (Two (yes 0) (no 1))
 
 abbrev pub xor_neg2 : Scheme
-xor_neg2 = plain Xor (Two (no 0) (yes 1))
+xor_neg2 = plain_scheme Xor (Two (no 0) (yes 1))
 
 -- (cl (not (ite c a b)) c b), and (cl (not (ite c a b)) (not c) a)
 abbrev pub ite_pos1 : Scheme
@@ -152,10 +152,10 @@ ite_pos2 = refuted Ite (Two (no 0) (yes 1))
 
 -- (cl (ite c a b) c (not b)), and (cl (ite c a b) (not c) (not a))
 abbrev pub ite_neg1 : Scheme
-ite_neg1 = plain Ite (Two (yes 0) (no 2))
+ite_neg1 = plain_scheme Ite (Two (yes 0) (no 2))
 
 abbrev pub ite_neg2 : Scheme
-ite_neg2 = plain Ite (Two (no 0) (no 1))
+ite_neg2 = plain_scheme Ite (Two (no 0) (no 1))
 
 -- (cl (not (not (not a))) a)
 abbrev pub not_not : Scheme

@@ -5,18 +5,18 @@
 ghost use Rattle.std.specs.Prelude.{◌≡◌, [], ◌∷◌, None, codes};
 ghost use Rattle.spec_sorts.specs.Terms.{True, False, And, Or, Plus, Equal, Ite, Implies, of, negated};
 ghost use Rattle.spec_proofs.specs.RuleNames.{rule_named};
-ghost use Rattle.spec_rules.specs.Examples.{IsOnlyBy, IsByNone, p, q, r, a, b, x, y, below, equal, exclusive, choice, implication, conjunction, disjunction};
+ghost use Rattle.spec_rules.specs.Examples.{IsOnlyBy, IsByNone, p, q, r, a, b, x, y, less_a_b, equal_p_q, exclusive, choice, implication, conjunction, disjunction};
 
 /// States which rule takes each step from and to `(= p q)`. Source: Alethe specification, rules.
 pub fn equalities_have_their_rules()
-    ensures equiv_pos1 { IsOnlyBy (codes "equiv_pos1") [] (negated equal ∷ p ∷ negated q ∷ []) }
-    ensures equiv_pos2 { IsOnlyBy (codes "equiv_pos2") [] (negated equal ∷ negated p ∷ q ∷ []) }
-    ensures equiv_neg1 { IsOnlyBy (codes "equiv_neg1") [] (equal ∷ negated p ∷ negated q ∷ []) }
-    ensures equiv_neg2 { IsOnlyBy (codes "equiv_neg2") [] (equal ∷ p ∷ q ∷ []) }
-    ensures equiv1 { IsOnlyBy (codes "equiv1") ((equal ∷ []) ∷ []) (negated p ∷ q ∷ []) }
-    ensures equiv2 { IsOnlyBy (codes "equiv2") ((equal ∷ []) ∷ []) (p ∷ negated q ∷ []) }
-    ensures not_equiv1 { IsOnlyBy (codes "not_equiv1") ((negated equal ∷ []) ∷ []) (p ∷ q ∷ []) }
-    ensures not_equiv2 { IsOnlyBy (codes "not_equiv2") ((negated equal ∷ []) ∷ []) (negated p ∷ negated q ∷ []) }
+    ensures equiv_pos1 { IsOnlyBy (codes "equiv_pos1") [] (negated equal_p_q ∷ p ∷ negated q ∷ []) }
+    ensures equiv_pos2 { IsOnlyBy (codes "equiv_pos2") [] (negated equal_p_q ∷ negated p ∷ q ∷ []) }
+    ensures equiv_neg1 { IsOnlyBy (codes "equiv_neg1") [] (equal_p_q ∷ negated p ∷ negated q ∷ []) }
+    ensures equiv_neg2 { IsOnlyBy (codes "equiv_neg2") [] (equal_p_q ∷ p ∷ q ∷ []) }
+    ensures equiv1 { IsOnlyBy (codes "equiv1") ((equal_p_q ∷ []) ∷ []) (negated p ∷ q ∷ []) }
+    ensures equiv2 { IsOnlyBy (codes "equiv2") ((equal_p_q ∷ []) ∷ []) (p ∷ negated q ∷ []) }
+    ensures not_equiv1 { IsOnlyBy (codes "not_equiv1") ((negated equal_p_q ∷ []) ∷ []) (p ∷ q ∷ []) }
+    ensures not_equiv2 { IsOnlyBy (codes "not_equiv2") ((negated equal_p_q ∷ []) ∷ []) (negated p ∷ negated q ∷ []) }
 {}
 
 /// States which rule takes each step from and to `(xor p q)`. Source: Alethe specification, rules.
@@ -70,13 +70,13 @@ pub fn other_heads_have_their_rules()
 /// States that a comparison of numbers, and an equality of them, are taken as any formula is.
 /// Source: Alethe specification, rules.
 pub fn formulas_over_numbers_have_their_rules()
-    ensures and_pos { IsOnlyBy (codes "and_pos") [] (negated (of And (below ∷ p ∷ [])) ∷ below ∷ []) }
+    ensures and_pos { IsOnlyBy (codes "and_pos") [] (negated (of And (less_a_b ∷ p ∷ [])) ∷ less_a_b ∷ []) }
     ensures equiv_pos2 { IsOnlyBy (codes "equiv_pos2") []
-        (negated (of Equal (below ∷ p ∷ [])) ∷ negated below ∷ p ∷ []) }
-    ensures ite1 { IsOnlyBy (codes "ite1") ((of Ite (p ∷ below ∷ of Equal (a ∷ b ∷ []) ∷ []) ∷ []) ∷ [])
+        (negated (of Equal (less_a_b ∷ p ∷ [])) ∷ negated less_a_b ∷ p ∷ []) }
+    ensures ite1 { IsOnlyBy (codes "ite1") ((of Ite (p ∷ less_a_b ∷ of Equal (a ∷ b ∷ []) ∷ []) ∷ []) ∷ [])
         (p ∷ of Equal (a ∷ b ∷ []) ∷ []) }
-    ensures not_or { IsOnlyBy (codes "not_or") ((negated (of Or (of Equal (x ∷ y ∷ []) ∷ below ∷ [])) ∷ []) ∷ [])
-        (negated below ∷ []) }
+    ensures not_or { IsOnlyBy (codes "not_or") ((negated (of Or (of Equal (x ∷ y ∷ []) ∷ less_a_b ∷ [])) ∷ []) ∷ [])
+        (negated less_a_b ∷ []) }
 {}
 
 /// States that a step which is near to a right one is by none of the rules: with a literal that is another term, has the other
@@ -88,8 +88,8 @@ pub fn near_clauses_have_no_rule()
     ensures left_out { IsByNone [] (conjunction ∷ negated p ∷ negated q ∷ []) }
     ensures added { IsByNone [] (implication ∷ p ∷ q ∷ []) }
     ensures order { IsByNone [] (disjunction ∷ negated q ∷ negated p ∷ []) }
-    ensures order_of_two { IsByNone [] (negated equal ∷ negated q ∷ p ∷ []) }
-    ensures no_front { IsByNone [] (p ∷ negated q ∷ negated equal ∷ []) }
+    ensures order_of_two { IsByNone [] (negated equal_p_q ∷ negated q ∷ p ∷ []) }
+    ensures no_front { IsByNone [] (p ∷ negated q ∷ negated equal_p_q ∷ []) }
     ensures no_truth { IsByNone [] (of False [] ∷ []) }
     ensures sorts { IsByNone [] (negated (of Equal (x ∷ y ∷ [])) ∷ x ∷ negated y ∷ []) }
     ensures sorts_of_numbers { IsByNone [] (negated (of Equal (a ∷ b ∷ [])) ∷ a ∷ negated b ∷ []) }
@@ -104,12 +104,12 @@ pub fn near_clauses_have_no_rule()
 /// States that a premise stands where one is wanted, and nowhere else: it is one, of one literal, with the sign that the rule
 /// takes; and that a word which is none of the rules' names no rule.
 pub fn near_premises_and_words_have_no_rule()
-    ensures not_wanted { IsByNone ((p ∷ []) ∷ []) (negated equal ∷ p ∷ negated q ∷ []) }
+    ensures not_wanted { IsByNone ((p ∷ []) ∷ []) (negated equal_p_q ∷ p ∷ negated q ∷ []) }
     ensures missing { IsByNone [] (negated p ∷ q ∷ []) }
-    ensures twice { IsByNone ((equal ∷ []) ∷ (equal ∷ []) ∷ []) (negated p ∷ q ∷ []) }
-    ensures two_literals { IsByNone ((equal ∷ r ∷ []) ∷ []) (negated p ∷ q ∷ []) }
+    ensures twice { IsByNone ((equal_p_q ∷ []) ∷ (equal_p_q ∷ []) ∷ []) (negated p ∷ q ∷ []) }
+    ensures two_literals { IsByNone ((equal_p_q ∷ r ∷ []) ∷ []) (negated p ∷ q ∷ []) }
     ensures empty { IsByNone ([] ∷ []) (negated p ∷ q ∷ []) }
-    ensures other_sign { IsByNone ((negated equal ∷ []) ∷ []) (negated p ∷ q ∷ []) }
+    ensures other_sign { IsByNone ((negated equal_p_q ∷ []) ∷ []) (negated p ∷ q ∷ []) }
     ensures kept { IsByNone ((implication ∷ []) ∷ []) (negated implication ∷ negated p ∷ q ∷ []) }
     ensures hole { rule_named (codes "hole") ≡ None }
     ensures capital { rule_named (codes "Equiv1") ≡ None }

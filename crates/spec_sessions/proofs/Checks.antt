@@ -8,7 +8,7 @@ use Rattle.spec_commands.specs.Checks.{Check, after_effect, after_command, curre
 use Rattle.spec_sessions.specs.Evidence.{Limits, Checked, Justifies}
 use Rattle.spec_sessions.specs.Responses.{Response, Answered, AnswersBy, Responds}
 use Rattle.spec_sessions.specs.Transcripts.{Follows, Begins, with_check, checks_in}
-use Rattle.spec_sessions.specs.Meaning.{Says, AllSay}
+use Rattle.spec_sessions.specs.Meaning.{AnswerSays, AllSay}
 
 -- nothing has no part
 no_part : (before : List Checked) (c : Checked) (after : List Checked) → [] ≡ before ++ c ∷ after → ⊥
@@ -61,6 +61,6 @@ module _ (limits : Limits) where
   each_is_its_check (more t ts) s (a ∷ given) runs before c after e = at_command ts (each_is_its_check ts) given s (step limits.terms s t) a runs.0 before c after runs.1 e
 
 -- what each of the checks says by its place, all of them say
-pub all_say : (limits : Limits) (text : List ℕ) (cs : List Checked) (k : ℕ) → ((before : List Checked) (c : Checked) (after : List Checked) → cs ≡ before ++ c ∷ after → Says limits text (suc (k + length before)) c) → AllSay limits text k cs
+pub all_say : (limits : Limits) (text : List ℕ) (cs : List Checked) (k : ℕ) → ((before : List Checked) (c : Checked) (after : List Checked) → cs ≡ before ++ c ∷ after → AnswerSays limits text (suc (k + length before)) c) → AllSay limits text k cs
 all_say limits text [] k h = tt
-all_say limits text (c ∷ cs) k h = (subst (λ n. Says limits text n c) (omega arith) (h [] c cs refl), all_say limits text cs (suc k) (λ before d after e. subst (λ n. Says limits text n d) (omega arith) (h (c ∷ before) d after (ap (λ xs. c ∷ xs) e))))
+all_say limits text (c ∷ cs) k h = (subst (λ n. AnswerSays limits text n c) (omega arith) (h [] c cs refl), all_say limits text cs (suc k) (λ before d after e. subst (λ n. AnswerSays limits text n d) (omega arith) (h (c ∷ before) d after (ap (λ xs. c ∷ xs) e))))

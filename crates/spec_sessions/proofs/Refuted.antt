@@ -17,7 +17,7 @@ use Rattle.spec_checking.proofs.Verdicts.{units_resolve}
 use Rattle.spec_derivations.specs.Derivations.{«assumption», by_rule, Derivation, conclusion_at, premises_of, inference_at, FollowsFrom, IsDerivation, RestsOn, itself, by_premise, AssumesAmong, IsDerivedFrom}
 use Rattle.spec_proof_texts.specs.Lines.{proof_text}
 use Rattle.spec_proof_texts.specs.Plans.{Plan, lines_of, counted, counted_inferences, IsPrinted, in_clause, as_argument, AreRests, IsPlan}
-use Rattle.spec_proof_texts.specs.Printable.{IsPrintable, ArePrintable, IsOver, HasGiven, AreOver}
+use Rattle.spec_proof_texts.specs.Printable.{IsPrintable, ArePrintable, ConcludesOver, HasGiven, AllConcludeOver}
 use Rattle.spec_proof_texts.specs.Examples.{refutation}
 use Rattle.spec_proof_texts.proofs.Refutation.{found}
 use Rattle.spec_sessions.specs.Refutations.{IsProofOf}
@@ -122,10 +122,10 @@ term_there : (t : Term) → IsTerm t → (j : ℕ) × (slice_get terms j ≡ Som
 term_there t (inl e) = (0, ap Some e)
 term_there t (inr e) = (1, ap Some e)
 
-over : AreOver terms derivation
-over zero x e = let is : «assumption» p ≡ x = cc in subst (λ y. IsOver terms y × HasGiven y) is (λ u h. let t = inl (only p u h) in (term_there u t, term_sort u t), tt)
-over (suc zero) x e = let is : «assumption» (negated p) ≡ x = cc in subst (λ y. IsOver terms y × HasGiven y) is (λ u h. let t = inr (only (negated p) u h) in (term_there u t, term_sort u t), tt)
-over (suc (suc zero)) x e = let is : by_rule rules.Resolution (0 ∷ 1 ∷ []) trees.none [] ≡ x = cc in subst (λ y. IsOver terms y × HasGiven y) is (λ u h. absurd (none u h), record { spelled = tt; shallow = omega arith })
+over : AllConcludeOver terms derivation
+over zero x e = let is : «assumption» p ≡ x = cc in subst (λ y. ConcludesOver terms y × HasGiven y) is (λ u h. let t = inl (only p u h) in (term_there u t, term_sort u t), tt)
+over (suc zero) x e = let is : «assumption» (negated p) ≡ x = cc in subst (λ y. ConcludesOver terms y × HasGiven y) is (λ u h. let t = inr (only (negated p) u h) in (term_there u t, term_sort u t), tt)
+over (suc (suc zero)) x e = let is : by_rule rules.Resolution (0 ∷ 1 ∷ []) trees.none [] ≡ x = cc in subst (λ y. ConcludesOver terms y × HasGiven y) is (λ u h. absurd (none u h), record { spelled = tt; shallow = omega arith })
 over (suc (suc (suc k))) x e = cc
 
 follows : FollowsFrom («assumption» p ∷ «assumption» (negated p) ∷ []) (by_rule rules.Resolution (0 ∷ 1 ∷ []) trees.none [])

@@ -7,7 +7,7 @@ use Rattle.std.proofs.Math.Bool.{or-false}
 use Rattle.spec_text.specs.Lexemes.{Lexeme, lexemes, lexemes_from}
 use Rattle.spec_text.specs.Trees.{Tree, Trees, none, more, spelled, spelled_all}
 use Rattle.spec_text.specs.Faults.{Located, nesting_limit}
-use Rattle.spec_text.specs.Readings.{depth, AreTrees, StopsAt, Stops, kept, is_long, limited, IsReadUpTo}
+use Rattle.spec_text.specs.Readings.{depth, AreTrees, StopsAt, EndsTrees, kept, is_long, limited, IsReadUpTo}
 use Rattle.spec_text.proofs.Stopping.{stop_of}
 use Rattle.spec_commands.specs.Stack.{Stack, empty_stack}
 use Rattle.spec_sessions.specs.Evidence.{Limits}
@@ -139,12 +139,12 @@ ends_more given a b e h = list_any-append (λ (x : Answered). is_end x.response)
 
 module _ (limits : Limits) (mode : Mode) (text bytes : List ℕ) (whole : bytes ≡ kept text) where
   -- the trees of what is kept of the text are its commands, up to what stops them
-  read_whole : (ts : Trees) (rest : List (ℕ × Lexeme)) (stop : Option Located) → AreTrees 0 (lexemes 0 0 bytes) ts rest → Stops (length bytes) rest stop → IsReadUpTo text ts (limited (is_long text) stop)
+  read_whole : (ts : Trees) (rest : List (ℕ × Lexeme)) (stop : Option Located) → AreTrees 0 (lexemes 0 0 bytes) ts rest → EndsTrees (length bytes) rest stop → IsReadUpTo text ts (limited (is_long text) stop)
   read_whole ts rest stop a s = record {
     rest = rest;
     trees = subst (λ b. AreTrees 0 (lexemes 0 0 b) ts rest) whole a;
     stop = stop;
-    stops = subst (λ b. Stops (length b) rest stop) whole s;
+    stops = subst (λ b. EndsTrees (length b) rest stop) whole s;
     is = refl;
   }
 
@@ -171,7 +171,7 @@ module _ (limits : Limits) (mode : Mode) (text bytes : List ℕ) (whole : bytes 
           written = inl (told_kept given);
         }
 
-    module _ (going_on : list_any (λ (x : Answered). is_end x.response) given ≡ false) (stop : Option Located) (stops : Stops (length bytes) (lexemes_from bytes at) stop) where
+    module _ (going_on : list_any (λ (x : Answered). is_end x.response) given ≡ false) (stop : Option Located) (stops : EndsTrees (length bytes) (lexemes_from bytes at) stop) where
       -- all of the text was run
       all_run : (ts : Trees) × IsReadUpTo text ts (limited (is_long text) stop) × Runs limits empty_stack ts given
       unfolding Runs

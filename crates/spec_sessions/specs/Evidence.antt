@@ -7,7 +7,7 @@ use Rattle.spec_sorts.specs.Signatures.{symbols_in}
 use Rattle.spec_sorts.specs.Literals.{Literal}
 use Rattle.spec_sorts.specs.Terms.{Term}
 use Rattle.spec_commands.specs.Stack.{signature_of}
-use Rattle.spec_commands.specs.Checks.{Check, asked, IsTrueUnder}
+use Rattle.spec_commands.specs.Checks.{Check, asked, IsTrueAssertion}
 use Rattle.spec_derivations.specs.Problems.{Problem, subterms_in, problem_of}
 use Rattle.spec_derivations.specs.Derivations.{Derivation}
 use Rattle.spec_derivations.specs.Spent.{AreLearned, IsConflictBudgetSpent, IsConflict}
@@ -58,7 +58,7 @@ pub record IsModelOf (c : Check) (i : Interpretation) : Type 0 where
   -- each symbol has its table
   pub interprets : Interprets i (symbols_in (signature_of c.stack))
   -- each expression is true, as it is written
-  pub each : All (IsTrueUnder i (signature_of c.stack)) (asked c)
+  pub each : All (IsTrueAssertion i (signature_of c.stack)) (asked c)
 
 -- The terms of a check, with equalities beside them of terms that functions and arithmetic share.
 pub record IsProblemOf (c : Check) (p : Problem) : Type 0 where

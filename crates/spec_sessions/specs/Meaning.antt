@@ -5,7 +5,7 @@ use Rattle.spec_text.specs.Trees.{Trees, list, none, more, IsRead}
 use Rattle.spec_sorts.specs.Values.{Interpretation, Interprets}
 use Rattle.spec_sorts.specs.Signatures.{Signature, symbols_in}
 use Rattle.spec_commands.specs.Stack.{signature_of}
-use Rattle.spec_commands.specs.Kept.{IsAsserted, IsKept}
+use Rattle.spec_commands.specs.Kept.{IsAsserted, IsSoundStack}
 use Rattle.spec_commands.specs.Checks.{Check, term_limit, IsCurrent, MakesTrue, HasNoModel}
 use Rattle.spec_proofs.specs.Texts.{IsWholeText}
 use Rattle.spec_replies.specs.declared.Word.TheVariants.{Unsat}
@@ -20,7 +20,7 @@ use Rattle.spec_sessions.specs.Evidence.{Limits, Found, model, proof, spent, str
 -- What commands leave for a check under a limit on terms and names.
 pub record IsKeptCheck (limit : ℕ) (c : Check) : Type 0 where
   -- commands left its stack
-  pub stack : IsKept limit c.stack
+  pub stack : IsSoundStack limit c.stack
   -- what it assumes was read, too
   pub assumptions : All (IsAsserted limit (signature_of c.stack)) c.assumptions
   -- its names can be printed
@@ -66,23 +66,23 @@ pub record ProofMeans (limit : ℕ) (text : List ℕ) (k : ℕ) (p : List ℕ) :
   pub answered : limit ≡ term_limit → is_long (word_line Unsat ++ p) ≡ false → HasFewNumerals p → IsAccepted text k (word_line Unsat ++ p)
 
 -- what was found means this of the k-th check of a text
-abbrev pub Means : Limits → (text : List ℕ) → ℕ → Check → Found → Type 0
-Means limits text k c (model i) = ModelMeans (λ j. MakesTrue limits.terms j text k) (signature_of c.stack) i
-Means limits text k c (proof p) = ProofMeans limits.terms text k p
-Means limits text k c (spent n d learned) = Unit {0}
-Means limits text k c (strained o kept) = Unit {0}
-Means limits text k c (out_of_pivots n kept) = Unit {0}
+abbrev pub FindingMeans : Limits → (text : List ℕ) → ℕ → Check → Found → Type 0
+FindingMeans limits text k c (model i) = ModelMeans (λ j. MakesTrue limits.terms j text k) (signature_of c.stack) i
+FindingMeans limits text k c (proof p) = ProofMeans limits.terms text k p
+FindingMeans limits text k c (spent n d learned) = Unit {0}
+FindingMeans limits text k c (strained o kept) = Unit {0}
+FindingMeans limits text k c (out_of_pivots n kept) = Unit {0}
 
 -- What the answer of the k-th check of a text, from 1, says, with all that this means.
-pub record Says (limits : Limits) (text : List ℕ) (k : ℕ) (c : Checked) : Type 0 where
+pub record AnswerSays (limits : Limits) (text : List ℕ) (k : ℕ) (c : Checked) : Type 0 where
   -- the text has this check, and this is current there
   pub current : IsCurrent limits.terms text k c.check
   -- what was found shows of it what it should
   pub shown : Justifies limits c.check c.found
   -- which means this
-  pub means : Means limits text k c.check c.found
+  pub means : FindingMeans limits text k c.check c.found
 
 -- each of the checks says so of its own; the first of all has the number k + 1
 abbrev pub AllSay : Limits → List ℕ → ℕ → List Checked → Type 0
 AllSay limits text k [] = Unit {0}
-AllSay limits text k (c ∷ cs) = Says limits text (suc k) c × AllSay limits text (suc k) cs
+AllSay limits text k (c ∷ cs) = AnswerSays limits text (suc k) c × AllSay limits text (suc k) cs

@@ -6,7 +6,7 @@ use Rattle.spec_commands.specs.Checks.{Check, asked}
 use Rattle.spec_derivations.specs.Derivations.{Derivation, conclusion_at, IsDerivation, IsDerivedFrom}
 use Rattle.spec_proof_texts.specs.Lines.{Line, proof_text}
 use Rattle.spec_proof_texts.specs.Plans.{Plan, lines_of, IsPlan}
-use Rattle.spec_proof_texts.specs.Printable.{ArePrintable, AreOver}
+use Rattle.spec_proof_texts.specs.Printable.{ArePrintable, AllConcludeOver}
 
 -- The text is the proof of an empty clause that is derived from what the check asks about: each term with arguments that it needs is
 -- defined once, before its first use, and of the clauses those that the empty one rests on are printed, each after its premises.
@@ -15,7 +15,7 @@ pub record IsProofOf (c : Check) (text : List ℕ) : Type 0 where
   pub terms : List Term
   -- clauses of these terms
   pub derivation : Derivation
-  pub over : AreOver terms derivation
+  pub over : AllConcludeOver terms derivation
   -- each follows from those before it
   pub right : IsDerivation derivation
   -- the number of one that is derived from what is asked

@@ -6,7 +6,7 @@ ghost use Rattle.spec_commands.specs.Checks.{Check, IsCurrent};
 ghost use Rattle.spec_sessions.specs.Evidence.{Limits, Found, Checked, Justifies};
 ghost use Rattle.spec_sessions.specs.Responses.{Mode};
 ghost use Rattle.spec_sessions.specs.Transcripts.{IsTranscript, IsBegun};
-ghost use Rattle.spec_sessions.specs.Meaning.{IsKeptCheck, MeansAt, Says};
+ghost use Rattle.spec_sessions.specs.Meaning.{IsKeptCheck, MeansAt, AnswerSays};
 ghost use Rattle.spec_sessions.specs.Statements.{AnswersSay};
 
 /// States that a transcript, or a prefix of one, of the prefix of a text, of 2^26 + 1 bytes at most, is one of the
@@ -27,7 +27,7 @@ pub fn what_is_shown_is_so()
     ensures at { (limits : Limits) (c : Check) (f : Found) → IsKeptCheck limits.terms c → Justifies limits c f
         → MeansAt c f }
     ensures text { (limits : Limits) (text : List ℕ) (k : ℕ) (c : Checked) → IsCurrent limits.terms text k c.check
-        → Justifies limits c.check c.found → Says limits text k c }
+        → Justifies limits c.check c.found → AnswerSays limits text k c }
 {
     spec_commands::texts_have_one_check_of_a_number();
     spec_commands::commands_keep_stacks();

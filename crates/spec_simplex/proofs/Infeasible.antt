@@ -10,7 +10,7 @@ use Rattle.spec_arithmetic.proofs.Zero.{times-zero}
 use Rattle.spec_arithmetic.proofs.Differences.{zero-at_most}
 use Rattle.spec_arithmetic.proofs.FormValues.{form_value_reduced, variables_reduced}
 use Rattle.spec_simplex.specs.Constraints.{Relation, below, at_most, equals, at_least, above}
-use Rattle.spec_simplex.specs.Points.{Point, bases, tilts, base_at, tilt_at, stands, Keeps}
+use Rattle.spec_simplex.specs.Points.{Point, bases, tilts, base_at, tilt_at, stands, KeepsLiteral}
 use Rattle.spec_simplex.specs.Weights.{Summand, IsSummand, signed_weight, weighted_sum, is_strict_by, has_strict, CannotHold, literals_in}
 use Rattle.spec_simplex.proofs.LowestForms.{AreNumbers, proper_of}
 use Rattle.spec_simplex.proofs.Reversed.{IsLowest, lowest_proper, difference_lowest}
@@ -118,7 +118,7 @@ one_kept p x xs s l e k = record {
     up_to : IsUpTo (times (signed_weight x.constraint.relation x.weight) (base_at p x.form)) (times (signed_weight x.constraint.relation x.weight) (tilt_at p x.form))
     up_to = product_up_to x.constraint.relation x.weight (base_at p x.form) (tilt_at p x.form) s.reduced base tilt e
 
-kept : (p : Point) (xs : List Summand) → AllByRecursion IsSummand xs → AreNumeric xs → AllByRecursion (Keeps p) (literals_in xs) → IsKept p xs
+kept : (p : Point) (xs : List Summand) → AllByRecursion IsSummand xs → AreNumeric xs → AllByRecursion (KeepsLiteral p) (literals_in xs) → IsKept p xs
 unfolding weighted_sum tilt_sum has_strict
 kept p [] a h m = record {
   base = zero-reduced;
@@ -132,7 +132,7 @@ kept p (x ∷ xs) a h m =
     (m.0 x.constraint a.0.says x.form a.0.has) (kept p xs a.1 h.1 m.1)
 
 -- no point keeps them
-pub no_point : (xs : List Summand) → AllByRecursion IsSummand xs → CannotHold xs → (p : Point) → AllByRecursion (Keeps p) (literals_in xs) → ⊥
+pub no_point : (xs : List Summand) → AllByRecursion IsSummand xs → CannotHold xs → (p : Point) → AllByRecursion (KeepsLiteral p) (literals_in xs) → ⊥
 no_point xs a k p m = no_sum k.sum (has_strict xs) k.sign
     (subst (λ t. IsUpTo k.sum t) none (subst (λ b. IsUpTo b (tilt_sum p xs)) is at.up_to))
     (λ h. subst (λ t. IsLess k.sum t) none (subst (λ b. IsLess b (tilt_sum p xs)) is (at.less h)))

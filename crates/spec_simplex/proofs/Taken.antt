@@ -17,7 +17,7 @@ use Rattle.spec_arithmetic.proofs.Zero.{plus-zero_left}
 use Rattle.spec_arithmetic.proofs.FormValues.{form_value_reduced}
 use Rattle.spec_arithmetic.proofs.FormTerms.{constant_value}
 use Rattle.spec_arithmetic.proofs.Sums.{as_ok}
-use Rattle.spec_simplex.specs.Points.{Point, Keeps}
+use Rattle.spec_simplex.specs.Points.{Point, KeepsLiteral}
 use Rattle.spec_simplex.specs.Weights.{Summand, IsSummand, weighted_sum, CannotHold, literals_in, denials, arguments_of}
 use Rattle.spec_simplex.proofs.LowestForms.{AreNumbers}
 use Rattle.spec_simplex.proofs.Reversed.{lowest_proper, difference_lowest}
@@ -116,7 +116,7 @@ numeric_turned (x ∷ xs) h = (h.0, numeric_turned xs h.1)
 
 -- a point keeps the literals of summands
 abbrev pub AreKept : Point → List Summand → Type 0
-AreKept p xs = AllByRecursion (Keeps p) (literals_in xs)
+AreKept p xs = AllByRecursion (KeepsLiteral p) (literals_in xs)
 
 kept_turned : (p : Point) (xs : List Summand) → AreKept p xs → AreKept p (map turned_summand xs)
 kept_turned p [] h = tt

@@ -15,7 +15,7 @@ use Rattle.spec_tableaux.specs.Spaces.{Pair}
 use Rattle.spec_tableaux.specs.Rows.{Entry}
 use Rattle.spec_tableaux.specs.Numbers as tableaux
 use Rattle.spec_simplex.specs.Constraints.{Relation, below, at_most, equals, at_least, above, Constraint, saying, constraint_by, constraint_of, form_of}
-use Rattle.spec_simplex.specs.Points.{Point, is_below_zero, is_over, is_under, stands, base_at, tilt_at, Stands, Keeps}
+use Rattle.spec_simplex.specs.Points.{Point, is_below_zero, is_over, is_under, stands, base_at, tilt_at, FormHolds, KeepsLiteral}
 use Rattle.spec_simplex.specs.Weights.{Summand, signed_weight, weighted_sum, has_strict, denials, arguments_of}
 use Rattle.spec_simplex.specs.Numbers.{Compares, HoldsAt}
 use Rattle.spec_simplex.specs.Entries.{AreEntries}
@@ -27,14 +27,14 @@ unfolding forms_on_literals clauses_on_literals constraint_by variables_value fo
 literals_that_say = tt
 
 -- an atom as it stands, and negated
-abbrev pub plain : Term → Literal
-plain t = record { atom = t; positive = true }
+abbrev pub plain_literal : Term → Literal
+plain_literal t = record { atom = t; positive = true }
 
 abbrev pub denied : Term → Literal
 denied t = record { atom = t; positive = false }
 
 -- what orders say, as they stand and negated
-pub less_plain : constraint_of (plain (texts.less x y)) ≡ Some (saying below (texts.less x y) x y)
+pub less_plain : constraint_of (plain_literal (texts.less x y)) ≡ Some (saying below (texts.less x y) x y)
 unfolding literals_that_say
 less_plain = refl
 
@@ -42,7 +42,7 @@ pub less_denied : constraint_of (denied (texts.less x y)) ≡ Some (saying at_le
 unfolding literals_that_say
 less_denied = refl
 
-pub at_most_plain : constraint_of (plain (texts.at_most x y)) ≡ Some (saying at_most (texts.at_most x y) x y)
+pub at_most_plain : constraint_of (plain_literal (texts.at_most x y)) ≡ Some (saying at_most (texts.at_most x y) x y)
 unfolding literals_that_say
 at_most_plain = refl
 
@@ -51,20 +51,20 @@ unfolding literals_that_say
 at_most_denied = refl
 
 -- that numbers are equal is a constraint, and that they differ is none
-pub equal_plain : constraint_of (plain (texts.equal x y)) ≡ Some (saying equals (texts.equal x y) x y)
+pub equal_plain : constraint_of (plain_literal (texts.equal_example x y)) ≡ Some (saying equals (texts.equal_example x y) x y)
 unfolding literals_that_say
 equal_plain = refl
 
-pub equal_denied : constraint_of (denied (texts.equal x y)) ≡ None
+pub equal_denied : constraint_of (denied (texts.equal_example x y)) ≡ None
 unfolding literals_that_say
 equal_denied = refl
 
 -- an equality of another sort says nothing, and a connective neither
-pub other_sort : constraint_of (plain (texts.equal u u)) ≡ None
+pub other_sort : constraint_of (plain_literal (texts.equal_example u u)) ≡ None
 unfolding literals_that_say
 other_sort = refl
 
-pub connective : constraint_of (plain (pair And (texts.less x y) (texts.less y x))) ≡ None
+pub connective : constraint_of (plain_literal (pair And (texts.less x y) (texts.less y x))) ≡ None
 unfolding literals_that_say
 connective = refl
 
@@ -127,14 +127,14 @@ unfolding literals_that_say
 base_decides = refl
 
 -- the first point keeps that x is below y
-pub close_keeps : Keeps close (plain (texts.less x y))
+pub close_keeps : KeepsLiteral close (plain_literal (texts.less x y))
 unfolding literals_that_say
 close_keeps c is f has =
-    subst (λ c. (f : Form) → form_of c ≡ Ok f → Stands c.relation close f) (same_some _ _ is)
-    (λ f has. subst (Stands below close) (same_ok {E = Fault} _ _ has) refl) f has
+    subst (λ c. (f : Form) → form_of c ≡ Ok f → FormHolds c.relation close f) (same_some _ _ is)
+    (λ f has. subst (FormHolds below close) (same_ok {E = Fault} _ _ has) refl) f has
 
 -- a point keeps a literal that says nothing
-pub level_keeps : Keeps level (denied (texts.equal x y))
+pub level_keeps : KeepsLiteral level (denied (texts.equal_example x y))
 unfolding literals_that_say
 level_keeps c is f has = absurd (none_is c is)
   where
@@ -142,7 +142,7 @@ level_keeps c is f has = absurd (none_is c is)
     none_is c e = cc
 
 -- where x has the number 5, and all others have 7, it holds that x is below y, and that 1 is at most 2 * y
-pub five_is_below_seven : HoldsAt (λ t. cond (same_term t x) (whole (pos 5)) (whole (pos 7))) (plain (texts.less x y))
+pub five_is_below_seven : HoldsAt (λ t. cond (same_term t x) (whole (pos 5)) (whole (pos 7))) (plain_literal (texts.less x y))
 unfolding literals_that_say number_at numbers_at IsLinear compare
 five_is_below_seven c is = subst
     (λ c. IsLinear c.left → IsLinear c.right → Compares c.relation (number_at (λ t. cond (same_term t x) (whole (pos 5)) (whole (pos 7))) c.left) (number_at (λ t. cond (same_term t x) (whole (pos 5)) (whole (pos 7))) c.right))
@@ -160,7 +160,7 @@ summand l r = record { literal = l; constraint = saying r l.atom x y; form = x_m
 
 -- x is below y, and x is at least y
 abbrev pub summands : List Summand
-summands = summand (plain (texts.less x y)) below ∷ summand (denied (texts.less x y)) at_least ∷ []
+summands = summand (plain_literal (texts.less x y)) below ∷ summand (denied (texts.less x y)) at_least ∷ []
 
 -- the second counts with its size negated, so that the sum is 0, here where x is 5 and y is 7; and the first is strict
 pub sum_is_zero : weighted_sum (λ t. cond (same_term t x) (whole (pos 5)) (whole (pos 7))) summands ≡ zero_fraction

@@ -52,21 +52,21 @@ stands at_least base tilt = not (is_under base tilt)
 stands above base tilt = is_over base tilt
 
 -- a form has a value at a point that stands so to 0
-abbrev pub Stands : Relation → Point → Form → Type 0
-Stands r p f = stands r (base_at p f) (tilt_at p f) ≡ true
+abbrev pub FormHolds : Relation → Point → Form → Type 0
+FormHolds r p f = stands r (base_at p f) (tilt_at p f) ≡ true
 
 -- a point keeps a literal: what it says of a form is so; nothing is asked where it says nothing, or has no form
-abbrev pub Keeps : Point → Literal → Type 0
-Keeps p l = (c : Constraint) → constraint_of l ≡ Some c → (f : Form) → form_of c ≡ Ok f → Stands c.relation p f
+abbrev pub KeepsLiteral : Point → Literal → Type 0
+KeepsLiteral p l = (c : Constraint) → constraint_of l ≡ Some c → (f : Form) → form_of c ≡ Ok f → FormHolds c.relation p f
 
 -- a point keeps each of the literals
-abbrev pub Meets : Point → List Literal → Type 0
-Meets p ls = All (Keeps p) ls
+abbrev pub SatisfiesLiterals : Point → List Literal → Type 0
+SatisfiesLiterals p ls = All (KeepsLiteral p) ls
 
 -- there is a point that keeps them
 abbrev pub IsFeasible : List Literal → Type 0
-IsFeasible ls = (p : Point) × Meets p ls
+IsFeasible ls = (p : Point) × SatisfiesLiterals p ls
 
 -- there is none
 abbrev pub IsInfeasible : List Literal → Type 0
-IsInfeasible ls = (p : Point) → Meets p ls → ⊥
+IsInfeasible ls = (p : Point) → SatisfiesLiterals p ls → ⊥

@@ -11,7 +11,7 @@ use Rattle.spec_sorts.specs.Lists.{left}
 use Rattle.spec_sorts.specs.Numerals.{digits_number, literal_value}
 use Rattle.spec_sorts.specs.Terms.{Sort, Truth, Number, Symbol, Head, True, False, Not, And, Or, Xor, Implies, Equal, Ite, Minus, Plus, Times, Divide, Less, AtMost, Literal, Apply, Parameter, Term, Terms, app, nil, cons, all_same, has_parameter, sort_given, sort_of, second_sort, head_takes, sorts_of, is_sorted, are_sorted}
 use Rattle.spec_sorts.specs.WellSorted.{AllHeads, AllHeadsIn, IsHeadOver, IsWellSorted, IsFormulaOver}
-use Rattle.spec_sorts.specs.Values.{Value, truth, number, element, is_true, number_in, chosen, same_values, HasSort, HaveSorts, Row, first_fit, Interpretation, table_value, IsRowOf, IsTableOf, Interprets}
+use Rattle.spec_sorts.specs.Values.{Value, truth, number, element, is_true, number_in, chosen, same_values, HasSort, HaveSorts, TableRow, first_fit, Interpretation, table_value, IsRowOf, IsTableOf, Interprets}
 use Rattle.spec_sorts.specs.TermValues.{by_numbers, head_value, value_at, values_at}
 use Rattle.spec_sorts.proofs.WellSorted.{same_sort_is, IsPlain}
 
@@ -39,7 +39,7 @@ left_number f r d v (s ∷ ss) (w ∷ ws) h e k =
     left_number f r d (by_numbers f v w) ss ws (r (number_in v) (number_in w) (reduced_in v h) (reduced_in w w_number)) (and_parts _ _ e).1 k.1
 
 -- a row of a symbol's table, or its default
-fit_sort : (s : Symbol) (rs : List Row) (default : Value) (vs : List Value) → HasSort s.result default → AllByRecursion (IsRowOf s) rs → HasSort s.result (first_fit rs default vs)
+fit_sort : (s : Symbol) (rs : List TableRow) (default : Value) (vs : List Value) → HasSort s.result default → AllByRecursion (IsRowOf s) rs → HasSort s.result (first_fit rs default vs)
 fit_sort s [] default vs d h = d
 fit_sort s (r ∷ rs) default vs d h = go (same_values r.arguments vs) (fit_sort s rs default vs d h.1)
   where

@@ -142,9 +142,9 @@ rest (gcons a b) = b
 rest _ = gnil
 
 -- it is a pair
-abbrev IsPair : Gv → Type 0
-IsPair (gcons a b) = Unit {0}
-IsPair _ = ⊥
+abbrev IsCodePair : Gv → Type 0
+IsCodePair (gcons a b) = Unit {0}
+IsCodePair _ = ⊥
 
 mutual
   unfolding term_tree terms_tree
@@ -157,8 +157,8 @@ mutual
   one_list : (ts us : Terms) → terms_tree ts ≡ terms_tree us → ts ≡ us
   one_list nil nil e = refl
   one_list (cons t ts) (cons u us) e = λ i. cons (one_term t u (ap first e) i) (one_list ts us (ap rest e) i)
-  one_list nil (cons u us) e = absurd (subst IsPair (sym e) tt)
-  one_list (cons t ts) nil e = absurd (subst IsPair e tt)
+  one_list nil (cons u us) e = absurd (subst IsCodePair (sym e) tt)
+  one_list (cons t ts) nil e = absurd (subst IsCodePair e tt)
 
 -- terms have codes
 pub term_code : Coded Term

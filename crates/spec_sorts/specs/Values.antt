@@ -72,7 +72,7 @@ HaveSorts (s ∷ ss) (v ∷ vs) = HasSort s v × HaveSorts ss vs
 HaveSorts ss vs = ⊥
 
 -- Arguments, and the value there.
-pub record Row : Type 0 where
+pub record TableRow : Type 0 where
   -- the arguments' values
   pub arguments : List Value
   -- the value there
@@ -81,12 +81,12 @@ pub record Row : Type 0 where
 -- A finite list of rows, and what holds everywhere else.
 pub record Table : Type 0 where
   -- the rows, of which the first that fits counts
-  pub rows : List Row
+  pub rows : List TableRow
   -- the value for all other arguments
   pub default : Value
 
 -- the first row that fits counts, else the default
-abbrev pub first_fit : List Row → Value → List Value → Value
+abbrev pub first_fit : List TableRow → Value → List Value → Value
 first_fit [] default vs = default
 first_fit (r ∷ rs) default vs = if same_values r.arguments vs then r.value else first_fit rs default vs
 
@@ -100,7 +100,7 @@ abbrev pub table_value : Interpretation → Name → List Value → Value
 table_value i n vs = first_fit (i.table n).rows (i.table n).default vs
 
 -- a row of a symbol's table
-pub record IsRowOf (s : Symbol) (r : Row) : Type 0 where
+pub record IsRowOf (s : Symbol) (r : TableRow) : Type 0 where
   -- the arguments have the parameters' sorts
   pub arguments : HaveSorts s.parameters r.arguments
   -- the value has the symbol's sort

@@ -4,7 +4,7 @@ use Rattle.std.specs.Prelude.{◌≡◌, ℕ, ◌<◌, ◌≤◌, List, [], ◌�
 use Rattle.spec_tableaux.specs.Rows.{Solves}
 use Rattle.spec_tableaux.specs.SolvedForms.{IsNonbasic}
 use Rattle.spec_tableaux.specs.Ranges.{settled_value}
-use Rattle.spec_tableaux.specs.LeastVariable.{Says, Makes, Settles, exchange}
+use Rattle.spec_tableaux.specs.LeastVariable.{RuleSays, MakesPivots, Settles, exchange}
 use Rattle.spec_strains.specs.Points.{deltas, Ranges, BoardState}
 
 -- Of the nonbasic variables those below n that violated a bound went to it, and the others are as they were.
@@ -23,7 +23,7 @@ pub record Ran (ranges : Ranges) (t u : BoardState) (old new : List (ℕ × ℕ)
   -- the exchanges of this check
   pub made : List (ℕ × ℕ)
   pub kept : new ≡ old ++ made
-  pub makes : Makes deltas ranges start made u
+  pub makes : MakesPivots deltas ranges start made u
 
 -- The same, but the last exchange that was kept, which the rule says, was not made.
 pub record RanShort (ranges : Ranges) (t u : BoardState) (old new : List (ℕ × ℕ)) : Type 0 where
@@ -32,7 +32,7 @@ pub record RanShort (ranges : Ranges) (t u : BoardState) (old new : List (ℕ ×
   pub last : ℕ × ℕ
   pub kept : new ≡ before ++ last ∷ []
   pub ran : Ran ranges t u old before
-  pub next : Says deltas ranges u (exchange last.0 last.1)
+  pub next : RuleSays deltas ranges u (exchange last.0 last.1)
 
 -- Where a check stops in the middle of a step.
 pub data Stopped (ranges : Ranges) (t u : BoardState) (old new : List (ℕ × ℕ)) : Type 0 where
@@ -45,4 +45,4 @@ pub data Stopped (ranges : Ranges) (t u : BoardState) (old new : List (ℕ × �
 pub record WantsMore (ranges : Ranges) (u : BoardState) : Type 0 where
   pub leaving : ℕ
   pub entering : ℕ
-  pub says : Says deltas ranges u (exchange leaving entering)
+  pub says : RuleSays deltas ranges u (exchange leaving entering)

@@ -2,7 +2,7 @@
 use Rattle.std.specs.Prelude.{◌≡◌, ℕ, true, false, ◌⊎◌, List, ◌∷◌, ◌++◌, Err}
 use Rattle.spec_numbers.specs.Bounds.{Overflow}
 use Rattle.spec_strains.specs.Deltas.{delta_added, delta_subtracted, delta_scaled, delta_divided}
-use Rattle.spec_tableaux.specs.Spaces.{Pair, minus}
+use Rattle.spec_tableaux.specs.Spaces.{Pair, space_difference}
 use Rattle.spec_tableaux.specs.Rows.{Entry, Row, coefficient_of, row_of, is_basic, sum_of}
 use Rattle.spec_tableaux.specs.SolvedForms.{IsNonbasic, IsPivot}
 use Rattle.spec_tableaux.specs.Ranges.{is_within}
@@ -23,9 +23,9 @@ Violates ranges t y = is_within deltas ranges t.point y ≡ false
 abbrev pub goal : Ranges → State Number (Pair Number) → ℕ → Pair Number
 goal ranges t y = goal_of deltas (ranges y) (goes_up deltas ranges t y)
 
--- this bound minus the value of y
+-- this bound space_difference the value of y
 abbrev pub gap : Ranges → State Number (Pair Number) → ℕ → Pair Number
-gap ranges t y = minus deltas (goal ranges t y) (t.point y)
+gap ranges t y = space_difference deltas (goal ranges t y) (t.point y)
 
 -- The values where the nonbasic variable x is greater by d come to the overflow o.
 pub data StrainsMove (t : State Number (Pair Number)) (x : ℕ) (d : Pair Number) (o : Overflow) : Type 0 where
@@ -49,7 +49,7 @@ pub data HasToMove (ranges : Ranges) (t : State Number (Pair Number)) (x : ℕ) 
 
 -- A step of a check at a state comes to the overflow o.
 pub data Strains (ranges : Ranges) (t : State Number (Pair Number)) (o : Overflow) : Type 0 where
-  -- a bound that a variable violates, minus its value
+  -- a bound that a variable violates, space_difference its value
   difference : (y : ℕ) → Violates ranges t y
       → delta_subtracted (delta_in (goal ranges t y)) (delta_in (t.point y)) ≡ Err o → Strains ranges t o
   -- such a difference of a basic variable b, over the coefficient of a nonbasic one in its row

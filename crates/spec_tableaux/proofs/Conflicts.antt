@@ -4,7 +4,7 @@ use Rattle.std.proofs.lemmas.Bool.Decides.{nat_tests}
 use Rattle.spec_tableaux.specs.Fields.{is_positive}
 use Rattle.spec_tableaux.specs.Spaces.{Space, IsOrdered, IsSpace}
 use Rattle.spec_tableaux.specs.Rows.{Entry, sum_of, coefficient_of, Row, Holds}
-use Rattle.spec_tableaux.specs.SolvedForms.{IsOver, IsTidy}
+use Rattle.spec_tableaux.specs.SolvedForms.{AllVariables, IsTidy}
 use Rattle.spec_tableaux.specs.Ranges.{can_rise, above, can_fall, below, Range, is_within, moves_by, crosses}
 use Rattle.spec_tableaux.proofs.SolvedForms.{over_from}
 
@@ -88,7 +88,7 @@ term_down s o range c x p z m w = most_scale s o c x p z
 pub record Still {A V : Type 0} (s : Space A V) (ranges : ℕ → Range V) (v : ℕ → V) (up : Bool) (es : List (Entry A)) : Type 0 where
   pub is : (x : ℕ) → moves_by s (ranges x) (v x) up (coefficient_of s.numbers x es) ≡ false
 
-pub coefficient_none : {A V : Type 0} (s : Space A V) (x : ℕ) (es : List (Entry A)) → IsOver (λ y. (y == x) ≡ false) es → coefficient_of s.numbers x es ≡ s.numbers.zero
+pub coefficient_none : {A V : Type 0} (s : Space A V) (x : ℕ) (es : List (Entry A)) → AllVariables (λ y. (y == x) ≡ false) es → coefficient_of s.numbers x es ≡ s.numbers.zero
 coefficient_none s x [] o = refl
 coefficient_none s x (e ∷ es) o = by (e.variable == x) o.0 (coefficient_none s x es o.1)
   where

@@ -5,14 +5,14 @@ use Rattle.spec_tableaux.specs.Spaces.{Space, IsSpace, IsOrdered}
 use Rattle.spec_tableaux.specs.Rows.{pivot_of, row_of, is_basic, exchanged}
 use Rattle.spec_tableaux.specs.SolvedForms.{IsNonbasic, IsSolved, IsPivot}
 use Rattle.spec_tableaux.specs.Ranges.{Range}
-use Rattle.spec_tableaux.specs.LeastVariable.{State, Makes, Says, exchange, Exchanges, AreUnder, IsSettled}
+use Rattle.spec_tableaux.specs.LeastVariable.{State, MakesPivots, RuleSays, exchange, Exchanges, AreUnder, IsNonbasicFeasible}
 use Rattle.spec_tableaux.proofs.SolvedForms.{nonbasic_after, apart, leaving_nonbasic}
 use Rattle.spec_tableaux.proofs.Steps.{basic_after, entering_basic}
 use Rattle.spec_tableaux.proofs.Returns.{says_pivot, one_step, no_return, reached, Reached}
 
 -- one exchange more at the end
-makes_more : {A V : Type 0} (s : Space A V) (ranges : ℕ → Range V) (t u w : State A V) (es : List (ℕ × ℕ)) (b x : ℕ) → Makes s ranges t es u → Says s ranges u (exchange b x) → Exchanges s ranges u b x w → Makes s ranges t (es ++ (b, x) ∷ []) w
-makes_more s ranges t u w [] b x m says e = (subst (λ z. Says s ranges z (exchange b x)) (sym m) says, (w, subst (λ z. Exchanges s ranges z b x w) (sym m) e, refl))
+makes_more : {A V : Type 0} (s : Space A V) (ranges : ℕ → Range V) (t u w : State A V) (es : List (ℕ × ℕ)) (b x : ℕ) → MakesPivots s ranges t es u → RuleSays s ranges u (exchange b x) → Exchanges s ranges u b x w → MakesPivots s ranges t (es ++ (b, x) ∷ []) w
+makes_more s ranges t u w [] b x m says e = (subst (λ z. RuleSays s ranges z (exchange b x)) (sym m) says, (w, subst (λ z. Exchanges s ranges z b x w) (sym m) e, refl))
 makes_more s ranges t u w (f ∷ es) b x m says e = (m.0, (m.1.0, m.1.1, makes_more s ranges m.1.0 u w es b x m.1.2 says e))
 
 under_more : (r : ℕ) (es : List (ℕ × ℕ)) (b x : ℕ) → AreUnder r es → b < r → x < r → AreUnder r (es ++ (b, x) ∷ [])
@@ -24,8 +24,8 @@ nonbasic_step : {A V : Type 0} (s : Space A V) (ranges : ℕ → Range V) (t m :
 nonbasic_step s ranges t m b x y e f h = subst (λ rs. IsNonbasic rs y) (sym e.rows) (nonbasic_after s (pivot_of s.numbers b x (row_of b t.rows).entries) y t.rows f (let k : (x == y) ≡ false = grind (arith, nat_tests) in k))
 
 -- after n left it moves no more, so all is under n
-tail_under : {A V : Type 0} (s : Space A V) → IsSpace s → IsOrdered s → (ranges : ℕ → Range V) (t m w u : State A V) (n x : ℕ) (done rest : List (ℕ × ℕ)) → IsSolved s.numbers t.rows → IsSettled s ranges t
-    → Says s ranges t (exchange n x) → Exchanges s ranges t n x m → x < n → Makes s ranges m done w → AreUnder n done → IsNonbasic w.rows n → IsSolved s.numbers w.rows → IsSettled s ranges w → Makes s ranges w rest u → AreUnder (suc n) rest → AreUnder n rest
+tail_under : {A V : Type 0} (s : Space A V) → IsSpace s → IsOrdered s → (ranges : ℕ → Range V) (t m w u : State A V) (n x : ℕ) (done rest : List (ℕ × ℕ)) → IsSolved s.numbers t.rows → IsNonbasicFeasible s ranges t
+    → RuleSays s ranges t (exchange n x) → Exchanges s ranges t n x m → x < n → MakesPivots s ranges m done w → AreUnder n done → IsNonbasic w.rows n → IsSolved s.numbers w.rows → IsNonbasicFeasible s ranges w → MakesPivots s ranges w rest u → AreUnder (suc n) rest → AreUnder n rest
 tail_under s l o ranges t m w u n x done [] i k says step xn before db free iw kw makes under = tt
 tail_under s l o ranges t m w u n x done (f ∷ rest) i k says step xn before db free iw kw makes under =
     let fit = says_pivot s l ranges w f.0 f.1 iw makes.0 in
@@ -45,7 +45,7 @@ tail_under s l o ranges t m w u n x done (f ∷ rest) i k says step xn before db
     at_first false j fit = refl
 
     at_second : (q : Bool) → (f.1 == n) ≡ q → f.0 < n → q ≡ false
-    at_second true j low = absurd (let e : f.1 ≡ n = grind (arith, nat_tests) in no_return s l o ranges t m w n x f.0 done i k says step before xn db (subst (λ y. Says s ranges w (exchange f.0 y)) e makes.0) low)
+    at_second true j low = absurd (let e : f.1 ≡ n = grind (arith, nat_tests) in no_return s l o ranges t m w n x f.0 done i k says step before xn db (subst (λ y. RuleSays s ranges w (exchange f.0 y)) e makes.0) low)
     at_second false j low = refl
 
 -- 3 ^ n
@@ -70,17 +70,17 @@ pub record Cut {A V : Type 0} (s : Space A V) (ranges : ℕ → Range V) (t u : 
   pub hit : (b == n || x == n) ≡ true
   pub leaving_under : b < suc n
   pub entering_under : x < suc n
-  pub first : Makes s ranges t front w
-  pub says : Says s ranges w (exchange b x)
+  pub first : MakesPivots s ranges t front w
+  pub says : RuleSays s ranges w (exchange b x)
   pub step : Exchanges s ranges w b x m
-  pub back : Makes s ranges m rest u
+  pub back : MakesPivots s ranges m rest u
   pub tail : AreUnder (suc n) rest
 
 pub data Parts {A V : Type 0} (s : Space A V) (ranges : ℕ → Range V) (t u : State A V) (n : ℕ) (es : List (ℕ × ℕ)) : Type 0 where
   whole : AreUnder n es → Parts s ranges t u n es
   cut : Cut s ranges t u n es → Parts s ranges t u n es
 
-parts : {A V : Type 0} (s : Space A V) (ranges : ℕ → Range V) (t u : State A V) (n : ℕ) (es : List (ℕ × ℕ)) → Makes s ranges t es u → AreUnder (suc n) es → Parts s ranges t u n es
+parts : {A V : Type 0} (s : Space A V) (ranges : ℕ → Range V) (t u : State A V) (n : ℕ) (es : List (ℕ × ℕ)) → MakesPivots s ranges t es u → AreUnder (suc n) es → Parts s ranges t u n es
 parts s ranges t u n [] m h = whole tt
 parts s ranges t u n (f ∷ es) m h = by (f.0 == n || f.1 == n) refl (parts s ranges m.1.0 u n es m.1.2 h.2)
   where
@@ -120,7 +120,7 @@ parts s ranges t u n (f ∷ es) m h = by (f.0 == n || f.1 == n) refl (parts s ra
       tail = c.tail;
     })
 
-basic_kept : {A V : Type 0} (s : Space A V) (ranges : ℕ → Range V) (t u : State A V) (n : ℕ) (es : List (ℕ × ℕ)) → Makes s ranges t es u → AreUnder n es → is_basic n t.rows ≡ true → is_basic n u.rows ≡ true
+basic_kept : {A V : Type 0} (s : Space A V) (ranges : ℕ → Range V) (t u : State A V) (n : ℕ) (es : List (ℕ × ℕ)) → MakesPivots s ranges t es u → AreUnder n es → is_basic n t.rows ≡ true → is_basic n u.rows ≡ true
 basic_kept s ranges t u n [] m h b = subst (λ z. is_basic n z.rows ≡ true) m b
 basic_kept s ranges t u n (f ∷ es) m h b = basic_kept s ranges m.1.0 u n es m.1.2 h.2 (subst (λ rs. is_basic n rs ≡ true) (sym m.1.1.rows) (by (is_basic n (exchanged s.numbers f.0 f.1 t.rows)) refl))
   where
@@ -130,11 +130,11 @@ basic_kept s ranges t u n (f ∷ es) m h b = basic_kept s ranges m.1.0 u n es m.
 
 -- what the induction has of lesser variables
 pub record Bounded {A V : Type 0} (s : Space A V) (ranges : ℕ → Range V) (n : ℕ) : Type 0 where
-  pub is : (t u : State A V) (es : List (ℕ × ℕ)) → IsSolved s.numbers t.rows → IsSettled s ranges t → Makes s ranges t es u → AreUnder n es → suc (length es) ≤ triple n
+  pub is : (t u : State A V) (es : List (ℕ × ℕ)) → IsSolved s.numbers t.rows → IsNonbasicFeasible s ranges t → MakesPivots s ranges t es u → AreUnder n es → suc (length es) ≤ triple n
 
 -- once n left
-after_leaving : {A V : Type 0} (s : Space A V) → IsSpace s → IsOrdered s → (ranges : ℕ → Range V) (n : ℕ) → Bounded s ranges n → (t m u : State A V) (x : ℕ) (rest : List (ℕ × ℕ)) → IsSolved s.numbers t.rows → IsSettled s ranges t
-    → Says s ranges t (exchange n x) → Exchanges s ranges t n x m → x < suc n → Makes s ranges m rest u → AreUnder (suc n) rest → suc (length rest) ≤ triple n
+after_leaving : {A V : Type 0} (s : Space A V) → IsSpace s → IsOrdered s → (ranges : ℕ → Range V) (n : ℕ) → Bounded s ranges n → (t m u : State A V) (x : ℕ) (rest : List (ℕ × ℕ)) → IsSolved s.numbers t.rows → IsNonbasicFeasible s ranges t
+    → RuleSays s ranges t (exchange n x) → Exchanges s ranges t n x m → x < suc n → MakesPivots s ranges m rest u → AreUnder (suc n) rest → suc (length rest) ≤ triple n
 after_leaving s l o ranges n bound t m u x rest i k says step xl makes under =
     let fit = says_pivot s l ranges t n x i says in
     let far : (x == n) ≡ false = apart n x t.rows fit.basic fit.nonbasic in
@@ -146,21 +146,21 @@ after_leaving s l o ranges n bound t m u x rest i k says step xl makes under =
 -- the state at which n first moves
 pub record At {A V : Type 0} (s : Space A V) (ranges : ℕ → Range V) (w : State A V) : Type 0 where
   pub solved : IsSolved s.numbers w.rows
-  pub settled : IsSettled s ranges w
+  pub settled : IsNonbasicFeasible s ranges w
 
-at_cut : {A V : Type 0} (s : Space A V) → IsSpace s → IsOrdered s → (ranges : ℕ → Range V) (t u : State A V) (n : ℕ) (es : List (ℕ × ℕ)) → IsSolved s.numbers t.rows → IsSettled s ranges t → (c : Cut s ranges t u n es) → At s ranges c.w
+at_cut : {A V : Type 0} (s : Space A V) → IsSpace s → IsOrdered s → (ranges : ℕ → Range V) (t u : State A V) (n : ℕ) (es : List (ℕ × ℕ)) → IsSolved s.numbers t.rows → IsNonbasicFeasible s ranges t → (c : Cut s ranges t u n es) → At s ranges c.w
 at_cut s l o ranges t u n es i k c = let r = reached s l o ranges t c.w c.front i k c.first in record { solved = r.solved; settled = r.settled }
 
 -- where n leaves at the cut, few are left
-leaves_at : {A V : Type 0} (s : Space A V) → IsSpace s → IsOrdered s → (ranges : ℕ → Range V) (n : ℕ) → Bounded s ranges n → (t u : State A V) (es : List (ℕ × ℕ)) → IsSolved s.numbers t.rows → IsSettled s ranges t → (c : Cut s ranges t u n es) → c.b ≡ n
+leaves_at : {A V : Type 0} (s : Space A V) → IsSpace s → IsOrdered s → (ranges : ℕ → Range V) (n : ℕ) → Bounded s ranges n → (t u : State A V) (es : List (ℕ × ℕ)) → IsSolved s.numbers t.rows → IsNonbasicFeasible s ranges t → (c : Cut s ranges t u n es) → c.b ≡ n
     → suc (length c.rest) ≤ triple n
 leaves_at s l o ranges n bound t u es i k c e =
     let a = at_cut s l o ranges t u n es i k c in
-    after_leaving s l o ranges n bound c.w c.m u c.x c.rest a.solved a.settled (subst (λ b. Says s ranges c.w (exchange b c.x)) e c.says) (subst (λ b. Exchanges s ranges c.w b c.x c.m) e c.step) c.entering_under c.back c.tail
+    after_leaving s l o ranges n bound c.w c.m u c.x c.rest a.solved a.settled (subst (λ b. RuleSays s ranges c.w (exchange b c.x)) e c.says) (subst (λ b. Exchanges s ranges c.w b c.x c.m) e c.step) c.entering_under c.back c.tail
 
 -- once n entered
-after_entering : {A V : Type 0} (s : Space A V) → IsSpace s → IsOrdered s → (ranges : ℕ → Range V) (n : ℕ) → Bounded s ranges n → (m u : State A V) (rest : List (ℕ × ℕ)) → IsSolved s.numbers m.rows → IsSettled s ranges m
-    → is_basic n m.rows ≡ true → Makes s ranges m rest u → AreUnder (suc n) rest → suc (length rest) ≤ triple n + triple n
+after_entering : {A V : Type 0} (s : Space A V) → IsSpace s → IsOrdered s → (ranges : ℕ → Range V) (n : ℕ) → Bounded s ranges n → (m u : State A V) (rest : List (ℕ × ℕ)) → IsSolved s.numbers m.rows → IsNonbasicFeasible s ranges m
+    → is_basic n m.rows ≡ true → MakesPivots s ranges m rest u → AreUnder (suc n) rest → suc (length rest) ≤ triple n + triple n
 after_entering s l o ranges n bound m u rest i k basic makes under = by (parts s ranges m u n rest makes under)
   where
     by : Parts s ranges m u n rest → suc (length rest) ≤ triple n + triple n
@@ -183,12 +183,12 @@ after_entering s l o ranges n bound m u rest i k basic makes under = by (parts s
 pub rule_ends : {A V : Type 0} (s : Space A V) → IsSpace s → IsOrdered s → (ranges : ℕ → Range V) (n : ℕ) → Bounded s ranges n
 rule_ends {A = B} {V = W} s l o ranges zero = record { is = none }
   where
-    none : (t u : State B W) (es : List (ℕ × ℕ)) → IsSolved s.numbers t.rows → IsSettled s ranges t → Makes s ranges t es u → AreUnder zero es → suc (length es) ≤ triple zero
+    none : (t u : State B W) (es : List (ℕ × ℕ)) → IsSolved s.numbers t.rows → IsNonbasicFeasible s ranges t → MakesPivots s ranges t es u → AreUnder zero es → suc (length es) ≤ triple zero
     none t u [] i k m h = omega arith
     none t u (e ∷ es) i k m h = absurd (omega (arith, h.0))
 rule_ends {A = B} {V = W} s l o ranges (suc n) = record { is = λ t u es i k m h. all (rule_ends s l o ranges n) t u es i k m h (parts s ranges t u n es m h) }
   where
-    all : Bounded s ranges n → (t u : State B W) (es : List (ℕ × ℕ)) → IsSolved s.numbers t.rows → IsSettled s ranges t → Makes s ranges t es u → AreUnder (suc n) es → Parts s ranges t u n es → suc (length es) ≤ triple n + triple n + triple n
+    all : Bounded s ranges n → (t u : State B W) (es : List (ℕ × ℕ)) → IsSolved s.numbers t.rows → IsNonbasicFeasible s ranges t → MakesPivots s ranges t es u → AreUnder (suc n) es → Parts s ranges t u n es → suc (length es) ≤ triple n + triple n + triple n
     all bound t u es i k m h (whole g) = let b = bound.is t u es i k m g in omega arith
     all bound t u es i k m h (cut c) =
         let a = at_cut s l o ranges t u n es i k c in

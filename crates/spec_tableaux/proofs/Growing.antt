@@ -4,7 +4,7 @@ use Rattle.std.proofs.lemmas.Bool.{or_parts}
 use Rattle.std.proofs.lemmas.Bool.Decides.{nat_tests}
 use Rattle.spec_tableaux.specs.Spaces.{Space, IsSpace}
 use Rattle.spec_tableaux.specs.Rows.{Entry, Row, sum_of, put, plus_times, with_flattened, flattened, with_row, Holds, Solves, row_of, is_basic, AreDistinct}
-use Rattle.spec_tableaux.specs.SolvedForms.{IsTidy, IsOver, AreTidy, AreOver, IsNonbasic, IsSolved}
+use Rattle.spec_tableaux.specs.SolvedForms.{IsTidy, AllVariables, AreTidy, AllRowVariables, IsNonbasic, IsSolved}
 use Rattle.spec_tableaux.proofs.Sums.{sum_put, three, plus_origin_right}
 use Rattle.spec_tableaux.proofs.Exchanges.{row_of_basic, row_holds, or_none}
 use Rattle.spec_tableaux.proofs.SolvedForms.{tidy_put, over_put, over_row, over_more, over_both}
@@ -41,7 +41,7 @@ tidy_plus : {A V : Type 0} (s : Space A V) (k : A) (es gs : List (Entry A)) → 
 tidy_plus s k es [] t = t
 tidy_plus s k es (g ∷ gs) t = tidy_put s 0 g.variable (s.numbers.times k g.coefficient) (plus_times s.numbers es k gs) (omega arith) (tidy_plus s k es gs t)
 
-over_plus : {A V : Type 0} (s : Space A V) (p : ℕ → Type 0) (k : A) (es gs : List (Entry A)) → IsOver p es → IsOver p gs → IsOver p (plus_times s.numbers es k gs)
+over_plus : {A V : Type 0} (s : Space A V) (p : ℕ → Type 0) (k : A) (es gs : List (Entry A)) → AllVariables p es → AllVariables p gs → AllVariables p (plus_times s.numbers es k gs)
 over_plus s p k es [] t u = t
 over_plus s p k es (g ∷ gs) t u = over_put s p g.variable (s.numbers.times k g.coefficient) (plus_times s.numbers es k gs) u.0 (over_plus s p k es gs t u.1)
 
@@ -54,11 +54,11 @@ tidy_flattened s rs es (g ∷ gs) t = tidy_flattened s rs (with_flattened s.numb
     by false = tidy_put s 0 g.variable g.coefficient es (omega arith) t
 
 -- p holds of the variables of the rows, and of those that are added as they are
-pub over_flattened : {A V : Type 0} (s : Space A V) (p : ℕ → Type 0) (rs : List (Row A)) (es gs : List (Entry A)) → AreOver p rs → IsOver (λ y. IsNonbasic rs y → p y) gs → IsOver p es → IsOver p (flattened s.numbers rs es gs)
+pub over_flattened : {A V : Type 0} (s : Space A V) (p : ℕ → Type 0) (rs : List (Row A)) (es gs : List (Entry A)) → AllRowVariables p rs → AllVariables (λ y. IsNonbasic rs y → p y) gs → AllVariables p es → AllVariables p (flattened s.numbers rs es gs)
 over_flattened s p rs es [] o h t = t
 over_flattened s p rs es (g ∷ gs) o h t = over_flattened s p rs (with_flattened s.numbers rs es g) gs o h.1 (by (is_basic g.variable rs) refl)
   where
-    by : (q : Bool) → is_basic g.variable rs ≡ q → IsOver p (cond q (plus_times s.numbers es g.coefficient (row_of g.variable rs).entries) (put s.numbers g.variable g.coefficient es))
+    by : (q : Bool) → is_basic g.variable rs ≡ q → AllVariables p (cond q (plus_times s.numbers es g.coefficient (row_of g.variable rs).entries) (put s.numbers g.variable g.coefficient es))
     by true e = over_plus s p g.coefficient es (row_of g.variable rs).entries t (over_row p g.variable rs o)
     by false e = over_put s p g.variable g.coefficient es (h.0 e) t
 
@@ -76,21 +76,21 @@ tidy_more : {A V : Type 0} (s : Space A V) (rs : List (Row A)) (r : Row A) → A
 tidy_more s [] r t h = (h, tt)
 tidy_more s (q ∷ rs) r t h = (t.0, tidy_more s rs r t.1 h)
 
-pub over_rows : {A : Type 0} (p q : ℕ → Type 0) (rs : List (Row A)) (r : Row A) → ((y : ℕ) → p y → q y) → AreOver p rs → IsOver p r.entries → AreOver q (rs ++ r ∷ [])
+pub over_rows : {A : Type 0} (p q : ℕ → Type 0) (rs : List (Row A)) (r : Row A) → ((y : ℕ) → p y → q y) → AllRowVariables p rs → AllVariables p r.entries → AllRowVariables q (rs ++ r ∷ [])
 over_rows p q [] r w o h = (over_more p q r.entries w h, tt)
 over_rows p q (a ∷ rs) r w o h = (over_more p q a.entries w o.0, over_rows p q rs r w o.1 h)
 
-both_over : {A : Type 0} (p q : ℕ → Type 0) (rs : List (Row A)) → AreOver p rs → AreOver q rs → AreOver (λ y. p y × q y) rs
+both_over : {A : Type 0} (p q : ℕ → Type 0) (rs : List (Row A)) → AllRowVariables p rs → AllRowVariables q rs → AllRowVariables (λ y. p y × q y) rs
 both_over p q [] a b = tt
 both_over p q (r ∷ rs) a b = (over_both p q r.entries a.0 b.0, both_over p q rs a.1 b.1)
 
 -- the rows with one more, of a variable that they do not have, are in solved form
-pub added_solved : {A V : Type 0} (s : Space A V) (rs : List (Row A)) (b : ℕ) (gs : List (Entry A)) → IsSolved s.numbers rs → IsNonbasic rs b → AreOver (λ y. (y == b) ≡ false) rs → IsOver (λ y. (y == b) ≡ false) gs
+pub added_solved : {A V : Type 0} (s : Space A V) (rs : List (Row A)) (b : ℕ) (gs : List (Entry A)) → IsSolved s.numbers rs → IsNonbasic rs b → AllRowVariables (λ y. (y == b) ≡ false) rs → AllVariables (λ y. (y == b) ≡ false) gs
     → IsSolved s.numbers (with_row s.numbers rs b gs)
 added_solved s rs b gs i f new other =
     let fits : ℕ → Type 0 = λ y. IsNonbasic rs y × ((y == b) ≡ false) in
-    let rows : AreOver fits rs = both_over (IsNonbasic rs) (λ y. (y == b) ≡ false) rs i.nonbasic new in
-    let entries : IsOver fits (flattened s.numbers rs [] gs) =
+    let rows : AllRowVariables fits rs = both_over (IsNonbasic rs) (λ y. (y == b) ≡ false) rs i.nonbasic new in
+    let entries : AllVariables fits (flattened s.numbers rs [] gs) =
     over_flattened s fits rs [] gs rows (over_more (λ y. (y == b) ≡ false) (λ y. IsNonbasic rs y → fits y) gs (λ y h k. (k, h)) other) tt in
     record {
       distinct = distinct_more rs (record { basic = b; entries = flattened s.numbers rs [] gs }) i.distinct f;

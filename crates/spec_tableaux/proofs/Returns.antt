@@ -5,9 +5,9 @@ use Rattle.std.proofs.lemmas.Bool.Decides.{nat_tests}
 use Rattle.spec_tableaux.specs.Fields.{is_positive}
 use Rattle.spec_tableaux.specs.Spaces.{Space, IsSpace, IsOrdered}
 use Rattle.spec_tableaux.specs.Rows.{Entry, coefficient_of, row_of, is_basic, Solves, Row, Holds}
-use Rattle.spec_tableaux.specs.SolvedForms.{IsOver, IsSolved, IsPivot, IsNonbasic, IsTidy}
+use Rattle.spec_tableaux.specs.SolvedForms.{AllVariables, IsSolved, IsPivot, IsNonbasic, IsTidy}
 use Rattle.spec_tableaux.specs.Ranges.{Range, moves_by, can_rise, can_fall, below, above, is_within}
-use Rattle.spec_tableaux.specs.LeastVariable.{State, Says, exchange, goes_up, IsSettled, Exchanges, Makes, AreUnder, goal_of, IsLeast, is_out}
+use Rattle.spec_tableaux.specs.LeastVariable.{State, RuleSays, exchange, goes_up, IsNonbasicFeasible, Exchanges, MakesPivots, AreUnder, goal_of, IsLeast, is_out}
 use Rattle.spec_tableaux.proofs.Exchanges.{exchange_keeps, row_holds, row_of_basic}
 use Rattle.spec_tableaux.proofs.SolvedForms.{over_row, exchange_solved, tidy_row}
 use Rattle.spec_tableaux.proofs.Conflicts.{AtMost, Below, none, more, most_scale, Within, within_of, term_up, most_same, term_down, sum_most, below_less, above_less}
@@ -21,7 +21,7 @@ nonzero_of s range x up c h = by (s.numbers.is_zero c) h
     by true h = absurd (cc)
     by false h = refl
 
-over_entry : {A V : Type 0} (s : Space A V) → IsSpace s → (p : ℕ → Type 0) (x : ℕ) (es : List (Entry A)) → IsOver p es → s.numbers.is_zero (coefficient_of s.numbers x es) ≡ false → p x
+over_entry : {A V : Type 0} (s : Space A V) → IsSpace s → (p : ℕ → Type 0) (x : ℕ) (es : List (Entry A)) → AllVariables p es → s.numbers.is_zero (coefficient_of s.numbers x es) ≡ false → p x
 over_entry s l p x [] o z = absurd (let k = l.numbers.zero_is_zero in cc)
 over_entry s l p x (e ∷ es) o z = by (e.variable == x) refl (over_entry s l p x es o.1) z
   where
@@ -30,7 +30,7 @@ over_entry s l p x (e ∷ es) o z = by (e.variable == x) refl (over_entry s l p 
     by false j g z = g z
 
 -- what an exchange that the rule says needs
-pub says_pivot : {A V : Type 0} (s : Space A V) → IsSpace s → (ranges : ℕ → Range V) (t : State A V) (b x : ℕ) → IsSolved s.numbers t.rows → Says s ranges t (exchange b x) → IsPivot s.numbers t.rows b x
+pub says_pivot : {A V : Type 0} (s : Space A V) → IsSpace s → (ranges : ℕ → Range V) (t : State A V) (b x : ℕ) → IsSolved s.numbers t.rows → RuleSays s ranges t (exchange b x) → IsPivot s.numbers t.rows b x
 says_pivot s l ranges t b x i h =
     let there = nonzero_of s (ranges x) (t.point x) (goes_up s ranges t b) (coefficient_of s.numbers x (row_of b t.rows).entries) h.2.holds in
     record {
@@ -47,13 +47,13 @@ IsAway y (e ∷ es) = ((y == e.0) ≡ false) × ((y == e.1) ≡ false) × IsAway
 -- the end of exchanges, seen from their beginning
 pub record Reached {A V : Type 0} (s : Space A V) (ranges : ℕ → Range V) (t u : State A V) : Type 0 where
   pub solved : IsSolved s.numbers u.rows
-  pub settled : IsSettled s ranges u
+  pub settled : IsNonbasicFeasible s ranges u
   pub same : (v : ℕ → V) → Solves s v t.rows → Solves s v u.rows
 
-reached_same : {A V : Type 0} (s : Space A V) (ranges : ℕ → Range V) (t u : State A V) → IsSolved s.numbers t.rows → IsSettled s ranges t → t ≡ u → Reached s ranges t u
+reached_same : {A V : Type 0} (s : Space A V) (ranges : ℕ → Range V) (t u : State A V) → IsSolved s.numbers t.rows → IsNonbasicFeasible s ranges t → t ≡ u → Reached s ranges t u
 reached_same s ranges t u i k e = subst (Reached s ranges t) e (record { solved = i; settled = k; same = λ v h. h })
 
-pub one_step : {A V : Type 0} (s : Space A V) → IsSpace s → IsOrdered s → (ranges : ℕ → Range V) (t m : State A V) (b x : ℕ) → IsSolved s.numbers t.rows → IsSettled s ranges t → Says s ranges t (exchange b x) → Exchanges s ranges t b x m → Reached s ranges t m
+pub one_step : {A V : Type 0} (s : Space A V) → IsSpace s → IsOrdered s → (ranges : ℕ → Range V) (t m : State A V) (b x : ℕ) → IsSolved s.numbers t.rows → IsNonbasicFeasible s ranges t → RuleSays s ranges t (exchange b x) → Exchanges s ranges t b x m → Reached s ranges t m
 one_step s l o ranges t m b x i k says e =
     let f = says_pivot s l ranges t b x i says in
     record {
@@ -62,7 +62,7 @@ one_step s l o ranges t m b x i k says e =
       same = λ v h. subst (Solves s v) (sym e.rows) ((exchange_keeps s l v b x t.rows i.distinct f.basic f.entry).1 h);
     }
 
-pub reached : {A V : Type 0} (s : Space A V) → IsSpace s → IsOrdered s → (ranges : ℕ → Range V) (t u : State A V) (es : List (ℕ × ℕ)) → IsSolved s.numbers t.rows → IsSettled s ranges t → Makes s ranges t es u → Reached s ranges t u
+pub reached : {A V : Type 0} (s : Space A V) → IsSpace s → IsOrdered s → (ranges : ℕ → Range V) (t u : State A V) (es : List (ℕ × ℕ)) → IsSolved s.numbers t.rows → IsNonbasicFeasible s ranges t → MakesPivots s ranges t es u → Reached s ranges t u
 reached s l o ranges t u [] i k m = reached_same s ranges t u i k m
 reached s l o ranges t u (e ∷ es) i k m =
     let a = one_step s l o ranges t m.1.0 e.0 e.1 i k m.0 m.1.1 in
@@ -70,7 +70,7 @@ reached s l o ranges t u (e ∷ es) i k m =
     record { solved = b.solved; settled = b.settled; same = λ v h. b.same v (a.same v h) }
 
 -- what is not basic at the end and neither left nor entered had its value before
-pub kept_value : {A V : Type 0} (s : Space A V) → IsSpace s → IsOrdered s → (ranges : ℕ → Range V) (t u : State A V) (es : List (ℕ × ℕ)) (y : ℕ) → IsSolved s.numbers t.rows → IsSettled s ranges t → Makes s ranges t es u → IsAway y es → IsNonbasic u.rows y
+pub kept_value : {A V : Type 0} (s : Space A V) → IsSpace s → IsOrdered s → (ranges : ℕ → Range V) (t u : State A V) (es : List (ℕ × ℕ)) (y : ℕ) → IsSolved s.numbers t.rows → IsNonbasicFeasible s ranges t → MakesPivots s ranges t es u → IsAway y es → IsNonbasic u.rows y
     → IsNonbasic t.rows y × (u.point y ≡ t.point y)
 kept_value s l o ranges t u [] y i k m a f = (subst (λ z. IsNonbasic z.rows y) (sym m) f, ap (λ (z : State _ _). z.point y) (sym m))
 kept_value s l o ranges t u (e ∷ es) y i k m a f =
@@ -105,7 +105,7 @@ terms_below s l p v at (e ∷ es) t h = more e es
     by : (y : ℕ) → s.numbers.is_zero (coefficient_of s.numbers y es) ≡ false → (q : Bool) → (e.variable == y) ≡ q → AtMost s (s.scale (coefficient_of s.numbers y es) (p y)) (s.scale (coefficient_of s.numbers y es) (v y))
     by y z true j = absurd (let k : e.variable ≡ y = grind (arith, nat_tests) in let far : suc e.variable ≤ y × ((y == e.variable) ≡ false) = over_entry s l (λ x. suc e.variable ≤ x × ((x == e.variable) ≡ false)) y es (from (suc e.variable) es (omega arith) t.2) z in omega (arith, far.0))
       where
-        from : (to : ℕ) (fs : List (Entry _)) → suc e.variable ≤ to → IsTidy s.numbers to fs → IsOver (λ x. suc e.variable ≤ x × ((x == e.variable) ≡ false)) fs
+        from : (to : ℕ) (fs : List (Entry _)) → suc e.variable ≤ to → IsTidy s.numbers to fs → AllVariables (λ x. suc e.variable ≤ x × ((x == e.variable) ≡ false)) fs
         from to [] g u = tt
         from to (f ∷ fs) g u = ((omega (arith, u.0), let k : e.variable < f.variable = omega (arith, u.0) in let w : (f.variable == e.variable) ≡ false = grind (arith, nat_tests) in w), from (suc f.variable) fs (omega (arith, u.0)) u.2)
     by y z false j = let same : coefficient_of s.numbers y (e ∷ es) ≡ coefficient_of s.numbers y es = ap (λ q. cond q e.coefficient (coefficient_of s.numbers y es)) j in
@@ -156,7 +156,7 @@ is_false true false e h = cc
 is_false false q e h = absurd (cc)
 
 -- what holds at the state in which r leaves, for lesser variables
-under_within : {A V : Type 0} (s : Space A V) (ranges : ℕ → Range V) (t : State A V) (r y : ℕ) → IsSettled s ranges t → IsLeast (is_out s ranges t) r → y < r → is_within s ranges t.point y ≡ true
+under_within : {A V : Type 0} (s : Space A V) (ranges : ℕ → Range V) (t : State A V) (r y : ℕ) → IsNonbasicFeasible s ranges t → IsLeast (is_out s ranges t) r → y < r → is_within s ranges t.point y ≡ true
 under_within s ranges t r y k least h = by (is_basic y t.rows) refl
   where
     by : (q : Bool) → is_basic y t.rows ≡ q → is_within s ranges t.point y ≡ true
@@ -164,8 +164,8 @@ under_within s ranges t r y k least h = by (is_basic y t.rows) refl
     by false e = k.nonbasic y e
 
 -- r leaves at t, lesser variables alone leave and enter up to u, and there r would enter: impossible
-pub no_return : {A V : Type 0} (s : Space A V) → IsSpace s → IsOrdered s → (ranges : ℕ → Range V) (t m u : State A V) (r x k : ℕ) (es : List (ℕ × ℕ)) → IsSolved s.numbers t.rows → IsSettled s ranges t
-    → Says s ranges t (exchange r x) → Exchanges s ranges t r x m → Makes s ranges m es u → x < r → AreUnder r es → Says s ranges u (exchange k r) → k < r → ⊥
+pub no_return : {A V : Type 0} (s : Space A V) → IsSpace s → IsOrdered s → (ranges : ℕ → Range V) (t m u : State A V) (r x k : ℕ) (es : List (ℕ × ℕ)) → IsSolved s.numbers t.rows → IsNonbasicFeasible s ranges t
+    → RuleSays s ranges t (exchange r x) → Exchanges s ranges t r x m → MakesPivots s ranges m es u → x < r → AreUnder r es → RuleSays s ranges u (exchange k r) → k < r → ⊥
 no_return {A = B} {V = W} s l o ranges t m u r x k es i set says step makes xr under then kr = at (goes_up s ranges u k) refl
   where
     one : Reached s ranges t m

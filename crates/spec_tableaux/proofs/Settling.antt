@@ -4,7 +4,7 @@ use Rattle.spec_tableaux.specs.Spaces.{Space, IsOrdered}
 use Rattle.spec_tableaux.specs.Rows.{Row, sum_of, coefficient_of, row_of}
 use Rattle.spec_tableaux.specs.SolvedForms.{IsNonbasic, IsSolved, extended}
 use Rattle.spec_tableaux.specs.Ranges.{Range, below, above, crosses, is_crossed, bound_or, settled_value}
-use Rattle.spec_tableaux.specs.LeastVariable.{State, Settles, IsSettled, Moves, moved}
+use Rattle.spec_tableaux.specs.LeastVariable.{State, Settles, IsNonbasicFeasible, Moves, moved}
 use Rattle.spec_tableaux.proofs.Exchanges.{or_none}
 use Rattle.spec_tableaux.proofs.Steps.{same_eqb}
 use Rattle.spec_tableaux.proofs.Unique.{extended_solves}
@@ -34,7 +34,7 @@ settled_within {V = W} s o range x c = by range.lower range.upper c
             again false k = or_none _ _ e k
 
 -- where no bounds cross, the step before all exchanges leaves nonbasic variables within their bounds
-pub settles_settled : {A V : Type 0} (s : Space A V) → IsOrdered s → (ranges : ℕ → Range V) (t u : State A V) → ((y : ℕ) → is_crossed s ranges y ≡ false) → Settles s ranges t u → IsSettled s ranges u
+pub settles_settled : {A V : Type 0} (s : Space A V) → IsOrdered s → (ranges : ℕ → Range V) (t u : State A V) → ((y : ℕ) → is_crossed s ranges y ≡ false) → Settles s ranges t u → IsNonbasicFeasible s ranges u
 settles_settled s o ranges t u c h = record {
   solves = h.solves;
   nonbasic = λ y f. ap (λ z. not (below s z (ranges y).lower || above s z (ranges y).upper)) (h.nonbasic y (subst (λ rs. IsNonbasic rs y) h.rows f))

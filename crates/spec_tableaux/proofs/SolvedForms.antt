@@ -5,7 +5,7 @@ use Rattle.std.specs.Prelude.{nat_lt}
 use Rattle.std.proofs.lemmas.Bool.Decides.{nat_tests}
 use Rattle.spec_tableaux.specs.Spaces.{Space, IsSpace}
 use Rattle.spec_tableaux.specs.Rows.{Entry, with_entry, put, minus_times, without, quotients, negated, coefficient_of, Row, row_of, Pivot, is_basic, exchanged_row, exchanged, pivot_row, substituted, substituted_row, AreDistinct, pivot_of}
-use Rattle.spec_tableaux.specs.SolvedForms.{IsTidy, IsOver, AreOver, AreTidy, IsSolved, IsNonbasic}
+use Rattle.spec_tableaux.specs.SolvedForms.{IsTidy, AllVariables, AllRowVariables, AreTidy, IsSolved, IsNonbasic}
 use Rattle.spec_tableaux.proofs.Signs.{product_not_zero, inverse_not_zero, opposite_not_zero}
 use Rattle.spec_tableaux.proofs.Exchanges.{or_none}
 
@@ -50,70 +50,70 @@ pub tidy_negated : {A V : Type 0} (s : Space A V) → IsSpace s → (at : ℕ) (
 tidy_negated s l at [] t = tt
 tidy_negated s l at (e ∷ es) t = (t.0, (opposite_not_zero s.numbers l.numbers) _ t.1, tidy_negated s l (suc e.variable) es t.2)
 
-over_with : {A V : Type 0} (s : Space A V) (p : ℕ → Type 0) (x : ℕ) (c : A) (es : List (Entry A)) → p x → IsOver p es → IsOver p (with_entry s.numbers x c es)
+over_with : {A V : Type 0} (s : Space A V) (p : ℕ → Type 0) (x : ℕ) (c : A) (es : List (Entry A)) → p x → AllVariables p es → AllVariables p (with_entry s.numbers x c es)
 over_with s p x c es h t = by (s.numbers.is_zero c)
   where
-    by : (q : Bool) → IsOver p (cond q es (record { variable = x; coefficient = c } ∷ es))
+    by : (q : Bool) → AllVariables p (cond q es (record { variable = x; coefficient = c } ∷ es))
     by true = t
     by false = (h, t)
 
-pub over_put : {A V : Type 0} (s : Space A V) (p : ℕ → Type 0) (x : ℕ) (c : A) (es : List (Entry A)) → p x → IsOver p es → IsOver p (put s.numbers x c es)
+pub over_put : {A V : Type 0} (s : Space A V) (p : ℕ → Type 0) (x : ℕ) (c : A) (es : List (Entry A)) → p x → AllVariables p es → AllVariables p (put s.numbers x c es)
 over_put s p x c [] h t = over_with s p x c [] h tt
 over_put s p x c (e ∷ es) h t = by (over_put s p x c es h t.1) (nat_lt x e.variable) (x == e.variable)
   where
-    by : IsOver p (put s.numbers x c es) → (a b : Bool) → IsOver p (cond a (with_entry s.numbers x c (e ∷ es)) (cond b (with_entry s.numbers x (s.numbers.plus e.coefficient c) es) (e ∷ put s.numbers x c es)))
+    by : AllVariables p (put s.numbers x c es) → (a b : Bool) → AllVariables p (cond a (with_entry s.numbers x c (e ∷ es)) (cond b (with_entry s.numbers x (s.numbers.plus e.coefficient c) es) (e ∷ put s.numbers x c es)))
     by go true b = over_with s p x c (e ∷ es) h t
     by go false true = over_with s p x (s.numbers.plus e.coefficient c) es h t.1
     by go false false = (t.0, go)
 
-pub over_minus : {A V : Type 0} (s : Space A V) (p : ℕ → Type 0) (k : A) (es fs : List (Entry A)) → IsOver p es → IsOver p fs → IsOver p (minus_times s.numbers es k fs)
+pub over_minus : {A V : Type 0} (s : Space A V) (p : ℕ → Type 0) (k : A) (es fs : List (Entry A)) → AllVariables p es → AllVariables p fs → AllVariables p (minus_times s.numbers es k fs)
 over_minus s p k es [] t u = t
 over_minus s p k es (f ∷ fs) t u = over_put s p f.variable (s.numbers.opposite (s.numbers.times k f.coefficient)) (minus_times s.numbers es k fs) u.0 (over_minus s p k es fs t u.1)
 
-pub over_quotients : {A V : Type 0} (s : Space A V) (p : ℕ → Type 0) (d : A) (es : List (Entry A)) → IsOver p es → IsOver p (quotients s.numbers d es)
+pub over_quotients : {A V : Type 0} (s : Space A V) (p : ℕ → Type 0) (d : A) (es : List (Entry A)) → AllVariables p es → AllVariables p (quotients s.numbers d es)
 over_quotients s p d [] t = tt
 over_quotients s p d (e ∷ es) t = (t.0, over_quotients s p d es t.1)
 
-pub over_negated : {A V : Type 0} (s : Space A V) (p : ℕ → Type 0) (es : List (Entry A)) → IsOver p es → IsOver p (negated s.numbers es)
+pub over_negated : {A V : Type 0} (s : Space A V) (p : ℕ → Type 0) (es : List (Entry A)) → AllVariables p es → AllVariables p (negated s.numbers es)
 over_negated s p [] t = tt
 over_negated s p (e ∷ es) t = (t.0, over_negated s p es t.1)
 
-pub over_more : {A : Type 0} (p q : ℕ → Type 0) (es : List (Entry A)) → ((y : ℕ) → p y → q y) → IsOver p es → IsOver q es
+pub over_more : {A : Type 0} (p q : ℕ → Type 0) (es : List (Entry A)) → ((y : ℕ) → p y → q y) → AllVariables p es → AllVariables q es
 over_more p q [] w t = tt
 over_more p q (e ∷ es) w t = (w e.variable t.0, over_more p q es w t.1)
 
 -- the variables of a tidy list from `at` on are not below
-pub over_from : {A V : Type 0} (s : Space A V) (at x : ℕ) (es : List (Entry A)) → x < at → IsTidy s.numbers at es → IsOver (λ y. (y == x) ≡ false) es
+pub over_from : {A V : Type 0} (s : Space A V) (at x : ℕ) (es : List (Entry A)) → x < at → IsTidy s.numbers at es → AllVariables (λ y. (y == x) ≡ false) es
 over_from s at x [] h t = tt
 over_from s at x (e ∷ es) h t = (let k : x < e.variable = omega (arith, t.0) in grind (arith, nat_tests), over_from s (suc e.variable) x es (omega (arith, t.0)) t.2)
 
-pub over_both : {A : Type 0} (p q : ℕ → Type 0) (fs : List (Entry A)) → IsOver p fs → IsOver q fs → IsOver (λ y. p y × q y) fs
+pub over_both : {A : Type 0} (p q : ℕ → Type 0) (fs : List (Entry A)) → AllVariables p fs → AllVariables q fs → AllVariables (λ y. p y × q y) fs
 over_both p q [] a b = tt
 over_both p q (f ∷ fs) a b = ((a.0, b.0), over_both p q fs a.1 b.1)
 
 -- x is not there any more
-pub over_without : {A V : Type 0} (s : Space A V) (p : ℕ → Type 0) (at x : ℕ) (es : List (Entry A)) → IsTidy s.numbers at es → IsOver p es → IsOver (λ y. p y × ((y == x) ≡ false)) (without x es)
+pub over_without : {A V : Type 0} (s : Space A V) (p : ℕ → Type 0) (at x : ℕ) (es : List (Entry A)) → IsTidy s.numbers at es → AllVariables p es → AllVariables (λ y. p y × ((y == x) ≡ false)) (without x es)
 over_without s p at x [] t o = tt
 over_without s p at x (e ∷ es) t o = by (over_without s p (suc e.variable) x es t.2 o.1) (e.variable == x) refl
   where
-    by : IsOver (λ y. p y × ((y == x) ≡ false)) (without x es) → (q : Bool) → (e.variable == x) ≡ q → IsOver (λ y. p y × ((y == x) ≡ false)) (cond q es (e ∷ without x es))
+    by : AllVariables (λ y. p y × ((y == x) ≡ false)) (without x es) → (q : Bool) → (e.variable == x) ≡ q → AllVariables (λ y. p y × ((y == x) ≡ false)) (cond q es (e ∷ without x es))
     by go true h = over_both p (λ y. (y == x) ≡ false) es o.1 (over_from s (suc e.variable) x es (let k : e.variable ≡ x = grind (arith, nat_tests) in omega arith) t.2)
     by go false h = ((o.0, h), go)
 
 -- a tidy list whose coefficient_of of x is 0 has no entry of x
-pub entry_absent : {A V : Type 0} (s : Space A V) (at x : ℕ) (es : List (Entry A)) → IsTidy s.numbers at es → s.numbers.is_zero (coefficient_of s.numbers x es) ≡ true → IsOver (λ y. (y == x) ≡ false) es
+pub entry_absent : {A V : Type 0} (s : Space A V) (at x : ℕ) (es : List (Entry A)) → IsTidy s.numbers at es → s.numbers.is_zero (coefficient_of s.numbers x es) ≡ true → AllVariables (λ y. (y == x) ≡ false) es
 entry_absent s at x [] t z = tt
 entry_absent s at x (e ∷ es) t z = by (e.variable == x) refl (entry_absent s (suc e.variable) x es t.2) z
   where
-    by : (q : Bool) → (e.variable == x) ≡ q → (s.numbers.is_zero (coefficient_of s.numbers x es) ≡ true → IsOver (λ y. (y == x) ≡ false) es) → s.numbers.is_zero (cond q e.coefficient (coefficient_of s.numbers x es)) ≡ true → ((e.variable == x) ≡ false) × IsOver (λ y. (y == x) ≡ false) es
+    by : (q : Bool) → (e.variable == x) ≡ q → (s.numbers.is_zero (coefficient_of s.numbers x es) ≡ true → AllVariables (λ y. (y == x) ≡ false) es) → s.numbers.is_zero (cond q e.coefficient (coefficient_of s.numbers x es)) ≡ true → ((e.variable == x) ≡ false) × AllVariables (λ y. (y == x) ≡ false) es
     by true h g z = absurd (let k = t.1 in cc)
     by false h g z = (h, g z)
 
-pub over_row : {A : Type 0} (p : ℕ → Type 0) (b : ℕ) (rs : List (Row A)) → AreOver p rs → IsOver p (row_of b rs).entries
+pub over_row : {A : Type 0} (p : ℕ → Type 0) (b : ℕ) (rs : List (Row A)) → AllRowVariables p rs → AllVariables p (row_of b rs).entries
 over_row p b [] o = tt
 over_row p b (r ∷ rs) o = by (over_row p b rs o.1) (r.basic == b)
   where
-    by : IsOver p (row_of b rs).entries → (q : Bool) → IsOver p (cond q r (row_of b rs)).entries
+    by : AllVariables p (row_of b rs).entries → (q : Bool) → AllVariables p (cond q r (row_of b rs)).entries
     by go true = o.0
     by go false = go
 
@@ -179,23 +179,23 @@ tidy_after s t (r ∷ rs) m i = (by (r.basic == t.leaving), tidy_after s t rs m 
 pub record Carries (A : Type 0) (p q : ℕ → Type 0) (t : Pivot A) : Type 0 where
   pub stay : (y : ℕ) → p y → (y == t.entering) ≡ false → q y
   pub leave : q t.leaving
-  pub others : IsOver q t.others
+  pub others : AllVariables q t.others
 
 -- an entry of x is there, or its coefficient_of is 0
-over_substituted : {A V : Type 0} (s : Space A V) → IsSpace s → (p q : ℕ → Type 0) (t : Pivot A) (es : List (Entry A)) → Carries A p q t → IsTidy s.numbers 0 es → IsOver p es → IsOver q (substituted s.numbers t (coefficient_of s.numbers t.entering es) es)
+over_substituted : {A V : Type 0} (s : Space A V) → IsSpace s → (p q : ℕ → Type 0) (t : Pivot A) (es : List (Entry A)) → Carries A p q t → IsTidy s.numbers 0 es → AllVariables p es → AllVariables q (substituted s.numbers t (coefficient_of s.numbers t.entering es) es)
 over_substituted s l p q t es w i o = by (s.numbers.is_zero (coefficient_of s.numbers t.entering es)) refl
   where
-    by : (z : Bool) → s.numbers.is_zero (coefficient_of s.numbers t.entering es) ≡ z → IsOver q (cond z es (put s.numbers t.leaving (s.numbers.times (coefficient_of s.numbers t.entering es) t.factor) (minus_times s.numbers (without t.entering es) (coefficient_of s.numbers t.entering es) t.others)))
+    by : (z : Bool) → s.numbers.is_zero (coefficient_of s.numbers t.entering es) ≡ z → AllVariables q (cond z es (put s.numbers t.leaving (s.numbers.times (coefficient_of s.numbers t.entering es) t.factor) (minus_times s.numbers (without t.entering es) (coefficient_of s.numbers t.entering es) t.others)))
     by true e = over_more (λ y. p y × ((y == t.entering) ≡ false)) q es (λ y h. w.stay y h.0 h.1) (over_both p (λ y. (y == t.entering) ≡ false) es o (entry_absent s 0 t.entering es i e))
     by false e = over_put s q t.leaving _ (minus_times s.numbers (without t.entering es) (coefficient_of s.numbers t.entering es) t.others) w.leave
         (over_minus s q (coefficient_of s.numbers t.entering es) (without t.entering es) t.others
         (over_more (λ y. p y × ((y == t.entering) ≡ false)) q (without t.entering es) (λ y h. w.stay y h.0 h.1) (over_without s p 0 t.entering es i o)) w.others)
 
-pub over_after : {A V : Type 0} (s : Space A V) → IsSpace s → (p q : ℕ → Type 0) (t : Pivot A) (rs : List (Row A)) → Carries A p q t → AreTidy s.numbers rs → AreOver p rs → IsOver q (pivot_row s.numbers t).entries → AreOver q (map (exchanged_row s.numbers t) rs)
+pub over_after : {A V : Type 0} (s : Space A V) → IsSpace s → (p q : ℕ → Type 0) (t : Pivot A) (rs : List (Row A)) → Carries A p q t → AreTidy s.numbers rs → AllRowVariables p rs → AllVariables q (pivot_row s.numbers t).entries → AllRowVariables q (map (exchanged_row s.numbers t) rs)
 over_after s l p q t [] w i o m = tt
 over_after s l p q t (r ∷ rs) w i o m = (by (r.basic == t.leaving), over_after s l p q t rs w i.1 o.1 m)
   where
-    by : (g : Bool) → IsOver q (cond g (pivot_row s.numbers t) (substituted_row s.numbers t r)).entries
+    by : (g : Bool) → AllVariables q (cond g (pivot_row s.numbers t) (substituted_row s.numbers t r)).entries
     by true = m
     by false = over_substituted s l p q t r.entries w i.0 o.0
 
@@ -216,7 +216,7 @@ exchange_solved s l b x rs i m f z =
     (tidy_negated s l 0 t.others (tidy_quotients s l 0 (coefficient_of s.numbers x es) (without x es) z (tidy_without s 0 x es (tidy_row s b rs i.tidy)))) in
     let stay : (y : ℕ) → IsNonbasic rs y → (y == x) ≡ false → IsNonbasic (exchanged s.numbers b x rs) y = λ y h g. nonbasic_after s t y rs h (let k : (x == y) ≡ false = grind (arith, nat_tests) in k) in
     let leave : IsNonbasic (exchanged s.numbers b x rs) b = leaving_nonbasic s t rs (apart b x rs m f) in
-    let others : IsOver (IsNonbasic (exchanged s.numbers b x rs)) t.others = over_quotients s (IsNonbasic (exchanged s.numbers b x rs)) (coefficient_of s.numbers x es) (without x es)
+    let others : AllVariables (IsNonbasic (exchanged s.numbers b x rs)) t.others = over_quotients s (IsNonbasic (exchanged s.numbers b x rs)) (coefficient_of s.numbers x es) (without x es)
     (over_more (λ y. IsNonbasic rs y × ((y == x) ≡ false)) (IsNonbasic (exchanged s.numbers b x rs)) (without x es) (λ y h. stay y h.0 h.1) (over_without s (IsNonbasic rs) 0 x es (tidy_row s b rs i.tidy) (over_row (IsNonbasic rs) b rs i.nonbasic))) in
     record {
       distinct = distinct_after s t rs i.distinct f;

@@ -4,9 +4,9 @@ use Rattle.std.proofs.lemmas.Bool.{and_parts, or_parts, or_right}
 use Rattle.std.proofs.lemmas.Bool.Decides.{nat_tests}
 use Rattle.spec_tableaux.specs.Spaces.{Space, IsSpace, IsOrdered}
 use Rattle.spec_tableaux.specs.Rows.{Solves, is_basic, coefficient_of, row_of, Entry, sum_of, Row, AreDistinct, exchanged, Pivot, exchanged_row, pivot_row, substituted_row, pivot_of}
-use Rattle.spec_tableaux.specs.SolvedForms.{IsSolved, IsOver, AreOver, IsNonbasic, IsTidy, AreTidy}
+use Rattle.spec_tableaux.specs.SolvedForms.{IsSolved, AllVariables, AllRowVariables, IsNonbasic, IsTidy, AreTidy}
 use Rattle.spec_tableaux.specs.Ranges.{Range, Meets, is_within, moves_by, below, above, crosses}
-use Rattle.spec_tableaux.specs.LeastVariable.{stuck, State, Says, goes_up, crossed, done, IsSettled, Moves, exchange, goal_of, Exchanges}
+use Rattle.spec_tableaux.specs.LeastVariable.{stuck, State, RuleSays, goes_up, crossed, done, IsNonbasicFeasible, Moves, exchange, goal_of, Exchanges}
 use Rattle.spec_tableaux.proofs.Sums.{four, plus_origin_right}
 use Rattle.spec_tableaux.proofs.Exchanges.{row_holds, row_of_basic, exchange_keeps, or_none}
 use Rattle.spec_tableaux.proofs.SolvedForms.{tidy_row, over_from, exchange_solved}
@@ -14,7 +14,7 @@ use Rattle.spec_tableaux.proofs.Conflicts.{row_below, within_of, row_above, cros
 
 -- where the rule is stuck, no point meets rows and bounds
 pub stuck_has_none : {A V : Type 0} (s : Space A V) → IsSpace s → IsOrdered s → (ranges : ℕ → Range V) (t : State A V) (b : ℕ) → IsSolved s.numbers t.rows → Solves s t.point t.rows
-    → Says s ranges t (stuck b) → (p : ℕ → V) → Meets s t.rows ranges p → ⊥
+    → RuleSays s ranges t (stuck b) → (p : ℕ → V) → Meets s t.rows ranges p → ⊥
 stuck_has_none s l o ranges t b i hv says p m =
     let basic = (and_parts (is_basic b t.rows) _ says.1.holds).0 in
     by basic (and_parts (is_basic b t.rows) _ says.1.holds).1 (goes_up s ranges t b) refl says.2
@@ -34,11 +34,11 @@ stuck_has_none s l o ranges t b i hv says p m =
         over false false h k = cc
 
 -- where two bounds cross, no point meets the bounds
-pub crossed_has_none : {A V : Type 0} (s : Space A V) → IsOrdered s → (ranges : ℕ → Range V) (t : State A V) (y : ℕ) → Says s ranges t (crossed y) → (p : ℕ → V) → Meets s t.rows ranges p → ⊥
+pub crossed_has_none : {A V : Type 0} (s : Space A V) → IsOrdered s → (ranges : ℕ → Range V) (t : State A V) (y : ℕ) → RuleSays s ranges t (crossed y) → (p : ℕ → V) → Meets s t.rows ranges p → ⊥
 crossed_has_none s o ranges t y says p m = let w = within_of s ranges p y (m.within y) in crossed_none s o (ranges y).lower (ranges y).upper (p y) says.holds w.not_below w.not_above
 
 -- where it is done, the point meets both
-pub done_meets : {A V : Type 0} (s : Space A V) (ranges : ℕ → Range V) (t : State A V) → IsSettled s ranges t → Says s ranges t done → Meets s t.rows ranges t.point
+pub done_meets : {A V : Type 0} (s : Space A V) (ranges : ℕ → Range V) (t : State A V) → IsNonbasicFeasible s ranges t → RuleSays s ranges t done → Meets s t.rows ranges t.point
 done_meets s ranges t i says = record { solves = i.solves; within = λ y. by y (is_basic y t.rows) refl (says.1 y) }
   where
     by : (y : ℕ) (q : Bool) → is_basic y t.rows ≡ q → (is_basic y t.rows && not (is_within s ranges t.point y)) ≡ false → is_within s ranges t.point y ≡ true
@@ -50,11 +50,11 @@ done_meets s ranges t i says = record { solves = i.solves; within = λ y. by y (
         is_true false h = cc
 
 -- solutions that agree on the nonbasic variables agree
-pub agreeing_sums : {A V : Type 0} (s : Space A V) (p : ℕ → Type 0) (u v : ℕ → V) (es : List (Entry A)) → IsOver p es → ((y : ℕ) → p y → u y ≡ v y) → sum_of s u es ≡ sum_of s v es
+pub agreeing_sums : {A V : Type 0} (s : Space A V) (p : ℕ → Type 0) (u v : ℕ → V) (es : List (Entry A)) → AllVariables p es → ((y : ℕ) → p y → u y ≡ v y) → sum_of s u es ≡ sum_of s v es
 agreeing_sums s p u v [] o h = refl
 agreeing_sums s p u v (e ∷ es) o h = λ i. s.plus (s.scale e.coefficient (h e.variable o.0 i)) (agreeing_sums s p u v es o.1 h i)
 
-agreeing_rows : {A V : Type 0} (s : Space A V) (p : ℕ → Type 0) (u v : ℕ → V) (rs : List (Row A)) → AreOver p rs → ((y : ℕ) → p y → u y ≡ v y) → Solves s u rs → Solves s v rs
+agreeing_rows : {A V : Type 0} (s : Space A V) (p : ℕ → Type 0) (u v : ℕ → V) (rs : List (Row A)) → AllRowVariables p rs → ((y : ℕ) → p y → u y ≡ v y) → Solves s u rs → Solves s v rs
     → (y : ℕ) → is_basic y rs ≡ true → u y ≡ v y
 agreeing_rows s p u v [] o h a b y m = cc
 agreeing_rows s p u v (r ∷ rs) o h a b y m = by (r.basic == y) refl m (agreeing_rows s p u v rs o.1 h a.1 b.1 y)
@@ -71,7 +71,7 @@ one_solution s u v rs i h a b y = by (is_basic y rs) refl
     by false e = h y e
 
 -- a sum moves with its entry of x
-sum_moves : {A V : Type 0} (s : Space A V) → IsSpace s → (rs : List (Row A)) (x : ℕ) (d : V) (v w : ℕ → V) (at : ℕ) (es : List (Entry A)) → Moves s rs x d v w → IsOver (IsNonbasic rs) es → IsTidy s.numbers at es
+sum_moves : {A V : Type 0} (s : Space A V) → IsSpace s → (rs : List (Row A)) (x : ℕ) (d : V) (v w : ℕ → V) (at : ℕ) (es : List (Entry A)) → Moves s rs x d v w → AllVariables (IsNonbasic rs) es → IsTidy s.numbers at es
     → sum_of s w es ≡ s.plus (sum_of s v es) (s.scale (coefficient_of s.numbers x es) d)
 sum_moves s l rs x d v w at [] m o t = sym (ap (s.plus s.origin) (l.zero_scale d) ∙ l.plus_origin s.origin)
 sum_moves s l rs x d v w at (e ∷ es) m o t = by (e.variable == x) refl (sum_moves s l rs x d v w (suc e.variable) es m o.1 t.2)
@@ -90,7 +90,7 @@ sum_moves s l rs x d v w at (e ∷ es) m o t = by (e.variable == x) refl (sum_mo
 pub same_eqb : (a : ℕ) → (a == a) ≡ true
 same_eqb a = grind (arith, nat_tests)
 
-moves_rows : {A V : Type 0} (s : Space A V) → IsSpace s → (all rs : List (Row A)) (x : ℕ) (d : V) (v w : ℕ → V) → Moves s all x d v w → AreDistinct rs → AreTidy s.numbers rs → AreOver (IsNonbasic all) rs
+moves_rows : {A V : Type 0} (s : Space A V) → IsSpace s → (all rs : List (Row A)) (x : ℕ) (d : V) (v w : ℕ → V) → Moves s all x d v w → AreDistinct rs → AreTidy s.numbers rs → AllRowVariables (IsNonbasic all) rs
     → ((b : ℕ) → is_basic b rs ≡ true → w b ≡ s.plus (v b) (s.scale (coefficient_of s.numbers x (row_of b rs).entries) d)) → Solves s v rs → Solves s w rs
 moves_rows s l all [] x d v w m i t o h a = tt
 moves_rows s l all (r ∷ rs) x d v w m i t o h a = (
@@ -178,7 +178,7 @@ bound_within {V = W} s o range v c h = by range.lower range.upper c h
         at false (Some t) c h = or_none _ _ c (o.less_irreflexive t)
 
 -- a step keeps the nonbasic variables within their bounds
-pub exchange_settled : {A V : Type 0} (s : Space A V) → IsOrdered s → (ranges : ℕ → Range V) (t u : State A V) (b x : ℕ) → IsSettled s ranges t → Says s ranges t (exchange b x) → Exchanges s ranges t b x u → IsSettled s ranges u
+pub exchange_settled : {A V : Type 0} (s : Space A V) → IsOrdered s → (ranges : ℕ → Range V) (t u : State A V) (b x : ℕ) → IsNonbasicFeasible s ranges t → RuleSays s ranges t (exchange b x) → Exchanges s ranges t b x u → IsNonbasicFeasible s ranges u
 exchange_settled s o ranges t u b x i says e = record {
   solves = e.solves;
   nonbasic = λ y f. by y (nonbasic_before s b x y t.rows basic (subst (λ rs. IsNonbasic rs y) e.rows f));

@@ -3,13 +3,13 @@ use Rattle.std.proofs.Common.{◌≡◌, ℕ, suc, Bool, true, false, List, [], 
 use Rattle.std.proofs.lemmas.Bool.Decides.{nat_tests}
 use Rattle.spec_tableaux.specs.Spaces.{Space, IsSpace, TellsApart}
 use Rattle.spec_tableaux.specs.Rows.{Entry, sum_of, coefficient_of, Row, AreDistinct, is_basic, row_of, Solves}
-use Rattle.spec_tableaux.specs.SolvedForms.{IsOver, unit_values, IsTidy, extended, AreOver, IsNonbasic, IsSolved}
+use Rattle.spec_tableaux.specs.SolvedForms.{AllVariables, unit_values, IsTidy, extended, AllRowVariables, IsNonbasic, IsSolved}
 use Rattle.spec_tableaux.proofs.Sums.{plus_origin_right}
 use Rattle.spec_tableaux.proofs.Exchanges.{row_of_basic, row_holds}
 use Rattle.spec_tableaux.proofs.SolvedForms.{over_from, tidy_row, over_row}
 use Rattle.spec_tableaux.proofs.Steps.{agreeing_sums}
 
-sum_none : {A V : Type 0} (s : Space A V) → IsSpace s → (x : ℕ) (u : V) (es : List (Entry A)) → IsOver (λ y. (y == x) ≡ false) es → sum_of s (unit_values s x u) es ≡ s.origin
+sum_none : {A V : Type 0} (s : Space A V) → IsSpace s → (x : ℕ) (u : V) (es : List (Entry A)) → AllVariables (λ y. (y == x) ≡ false) es → sum_of s (unit_values s x u) es ≡ s.origin
 sum_none s l x u [] o = refl
 sum_none s l x u (e ∷ es) o =
     (λ i. s.plus (s.scale e.coefficient (cond (o.0 i) u s.origin)) (sum_none s l x u es o.1 i)) ∙ ap (λ z. s.plus z s.origin) (l.scale_origin e.coefficient) ∙ l.plus_origin s.origin
@@ -33,7 +33,7 @@ no_entries s l u tells at (e ∷ es) t h = absurd (
     let z : s.numbers.is_zero e.coefficient ≡ true = ap s.numbers.is_zero naught ∙ l.numbers.zero_is_zero in
     let w = t.1 in cc)
 
-extended_rows : {A V : Type 0} (s : Space A V) (all rs : List (Row A)) (f : ℕ → V) → AreDistinct rs → AreOver (IsNonbasic all) rs
+extended_rows : {A V : Type 0} (s : Space A V) (all rs : List (Row A)) (f : ℕ → V) → AreDistinct rs → AllRowVariables (IsNonbasic all) rs
     → ((b : ℕ) → is_basic b rs ≡ true → extended s all f b ≡ sum_of s f (row_of b rs).entries) → Solves s (extended s all f) rs
 extended_rows s all [] f d o h = tt
 extended_rows s all (r ∷ rs) f d o h = (

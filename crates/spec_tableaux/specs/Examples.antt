@@ -7,7 +7,7 @@ use Rattle.spec_tableaux.specs.Spaces.{as_space, pairs}
 use Rattle.spec_tableaux.specs.Rows.{Entry, Row, sum_of, put, exchanged, with_row}
 use Rattle.spec_tableaux.specs.SolvedForms.{IsNonbasic}
 use Rattle.spec_tableaux.specs.Ranges.{Range, is_crossed, is_within, moves_by}
-use Rattle.spec_tableaux.specs.LeastVariable.{IsLeast, State, is_out, can_move, done, stuck, Says, Exchanges, Makes}
+use Rattle.spec_tableaux.specs.LeastVariable.{IsLeast, State, is_out, can_move, done, stuck, RuleSays, Exchanges, MakesPivots}
 use Rattle.spec_tableaux.specs.Numbers.{fractions}
 
 -- what a proof unfolds to compute with fractions that are written out
@@ -188,11 +188,11 @@ second_step = record { rows = refl; solves = (record { is = refl }, tt); bound =
     others (suc (suc (suc y))) n h = refl
 
 -- the rule says two exchanges from the start, x0 for x2 and x1 for x0
-pub two_exchanges : Makes (as_space fractions) ranges start ((2, 0) ∷ (0, 1) ∷ []) end
+pub two_exchanges : MakesPivots (as_space fractions) ranges start ((2, 0) ∷ (0, 1) ∷ []) end
 two_exchanges = ((nothing_crosses, start_out, start_moves), (middle, first_step, ((nothing_crosses, middle_out, middle_moves), (end, second_step, refl))))
 
 -- at the end it is done
-pub end_is_done : Says (as_space fractions) ranges end done
+pub end_is_done : RuleSays (as_space fractions) ranges end done
 unfolding fractions_on_literals
 end_is_done = (nothing_crosses, others)
   where
@@ -216,7 +216,7 @@ tight_ranges (suc (suc (suc y))) = record { lower = None; upper = None }
 abbrev pub tight : State Fraction Fraction
 tight = record { rows = row 2 (entry 0 one_fraction ∷ entry 1 one_fraction ∷ []) ∷ []; point = point one_fraction zero_fraction one_fraction }
 
-pub tight_is_stuck : Says (as_space fractions) tight_ranges tight (stuck 2)
+pub tight_is_stuck : RuleSays (as_space fractions) tight_ranges tight (stuck 2)
 unfolding fractions_on_literals
 tight_is_stuck = (crossings, record { holds = refl; least = least }, stopped)
   where

@@ -1,7 +1,7 @@
 -- The least-variable rule, which says how to look for a point.
 -- Source: Bland, New finite pivoting rules for the simplex method, 1977; Dutertre and de Moura, CAV 2006.
 use Rattle.std.specs.Prelude.{◌≡◌, ℕ, ◌<◌, Bool, true, false, not, ◌&&◌, List, [], ◌∷◌, cond, ◌==◌}
-use Rattle.spec_tableaux.specs.Spaces.{Space, minus}
+use Rattle.spec_tableaux.specs.Spaces.{Space, space_difference}
 use Rattle.spec_tableaux.specs.Rows.{Row, Solves, coefficient_of, row_of, is_basic, exchanged}
 use Rattle.spec_tableaux.specs.SolvedForms.{IsNonbasic}
 use Rattle.spec_tableaux.specs.Ranges.{Range, below, is_crossed, is_within, moves_by, bound_or, settled_value}
@@ -36,7 +36,7 @@ can_move s ranges t b x = moves_by s (ranges x) (t.point x) (goes_up s ranges t 
 -- how far x has to move so that b, by its row, comes to the bound that it violates
 abbrev pub distance : {A V : Type 0} → Space A V → (ℕ → Range V) → State A V → ℕ → ℕ → V
 distance s ranges t b x =
-    s.scale (s.numbers.inverse (coefficient_of s.numbers x (row_of b t.rows).entries)) (minus s (goal_of s (ranges b) (goes_up s ranges t b)) (t.point b))
+    s.scale (s.numbers.inverse (coefficient_of s.numbers x (row_of b t.rows).entries)) (space_difference s (goal_of s (ranges b) (goes_up s ranges t b)) (t.point b))
 
 -- What the rule says at a state.
 pub data Move : Type 0 where
@@ -51,12 +51,12 @@ pub data Move : Type 0 where
 
 -- the rule says this move: the least variable whose bounds cross; else the least basic one that violates a bound, and of those
 -- that can move in its row the least
-abbrev pub Says : {A V : Type 0} → Space A V → (ℕ → Range V) → State A V → Move → Type 0
-Says s ranges t done = ((y : ℕ) → is_crossed s ranges y ≡ false) × ((y : ℕ) → is_out s ranges t y ≡ false)
-Says s ranges t (crossed y) = IsLeast (is_crossed s ranges) y
-Says s ranges t (stuck b) =
+abbrev pub RuleSays : {A V : Type 0} → Space A V → (ℕ → Range V) → State A V → Move → Type 0
+RuleSays s ranges t done = ((y : ℕ) → is_crossed s ranges y ≡ false) × ((y : ℕ) → is_out s ranges t y ≡ false)
+RuleSays s ranges t (crossed y) = IsLeast (is_crossed s ranges) y
+RuleSays s ranges t (stuck b) =
     ((y : ℕ) → is_crossed s ranges y ≡ false) × IsLeast (is_out s ranges t) b × ((x : ℕ) → can_move s ranges t b x ≡ false)
-Says s ranges t (exchange b x) =
+RuleSays s ranges t (exchange b x) =
     ((y : ℕ) → is_crossed s ranges y ≡ false) × IsLeast (is_out s ranges t) b × IsLeast (can_move s ranges t b) x
 
 -- The step of an exchange: its point solves the exchanged rows, b is at the bound that it violated, and nonbasic variables
@@ -68,10 +68,10 @@ pub record Exchanges {A V : Type 0} (s : Space A V) (ranges : ℕ → Range V) (
   pub others : (y : ℕ) → IsNonbasic t.rows y → (y == x) ≡ false → u.point y ≡ t.point y
 
 -- the exchanges es, each a leaving and an entering variable, are what the rule says one after the other from t on, and lead to u
-abbrev pub Makes : {A V : Type 0} → Space A V → (ℕ → Range V) → State A V → List (ℕ × ℕ) → State A V → Type 0
-Makes s ranges t [] u = t ≡ u
-Makes s ranges t (e ∷ es) u =
-    Says s ranges t (exchange e.0 e.1) × ((m : State _ _) × Exchanges s ranges t e.0 e.1 m × Makes s ranges m es u)
+abbrev pub MakesPivots : {A V : Type 0} → Space A V → (ℕ → Range V) → State A V → List (ℕ × ℕ) → State A V → Type 0
+MakesPivots s ranges t [] u = t ≡ u
+MakesPivots s ranges t (e ∷ es) u =
+    RuleSays s ranges t (exchange e.0 e.1) × ((m : State _ _) × Exchanges s ranges t e.0 e.1 m × MakesPivots s ranges m es u)
 
 -- The step before all exchanges: each nonbasic variable that violates a bound goes to it.
 pub record Settles {A V : Type 0} (s : Space A V) (ranges : ℕ → Range V) (t u : State A V) : Type 0 where
@@ -80,7 +80,7 @@ pub record Settles {A V : Type 0} (s : Space A V) (ranges : ℕ → Range V) (t 
   pub nonbasic : (y : ℕ) → IsNonbasic t.rows y → u.point y ≡ settled_value s (ranges y) (t.point y)
 
 -- The point of a state solves its rows, and nonbasic variables keep their bounds.
-pub record IsSettled {A V : Type 0} (s : Space A V) (ranges : ℕ → Range V) (t : State A V) : Type 0 where
+pub record IsNonbasicFeasible {A V : Type 0} (s : Space A V) (ranges : ℕ → Range V) (t : State A V) : Type 0 where
   pub solves : Solves s t.point t.rows
   pub nonbasic : (y : ℕ) → IsNonbasic t.rows y → is_within s ranges t.point y ≡ true
 

@@ -10,9 +10,9 @@ IsTidy f from [] = Unit {0}
 IsTidy f from (e ∷ es) = (from ≤ e.variable) × (f.is_zero e.coefficient ≡ false) × IsTidy f (suc e.variable) es
 
 -- p holds of the variable of each entry
-abbrev pub IsOver : {A : Type 0} → (ℕ → Type 0) → List (Entry A) → Type 0
-IsOver p [] = Unit {0}
-IsOver p (e ∷ es) = p e.variable × IsOver p es
+abbrev pub AllVariables : {A : Type 0} → (ℕ → Type 0) → List (Entry A) → Type 0
+AllVariables p [] = Unit {0}
+AllVariables p (e ∷ es) = p e.variable × AllVariables p es
 
 -- the entries of each row are tidy
 abbrev pub AreTidy : {A : Type 0} → Field A → List (Row A) → Type 0
@@ -20,9 +20,9 @@ AreTidy f [] = Unit {0}
 AreTidy f (r ∷ rs) = IsTidy f 0 r.entries × AreTidy f rs
 
 -- p holds of the variable of each entry of each row
-abbrev pub AreOver : {A : Type 0} → (ℕ → Type 0) → List (Row A) → Type 0
-AreOver p [] = Unit {0}
-AreOver p (r ∷ rs) = IsOver p r.entries × AreOver p rs
+abbrev pub AllRowVariables : {A : Type 0} → (ℕ → Type 0) → List (Row A) → Type 0
+AllRowVariables p [] = Unit {0}
+AllRowVariables p (r ∷ rs) = AllVariables p r.entries × AllRowVariables p rs
 
 -- y is nonbasic: no row has it as its basic variable
 abbrev pub IsNonbasic : {A : Type 0} → List (Row A) → ℕ → Type 0
@@ -32,7 +32,7 @@ IsNonbasic rs y = is_basic y rs ≡ false
 pub record IsSolved {A : Type 0} (f : Field A) (rs : List (Row A)) : Type 0 where
   pub distinct : AreDistinct rs
   pub tidy : AreTidy f rs
-  pub nonbasic : AreOver (IsNonbasic rs) rs
+  pub nonbasic : AllRowVariables (IsNonbasic rs) rs
 
 -- The basic variable b and the nonbasic variable x can be exchanged: the row of b has an entry of x.
 pub record IsPivot {A : Type 0} (f : Field A) (rs : List (Row A)) (b x : ℕ) : Type 0 where

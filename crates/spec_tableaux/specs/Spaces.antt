@@ -33,9 +33,9 @@ pub record IsOrdered {A V : Type 0} (s : Space A V) : Type 0 where
   pub less_scale : (k : A) (x y : V) → s.numbers.is_zero k ≡ false
       → s.less (s.scale k x) (s.scale k y) ≡ cond (is_positive s.numbers k) (s.less x y) (s.less y x)
 
--- x minus y
-abbrev pub minus : {A V : Type 0} → Space A V → V → V → V
-minus s x y = s.plus x (s.scale (s.numbers.opposite s.numbers.one) y)
+-- x space_difference y
+abbrev pub space_difference : {A V : Type 0} → Space A V → V → V → V
+space_difference s x y = s.plus x (s.scale (s.numbers.opposite s.numbers.one) y)
 
 -- A value that tells numbers apart: its multiples by different numbers differ.
 pub record TellsApart {A V : Type 0} (s : Space A V) (u : V) : Type 0 where

@@ -3,13 +3,13 @@
 
 ghost use Rattle.std.specs.Prelude.{◌≡◌, ◌↔◌, ℕ, ◌<◌, ◌^◌, ◌==◌, true, false, List, length};
 ghost use Rattle.spec_tableaux.specs.Fields.{Field, IsOrderedField};
-ghost use Rattle.spec_tableaux.specs.Spaces.{Space, Pair, IsSpace, IsOrdered, TellsApart, minus, as_space, pairs};
+ghost use Rattle.spec_tableaux.specs.Spaces.{Space, Pair, IsSpace, IsOrdered, TellsApart, space_difference, as_space, pairs};
 ghost use Rattle.spec_tableaux.specs.Rows.{Entry, Row, sum_of, coefficient_of, row_of, is_basic, exchanged};
 ghost use Rattle.spec_tableaux.specs.Rows.{with_row, Holds, Solves};
-ghost use Rattle.spec_tableaux.specs.SolvedForms.{IsOver, AreOver, IsNonbasic, IsSolved, IsPivot, extended};
+ghost use Rattle.spec_tableaux.specs.SolvedForms.{AllVariables, AllRowVariables, IsNonbasic, IsSolved, IsPivot, extended};
 ghost use Rattle.spec_tableaux.specs.Ranges.{Range, AreStopped, Meets, is_crossed, settled_value};
 ghost use Rattle.spec_tableaux.specs.LeastVariable.{State, done, crossed, stuck, exchange, goes_up, distance, moved};
-ghost use Rattle.spec_tableaux.specs.LeastVariable.{Says, Exchanges, Makes, Moves, Settles, IsSettled, AreUnder};
+ghost use Rattle.spec_tableaux.specs.LeastVariable.{RuleSays, Exchanges, MakesPivots, Moves, Settles, IsNonbasicFeasible, AreUnder};
 ghost use Rattle.spec_tableaux.specs.Numbers.{numbers};
 
 /// States that an ordered field is an ordered space over itself, and that such a field can compare its numbers.
@@ -44,7 +44,7 @@ pub fn rows_are_added<A, V>()
     ensures solutions { (s : Space A V) → IsSpace s → (rs : List (Row A)) (b : ℕ) (es : List (Entry A)) (v : ℕ → V)
         → Solves s v (with_row s.numbers rs b es) ↔ (Solves s v rs × (v b ≡ sum_of s v es)) }
     ensures solved { (s : Space A V) (rs : List (Row A)) (b : ℕ) (es : List (Entry A)) → IsSolved s.numbers rs
-        → IsNonbasic rs b → AreOver (λ y. (y == b) ≡ false) rs → IsOver (λ y. (y == b) ≡ false) es
+        → IsNonbasic rs b → AllRowVariables (λ y. (y == b) ≡ false) rs → AllVariables (λ y. (y == b) ≡ false) es
         → IsSolved s.numbers (with_row s.numbers rs b es) }
 {}
 
@@ -73,12 +73,12 @@ pub fn solved_forms_are_unique<A, V>()
 /// States that where the rule is done its point keeps each bound, and that where it is stuck, or bounds cross, none
 /// does.
 pub fn the_rule_answers_rightly<A, V>()
-    ensures done { (s : Space A V) (ranges : ℕ → Range V) (t : State A V) → IsSettled s ranges t → Says s ranges t done
+    ensures done { (s : Space A V) (ranges : ℕ → Range V) (t : State A V) → IsNonbasicFeasible s ranges t → RuleSays s ranges t done
         → Meets s t.rows ranges t.point }
     ensures crossed { (s : Space A V) → IsOrdered s → (ranges : ℕ → Range V) (t : State A V) (y : ℕ)
-        → Says s ranges t (crossed y) → (p : ℕ → V) → Meets s t.rows ranges p → ⊥ }
+        → RuleSays s ranges t (crossed y) → (p : ℕ → V) → Meets s t.rows ranges p → ⊥ }
     ensures stuck { (s : Space A V) → IsSpace s → IsOrdered s → (ranges : ℕ → Range V) (t : State A V) (b : ℕ)
-        → IsSolved s.numbers t.rows → Solves s t.point t.rows → Says s ranges t (stuck b)
+        → IsSolved s.numbers t.rows → Solves s t.point t.rows → RuleSays s ranges t (stuck b)
         → (p : ℕ → V) → Meets s t.rows ranges p → ⊥ }
 {}
 
@@ -87,11 +87,11 @@ pub fn the_rule_answers_rightly<A, V>()
 /// come to one sum, which does not depend on p. Source: Farkas 1902; Dutertre and de Moura, CAV 2006.
 pub fn stuck_rows_explain_themselves<A, V>()
     ensures stopped { (s : Space A V) → IsSpace s → IsOrdered s → (ranges : ℕ → Range V) (t : State A V) (b : ℕ)
-        → IsSolved s.numbers t.rows → IsSettled s ranges t → Says s ranges t (stuck b)
+        → IsSolved s.numbers t.rows → IsNonbasicFeasible s ranges t → RuleSays s ranges t (stuck b)
         → AreStopped s ranges t.point (goes_up s ranges t b) (row_of b t.rows).entries }
     ensures sum { (s : Space A V) → IsSpace s → (r : Row A) (bound : V) (p v : ℕ → V) → Holds s p r → Holds s v r
-        → s.plus (minus s bound (p r.basic)) (sum_of s (λ y. minus s (p y) (v y)) r.entries)
-        ≡ minus s bound (v r.basic) }
+        → s.plus (space_difference s bound (p r.basic)) (sum_of s (λ y. space_difference s (p y) (v y)) r.entries)
+        ≡ space_difference s bound (v r.basic) }
 {}
 
 /// States that there is a point at which nonbasic variables that violated a bound are at it, and that all of them keep
@@ -101,7 +101,7 @@ pub fn points_are_settled<A, V>()
         → Settles s ranges t
         (record { rows = t.rows; point = extended s t.rows (λ y. settled_value s (ranges y) (t.point y)) }) }
     ensures settled { (s : Space A V) → IsOrdered s → (ranges : ℕ → Range V) (t u : State A V)
-        → ((y : ℕ) → is_crossed s ranges y ≡ false) → Settles s ranges t u → IsSettled s ranges u }
+        → ((y : ℕ) → is_crossed s ranges y ≡ false) → Settles s ranges t u → IsNonbasicFeasible s ranges u }
 {}
 
 /// States that a nonbasic variable can move by each distance, and that rows keep a point as solution that moves so.
@@ -116,7 +116,7 @@ pub fn points_move<A, V>()
 /// within their bounds.
 pub fn exchanges_are_made<A, V>()
     ensures pivot { (s : Space A V) → IsSpace s → (ranges : ℕ → Range V) (t : State A V) (b x : ℕ)
-        → IsSolved s.numbers t.rows → Says s ranges t (exchange b x) → IsPivot s.numbers t.rows b x }
+        → IsSolved s.numbers t.rows → RuleSays s ranges t (exchange b x) → IsPivot s.numbers t.rows b x }
     ensures made { (s : Space A V) → IsSpace s → (ranges : ℕ → Range V) (t : State A V) (b x : ℕ) (w : ℕ → V)
         → IsSolved s.numbers t.rows → Solves s t.point t.rows → IsPivot s.numbers t.rows b x
         → Moves s t.rows x (distance s ranges t b x) t.point w
@@ -125,12 +125,12 @@ pub fn exchanges_are_made<A, V>()
         → IsSolved s.numbers t.rows → IsPivot s.numbers t.rows b x → Exchanges s ranges t b x u
         → Exchanges s ranges t b x w → (y : ℕ) → u.point y ≡ w.point y }
     ensures settled { (s : Space A V) → IsOrdered s → (ranges : ℕ → Range V) (t u : State A V) (b x : ℕ)
-        → IsSettled s ranges t → Says s ranges t (exchange b x) → Exchanges s ranges t b x u → IsSettled s ranges u }
+        → IsNonbasicFeasible s ranges t → RuleSays s ranges t (exchange b x) → Exchanges s ranges t b x u → IsNonbasicFeasible s ranges u }
 {}
 
 /// States that the least-variable rule ends: over n variables it makes fewer than 3^n exchanges. Source: Bland 1977.
 pub fn the_rule_ends<A, V>()
     ensures { (s : Space A V) → IsSpace s → IsOrdered s → (ranges : ℕ → Range V) (n : ℕ) (t u : State A V)
-        → (es : List (ℕ × ℕ)) → IsSolved s.numbers t.rows → IsSettled s ranges t → Makes s ranges t es u
+        → (es : List (ℕ × ℕ)) → IsSolved s.numbers t.rows → IsNonbasicFeasible s ranges t → MakesPivots s ranges t es u
         → AreUnder n es → length es < 3 ^ n }
 {}

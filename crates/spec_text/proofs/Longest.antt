@@ -8,11 +8,11 @@ use Rattle.spec_text.specs.declared.Kind.TheVariants.{Numeral, Decimal, Text, Si
 use Rattle.spec_text.specs.Bytes.{is_blank, is_in_comment, is_digit, is_symbol_byte, is_in_bars, front, among, reserved_words}
 use Rattle.spec_text.specs.Lexemes as lexicon
 use Rattle.spec_text.specs.Lexemes.{Lexeme, blank, opens, closes, word, wrong, Piece, piece, string_body, after_quote, first_piece}
-use Rattle.spec_text.specs.Lexicon.{Consists, IsNumeral, only_zero, digits, IsInside, empty, byte, pair, Spells, white_space, comment, open_parenthesis, close_parenthesis, numeral, decimal, string, simple_symbol, reserved_word, quoted_symbol, keyword, BeginsWithout, CanFollow, Begins, IsFirst}
+use Rattle.spec_text.specs.Lexicon.{Consists, IsNumeral, only_zero, digits, IsInside, empty, byte, pair, Spells, white_space, comment, open_parenthesis, close_parenthesis, numeral, decimal, string, simple_symbol, reserved_word, quoted_symbol, keyword, BeginsWithout, CanFollow, StartsWith, IsFirst}
 use Rattle.spec_text.proofs.Tests.{front_is_run, front_then_rest}
 use Rattle.spec_text.proofs.Spelling.{piece_of, Reaches, reach}
 
-begins_with : (bytes xs rest : List ℕ) (n : ℕ) (x : Lexeme) → bytes ≡ xs ++ rest → n ≡ length xs → Spells xs x → CanFollow x rest → Begins bytes n x
+begins_with : (bytes xs rest : List ℕ) (n : ℕ) (x : Lexeme) → bytes ≡ xs ++ rest → n ≡ length xs → Spells xs x → CanFollow x rest → StartsWith bytes n x
 begins_with bytes xs rest n x e l spelled behind = record {
   within = omega (arith, ap length e, length-append xs rest);
   spelled = subst (λ (ys : List ℕ). Spells ys x) (sym (ap (take n) e ∙ take_at xs rest n (sym l))) spelled;
@@ -22,10 +22,10 @@ begins_with bytes xs rest n x e l spelled behind = record {
 -- it is a fault, or so many bytes begin with it
 abbrev HasPrefix : List ℕ → Lexeme → ℕ → Type 0
 HasPrefix bytes (wrong f) n = Unit {0}
-HasPrefix bytes blank n = Begins bytes n blank
-HasPrefix bytes opens n = Begins bytes n opens
-HasPrefix bytes closes n = Begins bytes n closes
-HasPrefix bytes (word k name) n = Begins bytes n (word k name)
+HasPrefix bytes blank n = StartsWith bytes n blank
+HasPrefix bytes opens n = StartsWith bytes n opens
+HasPrefix bytes closes n = StartsWith bytes n closes
+HasPrefix bytes (word k name) n = StartsWith bytes n (word k name)
 
 abbrev IsPrefix : List ℕ → Piece → Type 0
 IsPrefix bytes p = HasPrefix bytes p.lexeme p.size
@@ -132,7 +132,7 @@ is_front b bs =
     at c t p h = let same : c ≡ b = grind (arith, nat_tests) in subst (λ (d : ℕ). IsPrefix (d ∷ bs) p) same h
 
 -- no longer prefix is a lexeme
-no_longer : (b : ℕ) (bs : List ℕ) (m : ℕ) (y : Lexeme) → Begins (b ∷ bs) m y → Reaches (first_piece b bs).lexeme (first_piece b bs).size m
+no_longer : (b : ℕ) (bs : List ℕ) (m : ℕ) (y : Lexeme) → StartsWith (b ∷ bs) m y → Reaches (first_piece b bs).lexeme (first_piece b bs).size m
 no_longer b bs m y h =
     let whole : take m (b ∷ bs) ++ drop m (b ∷ bs) ≡ b ∷ bs = take-append-drop m (b ∷ bs) in
     let size : length (take m (b ∷ bs)) ≡ m = length-take-le m (b ∷ bs) h.within in
@@ -141,7 +141,7 @@ no_longer b bs m y h =
 pub first_is_longest : (b : ℕ) (bs : List ℕ) → IsFirst (b ∷ bs) (first_piece b bs).lexeme (first_piece b bs).size
 first_is_longest b bs = go (first_piece b bs).lexeme (first_piece b bs).size (is_front b bs) (no_longer b bs)
   where
-    go : (x : Lexeme) (n : ℕ) → HasPrefix (b ∷ bs) x n → ((m : ℕ) (y : Lexeme) → Begins (b ∷ bs) m y → Reaches x n m) → IsFirst (b ∷ bs) x n
+    go : (x : Lexeme) (n : ℕ) → HasPrefix (b ∷ bs) x n → ((m : ℕ) (y : Lexeme) → StartsWith (b ∷ bs) m y → Reaches x n m) → IsFirst (b ∷ bs) x n
     go (wrong f) n front longest = longest
     go blank n front longest = record { begins = front; longest = longest }
     go opens n front longest = record { begins = front; longest = longest }

@@ -5,7 +5,7 @@ use Rattle.std.proofs.Math.Nat.{le-max_left, le-max_right}
 use Rattle.spec_text.specs.Lexemes.{Lexeme}
 use Rattle.spec_text.specs.Trees.{Tree, Trees, atom, list, none, more, spelled, spelled_all}
 use Rattle.spec_text.specs.Faults.{Located, nesting_limit, first_fault}
-use Rattle.spec_text.specs.Readings.{depth, depth_all, Stops, StopsAt, kept, limited, is_long, IsReadUpTo}
+use Rattle.spec_text.specs.Readings.{depth, depth_all, EndsTrees, StopsAt, kept, limited, is_long, IsReadUpTo}
 use Rattle.spec_text.proofs.Reading.{same_first}
 
 -- what comes does not begin with a tree that n open lists allow
@@ -36,12 +36,12 @@ nothing_begins_no_tree n (atom at k bytes) ys e = cc
 nothing_begins_no_tree n (list at ts end) ys e = cc
 
 -- what stops a reading begins with no tree
-stop_begins_no_tree : (end : ℕ) (rest : List (ℕ × Lexeme)) (stop : Option Located) → Stops end rest stop → BeginsNoTree 0 rest
+stop_begins_no_tree : (end : ℕ) (rest : List (ℕ × Lexeme)) (stop : Option Located) → EndsTrees end rest stop → BeginsNoTree 0 rest
 stop_begins_no_tree end rest None e = subst (BeginsNoTree 0) (sym e) (nothing_begins_no_tree 0)
 stop_begins_no_tree end rest (Some f) b = b.no_tree
 
 -- what stops it is one
-one_stop : (end : ℕ) (rest : List (ℕ × Lexeme)) (f g : Option Located) → Stops end rest f → Stops end rest g → f ≡ g
+one_stop : (end : ℕ) (rest : List (ℕ × Lexeme)) (f g : Option Located) → EndsTrees end rest f → EndsTrees end rest g → f ≡ g
 unfolding first_fault
 one_stop end rest None None a b = refl
 one_stop end rest (Some f) (Some g) a b = sym a.fault ∙ b.fault
@@ -53,11 +53,11 @@ pub one_end : (text : List ℕ) (ts us : Trees) (f g : Option Located) → IsRea
 one_end text ts us f g a b =
     let end = length (kept text) in
     let row = one_row 0 ts us a.rest b.rest a.trees.within b.trees.within (stop_begins_no_tree end a.rest a.stop a.stops) (stop_begins_no_tree end b.rest b.stop b.stops) (sym a.trees.split ∙ b.trees.split) in
-    let stop = one_stop end b.rest a.stop b.stop (subst (λ r. Stops end r a.stop) row.1 a.stops) b.stops in
+    let stop = one_stop end b.rest a.stop b.stop (subst (λ r. EndsTrees end r a.stop) row.1 a.stops) b.stops in
     (row.0, a.is ∙ ap (limited (is_long text)) stop ∙ sym b.is)
 
 -- what stops trees that stand in no list ends the text
-pub stop_of : (end : ℕ) (rest : List (ℕ × Lexeme)) → StopsAt end 0 rest → (stop : Option Located) × Stops end rest stop
+pub stop_of : (end : ℕ) (rest : List (ℕ × Lexeme)) → StopsAt end 0 rest → (stop : Option Located) × EndsTrees end rest stop
 stop_of end rest (inl x) = (None, x.1)
 stop_of end rest (inr (inl x)) = absurd (x.0 refl)
 stop_of end rest (inr (inr x)) = (Some x.0, x.1)

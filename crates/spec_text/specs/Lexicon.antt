@@ -47,19 +47,19 @@ CanFollow (word Text name) rest = BeginsWithout (λ b. b == 34) rest
 CanFollow x rest = Unit {0}
 
 -- the first n bytes are this lexeme
-pub record Begins (bytes : List ℕ) (n : ℕ) (x : Lexeme) : Type 0 where
+pub record StartsWith (bytes : List ℕ) (n : ℕ) (x : Lexeme) : Type 0 where
   pub within : n ≤ length bytes
   pub spelled : Spells (take n bytes) x
   pub after : CanFollow x (drop n bytes)
 
 -- the first n bytes are this lexeme, and no longer prefix is any
 pub record IsLongest (bytes : List ℕ) (n : ℕ) (x : Lexeme) : Type 0 where
-  pub begins : Begins bytes n x
-  pub longest : (m : ℕ) (y : Lexeme) → Begins bytes m y → m ≤ n
+  pub begins : StartsWith bytes n x
+  pub longest : (m : ℕ) (y : Lexeme) → StartsWith bytes m y → m ≤ n
 
 -- the first lexeme is the longest that the bytes begin with, and where it is a fault they begin with none
 abbrev pub IsFirst : List ℕ → Lexeme → ℕ → Type 0
-IsFirst bytes (wrong f) n = (m : ℕ) (y : Lexeme) → Begins bytes m y → ⊥
+IsFirst bytes (wrong f) n = (m : ℕ) (y : Lexeme) → StartsWith bytes m y → ⊥
 IsFirst bytes blank n = IsLongest bytes n blank
 IsFirst bytes opens n = IsLongest bytes n opens
 IsFirst bytes closes n = IsLongest bytes n closes

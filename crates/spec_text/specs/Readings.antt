@@ -42,9 +42,9 @@ StopsAt end n rest =
     ⊎ ((f : Located) × IsBroken end n rest f))
 
 -- no lexemes are left, or the rest is broken
-abbrev pub Stops : ℕ → List (ℕ × Lexeme) → Option Located → Type 0
-Stops end rest None = rest ≡ []
-Stops end rest (Some f) = IsBroken end 0 rest f
+abbrev pub EndsTrees : ℕ → List (ℕ × Lexeme) → Option Located → Type 0
+EndsTrees end rest None = rest ≡ []
+EndsTrees end rest (Some f) = IsBroken end 0 rest f
 
 -- how many bytes of a text are read
 abbrev pub text_limit : ℕ
@@ -91,6 +91,6 @@ pub record IsReadUpTo (text : List ℕ) (ts : Trees) (found : Option Located) : 
   -- what stops the reading of the bytes that are kept
   pub stop : Option Located
   -- it comes after the trees
-  pub stops : Stops (length (kept text)) rest stop
+  pub stops : EndsTrees (length (kept text)) rest stop
   -- it is that of the whole text
   pub is : found ≡ limited (is_long text) stop

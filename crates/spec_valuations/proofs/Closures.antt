@@ -4,7 +4,7 @@ use Rattle.spec_text.proofs.Members.{first, later}
 use Rattle.spec_sorts.specs.Terms.{Truth, Apply, Not, Equal, Symbol, Term, Terms, app, nil, cons, list_of, sort_of, negated}
 use Rattle.spec_sorts.specs.Literals.{Literal, literal_of}
 use Rattle.spec_equality.specs.Reasons.{equal}
-use Rattle.spec_congruence.specs.Congruence.{truth_term, signed, IsCongruent, AreCongruent, IsFine, equated, decided, joined, by_arguments, none, more}
+use Rattle.spec_congruence.specs.Congruence.{truth_term, signed_literal, IsCongruent, AreCongruent, IsFine, equated, decided, joined, by_arguments, none, more}
 use Rattle.spec_derivations.proofs.Formulas.{each_truth}
 use Rattle.spec_valuations.specs.Tables.{AreListed}
 use Rattle.spec_valuations.specs.Classes.{AreClasses}
@@ -22,7 +22,7 @@ tail_in (x ∷ xs) = xs
 -- What is held of listed terms of sort Bool. A literal's term is no negation: equalities that are always held do for these.
 pub record AreHeld (terms : List Term) (held : List Literal) (truths : Term → Bool) : Type 0 where
   -- each that is no negation is held with its truth
-  pub atoms : (t : Term) → Contains terms t → sort_of t ≡ Truth → literal_of t ≡ signed t true → Contains held (signed t (truths t))
+  pub atoms : (t : Term) → Contains terms t → sort_of t ≡ Truth → literal_of t ≡ signed_literal t true → Contains held (signed_literal t (truths t))
   -- a negation has the other truth
   pub negations : (p : Term) → truths (negated p) ≡ not (truths p)
   -- the truth values are listed
@@ -30,7 +30,7 @@ pub record AreHeld (terms : List Term) (held : List Literal) (truths : Term → 
   -- and their negations
   pub others : (b : Bool) → Contains terms (negated (truth_term b))
   -- these are held to be truth values
-  pub facts : (b : Bool) → Contains held (signed (equal (negated (truth_term b)) (truth_term (not b))) true)
+  pub facts : (b : Bool) → Contains held (signed_literal (equal (negated (truth_term b)) (truth_term (not b))) true)
 
 module _ (symbols : List Symbol) (terms : List Term) (held : List Literal) (truths : Term → Bool) (class : Term → ℕ) (listed : AreListed symbols terms) where
   -- the classes tell which listed terms are congruent
@@ -59,12 +59,12 @@ module _ (symbols : List Symbol) (terms : List Term) (held : List Literal) (trut
         (by_arguments Not (cons p nil) (cons (truth_term b) nil) c (are.others b) (more p (truth_term b) nil nil inner none))
         (subst (λ x. IsCongruent terms held (negated (truth_term b)) (truth_term x)) (sym (are.negations p))
         (equated (negated (truth_term b)) (truth_term (not b)) (are.facts b)))
-    truth_told t c e = decided (signed t (truths t)) (are.atoms t c e refl)
+    truth_told t c e = decided (signed_literal t (truths t)) (are.atoms t c e refl)
 
     -- an equality is held with its truth
-    told : (s t : Term) → Contains terms (equal s t) → (b : Bool) → truths (equal s t) ≡ b → Contains held (signed (equal s t) b)
+    told : (s t : Term) → Contains terms (equal s t) → (b : Bool) → truths (equal s t) ≡ b → Contains held (signed_literal (equal s t) b)
     unfolding sort_of literal_of
-    told s t c b e = subst (λ (x : Bool). Contains held (signed (equal s t) x)) e (are.atoms (equal s t) c refl refl)
+    told s t c b e = subst (λ (x : Bool). Contains held (signed_literal (equal s t) x)) e (are.atoms (equal s t) c refl refl)
 
     sure : (b : Bool) (s t : Term) → truths (equal s t) ≡ b → Contains terms (equal s t) → IsCongruent terms held s t → truths (equal s t) ≡ true
     sure true s t e c k = e

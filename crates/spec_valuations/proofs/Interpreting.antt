@@ -5,7 +5,7 @@ use Rattle.std.proofs.lemmas.List.Elements.{Contains-get_or}
 use Rattle.spec_text.proofs.Members.{first, later}
 use Rattle.spec_numbers.proofs.Field.{zero-reduced}
 use Rattle.spec_sorts.specs.Terms.{Sort, Truth, Number, Declared, same_sort, same_sorts, Symbol, Apply, Term, Terms, app, nil, cons, list_of, sort_of, sorts_of}
-use Rattle.spec_sorts.specs.Values.{Value, Row, first_fit, same_values, Interpretation, Interprets, IsRowOf, IsTableOf, HasSort, HaveSorts}
+use Rattle.spec_sorts.specs.Values.{Value, TableRow, first_fit, same_values, Interpretation, Interprets, IsRowOf, IsTableOf, HasSort, HaveSorts}
 use Rattle.spec_sorts.proofs.WellSorted.{same_sort_is}
 use Rattle.spec_valuations.specs.Tables.{Valuation, values_by, default_value, rows_of, table_by, IsModelBy, AreListed, IsValuation}
 use Rattle.spec_valuations.proofs.Meeting.{row_from}
@@ -17,7 +17,7 @@ default_sort Number = zero-reduced
 default_sort (Declared n) = refl
 
 -- where each row's value has the sort, what is looked up has it
-first_sort : (s : Sort) (rows : List Row) (d : Value) (vs : List Value) → ((r : Row) → Contains rows r → HasSort s r.value) → HasSort s d → HasSort s (first_fit rows d vs)
+first_sort : (s : Sort) (rows : List TableRow) (d : Value) (vs : List Value) → ((r : TableRow) → Contains rows r → HasSort s r.value) → HasSort s d → HasSort s (first_fit rows d vs)
 first_sort s [] d vs all e = e
 first_sort s (r ∷ rs) d vs all e = go (same_values r.arguments vs) (first_sort s rs d vs (λ q c. all q (later r rs q c)) e)
   where
@@ -38,7 +38,7 @@ module _ (v : Valuation) (symbols : List Symbol) (terms : List Term) (listed : A
       )
 
   -- a row has the symbol's sorts
-  row_fits : (s : Symbol) (r : Row) → Contains (rows_of v s terms) r → IsRowOf s r
+  row_fits : (s : Symbol) (r : TableRow) → Contains (rows_of v s terms) r → IsRowOf s r
   unfolding sort_of
   row_fits s r c =
       let h = row_from v s terms r c in

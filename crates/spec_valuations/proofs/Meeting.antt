@@ -5,42 +5,42 @@ use Rattle.std.proofs.lemmas.Bool.{false≢true}
 use Rattle.std.proofs.lemmas.List.Elements.{Contains-append_left, Contains-append_right, Contains-append_cases}
 use Rattle.spec_text.proofs.Members.{first, later, cases, none, only}
 use Rattle.spec_sorts.specs.Terms.{Sort, Symbol, same_symbol, same_sorts, Head, Apply, Parameter, Term, Terms, app, nil, cons, list_of, sorts_of, head_takes}
-use Rattle.spec_sorts.specs.Values.{Value, Row, Table, first_fit, same_values, Interpretation, table_value}
+use Rattle.spec_sorts.specs.Values.{Value, TableRow, Table, first_fit, same_values, Interpretation, table_value}
 use Rattle.spec_sorts.specs.TermValues.{head_value, value_at, values_at}
 use Rattle.spec_sorts.proofs.SameTerms.{one_symbol, symbol_itself}
 use Rattle.spec_valuations.specs.Tables.{Valuation, values_by, default_value, arguments_at, rows_at, rows_of, table_by, IsModelBy, IsFunctional, AreListed, IsValuation}
 use Rattle.spec_valuations.proofs.SameValues.{one_values, values_itself}
 
 -- each row of a list has this value at these arguments, if it is for them
-abbrev Fitting : List Row → List Value → Value → Type 0
-Fitting rows vs x = (r : Row) → Contains rows r → r.arguments ≡ vs → r.value ≡ x
+abbrev Fitting : List TableRow → List Value → Value → Type 0
+Fitting rows vs x = (r : TableRow) → Contains rows r → r.arguments ≡ vs → r.value ≡ x
 
 -- one of the rows is for them
-abbrev HasRow : List Row → List Value → Type 0
-HasRow rows vs = (r : Row) × Contains rows r × (r.arguments ≡ vs)
+abbrev HasRow : List TableRow → List Value → Type 0
+HasRow rows vs = (r : TableRow) × Contains rows r × (r.arguments ≡ vs)
 
 -- the first row for arguments has the value that each row for them has
-fits_first : (rows : List Row) (d : Value) (vs : List Value) (x : Value) → Fitting rows vs x → HasRow rows vs → first_fit rows d vs ≡ x
+fits_first : (rows : List TableRow) (d : Value) (vs : List Value) (x : Value) → Fitting rows vs x → HasRow rows vs → first_fit rows d vs ≡ x
 fits_first [] d vs x all has = absurd (none has.0 has.1)
 fits_first (r ∷ rs) d vs x all has = go (same_values r.arguments vs) refl (fits_first rs d vs x (λ q c. all q (later r rs q c)))
   where
     go : (b : Bool) → same_values r.arguments vs ≡ b → (HasRow rs vs → first_fit rs d vs ≡ x) → cond b r.value (first_fit rs d vs) ≡ x
     go true e more = all r (first r rs) (one_values r.arguments vs e)
     go false e more = more (elim (cases r rs has.0 has.1) [
-      | inl is ↦ absurd (false≢true (sym e ∙ ap (λ ws. same_values ws vs) (ap (λ (q : Row). q.arguments) is ∙ has.2) ∙ values_itself vs))
+      | inl is ↦ absurd (false≢true (sym e ∙ ap (λ ws. same_values ws vs) (ap (λ (q : TableRow). q.arguments) is ∙ has.2) ∙ values_itself vs))
       | inr c ↦ (has.0, c, has.2)
     ])
 
 -- the row of a term with the symbol as head
-abbrev pub row : Valuation → Symbol → Terms → Row
+abbrev pub row : Valuation → Symbol → Terms → TableRow
 row v s us = record { arguments = values_by v us; value = v (app (Apply s) us) }
 
 module _ (v : Valuation) (s : Symbol) where
   -- the row that a term gives is of the term's arguments and its value
-  row_at : (t : Term) (r : Row) → Contains (rows_at v (arguments_at s t) (v t)) r → (us : Terms) × (t ≡ app (Apply s) us) × (r ≡ row v s us)
+  row_at : (t : Term) (r : TableRow) → Contains (rows_at v (arguments_at s t) (v t)) r → (us : Terms) × (t ≡ app (Apply s) us) × (r ≡ row v s us)
   row_at (app (Apply f) ts) r c = go (same_symbol f s) refl c
     where
-      row_with : Symbol → Row
+      row_with : Symbol → TableRow
       row_with g = record { arguments = values_by v ts; value = v (app (Apply g) ts) }
 
       go : (b : Bool) → same_symbol f s ≡ b → Contains (rows_at v (cond b (Some ts) None) (v (app (Apply f) ts))) r → (us : Terms) × (app (Apply f) ts ≡ app (Apply s) us) × (r ≡ row v s us)
@@ -51,7 +51,7 @@ module _ (v : Valuation) (s : Symbol) where
   row_at (app h ts) r c = absurd (none r c)
 
   -- each row is that of a listed term
-  pub row_from : (terms : List Term) (r : Row) → Contains (rows_of v s terms) r → (us : Terms) × Contains terms (app (Apply s) us) × (r ≡ row v s us)
+  pub row_from : (terms : List Term) (r : TableRow) → Contains (rows_of v s terms) r → (us : Terms) × Contains terms (app (Apply s) us) × (r ≡ row v s us)
   row_from [] r c = absurd (none r c)
   row_from (t ∷ ts) r c = go (Contains-append_cases (rows_at v (arguments_at s t) (v t)) (rows_of v s ts) r c) (row_from ts r)
     where
@@ -77,7 +77,7 @@ module _ (v : Valuation) (s : Symbol) where
   -- the first row that fits a listed term's arguments has its value
   pub looked_up : (terms : List Term) (d : Value) (us : Terms) → IsFunctional v terms → Contains terms (app (Apply s) us) → first_fit (rows_of v s terms) d (values_by v us) ≡ v (app (Apply s) us)
   looked_up terms d us functional c = fits_first (rows_of v s terms) d (values_by v us) (v (app (Apply s) us))
-      (λ r i e. let h = row_from terms r i in ap (λ (q : Row). q.value) h.2 ∙ functional s h.0 us h.1 c (sym (ap (λ (q : Row). q.arguments) h.2) ∙ e))
+      (λ r i e. let h = row_from terms r i in ap (λ (q : TableRow). q.value) h.2 ∙ functional s h.0 us h.1 c (sym (ap (λ (q : TableRow). q.arguments) h.2) ∙ e))
       (row v s us, has_row terms us c, refl)
 
 -- arguments that a symbol without parameters takes

@@ -15,7 +15,7 @@ use Rattle.spec_sorts.specs.Theory.{keeps_constant}
 use Rattle.spec_sorts.specs.Literals.{Literal as HeldLiteral, literal_of}
 use Rattle.spec_sorts.proofs.LeastSubterms.{least_of}
 use Rattle.spec_sorts.proofs.WellSorted.{same_sort_is, less_takes, at_most_takes}
-use Rattle.spec_congruence.specs.Congruence.{signed}
+use Rattle.spec_congruence.specs.Congruence.{signed_literal}
 use Rattle.spec_arithmetic.specs.Numbers.{number_at}
 use Rattle.spec_arithmetic.specs.Contradictions.{are_numbers}
 use Rattle.spec_arithmetic.proofs.Differences.{IsBelowZero, less_true}
@@ -110,14 +110,14 @@ module _ (symbols : List Symbol) (p : Problem) (terms : List Term) (held : List 
     pub right_there : Contains terms t
     right_there = at_rest.closed (pair h s t) there t (later s (t ∷ []) t (first t []))
 
-    told : (b : Bool) (relation : Relation) → is_so (pair h s t) ≡ b → sort_of (pair h s t) ≡ Truth → literal_of (pair h s t) ≡ signed (pair h s t) true
+    told : (b : Bool) (relation : Relation) → is_so (pair h s t) ≡ b → sort_of (pair h s t) ≡ Truth → literal_of (pair h s t) ≡ signed_literal (pair h s t) true
         → constraint_by b (pair h s t) ≡ where_true (are_numbers s t) (saying relation (pair h s t) s t) → Compares relation (point s) (point t)
     told b relation so sort plain says =
         let c = saying relation (pair h s t) s t in
         let numbers : are_numbers s t ≡ true = λ j. same_sort (left j) Number && same_sort (right j) Number in
-        let is_held : Contains held (signed (pair h s t) b) =
-        subst (λ (x : Bool). Contains held (signed (pair h s t) x)) so (atoms symbols p terms held a.truths a.class at_rest (pair h s t) there sort plain) in
-        All-contains (HoldsAt a.number) held (signed (pair h s t) b) r.kept is_held c (says ∙ ap (λ x. where_true x c) numbers) (r.linear s left_there) (r.linear t right_there)
+        let is_held : Contains held (signed_literal (pair h s t) b) =
+        subst (λ (x : Bool). Contains held (signed_literal (pair h s t) x)) so (atoms symbols p terms held a.truths a.class at_rest (pair h s t) there sort plain) in
+        All-contains (HoldsAt a.number) held (signed_literal (pair h s t) b) r.kept is_held c (says ∙ ap (λ x. where_true x c) numbers) (r.linear s left_there) (r.linear t right_there)
 
   -- an order that is held negatively: the other side is less
   not_up_to : (s t : Term) → Contains terms (pair AtMost s t) → sort_of s ≡ Number → sort_of t ≡ Number → is_so (pair AtMost s t) ≡ false → less (point t) (point s) ≡ true

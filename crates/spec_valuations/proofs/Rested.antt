@@ -14,7 +14,7 @@ use Rattle.spec_sorts.specs.WellSorted.{IsWellSorted, IsFormulaOver}
 use Rattle.spec_sorts.specs.Subsets.{AreAmong, IsClosed}
 use Rattle.spec_sorts.proofs.General.{sorts_listed}
 use Rattle.spec_sorts.proofs.WellSorted.{other_sort}
-use Rattle.spec_congruence.specs.Congruence.{truth_term, signed, IsCongruent, IsFine}
+use Rattle.spec_congruence.specs.Congruence.{truth_term, signed_literal, IsCongruent, IsFine}
 use Rattle.spec_equality.proofs.Values.{value_itself}
 use Rattle.spec_rules.specs.Truths.{Truths, literal_true, term_true_by}
 use Rattle.spec_derivations.specs.Problems.{Problem, terms_of_problem, known_terms}
@@ -57,7 +57,7 @@ pub record IsAtRest (symbols : List Symbol) (p : Problem) (terms : List Term) (h
   pub asserted : (t : Term) → Contains p.asserted t → list_any (term_true_by v) (t ∷ []) ≡ true
   pub defining : (t : Term) → Contains terms t → (c : Clause) → Contains (defining_clauses t) c → list_any (term_true_by v) c ≡ true
   -- truths and classes are those of what is held
-  pub truths : (t : Term) → Contains terms t → sort_of t ≡ Truth → literal_of t ≡ signed t true → Contains held (signed t (v t))
+  pub truths : (t : Term) → Contains terms t → sort_of t ≡ Truth → literal_of t ≡ signed_literal t true → Contains held (signed_literal t (v t))
   pub fine : IsFine terms held
   pub tells : (t u : Term) → Contains terms t → Contains terms u → (class t ≡ class u) ↔ IsCongruent terms held t u
 
@@ -133,8 +133,8 @@ module _ (symbols : List Symbol) (p : Problem) (terms : List Term) (held : List 
       ∙ (λ i. same_value (truth (other i)) (truth (value_true (not b) i))) ∙ value_itself (truth (not b))
 
   -- what is held of listed terms
-  pub atoms : (t : Term) → Contains terms t → sort_of t ≡ Truth → literal_of t ≡ signed t true → Contains held (signed t (is_so t))
-  atoms t c e plain = subst (λ (b : Bool). Contains held (signed t b)) (sym (ap (literal_true v) plain)) (r.truths t c e plain)
+  pub atoms : (t : Term) → Contains terms t → sort_of t ≡ Truth → literal_of t ≡ signed_literal t true → Contains held (signed_literal t (is_so t))
+  atoms t c e plain = subst (λ (b : Bool). Contains held (signed_literal t b)) (sym (ap (literal_true v) plain)) (r.truths t c e plain)
 
   are_held : AreHeld terms held is_so
   unfolding sort_of literal_of
@@ -143,7 +143,7 @@ module _ (symbols : List Symbol) (p : Problem) (terms : List Term) (held : List 
     negations = negated_true v;
     values = value_listed;
     others = other_listed;
-    facts = λ b. subst (λ (x : Bool). Contains held (signed (truth_fact b) x)) (fact_true b) (atoms (truth_fact b) (fact_listed b) refl refl);
+    facts = λ b. subst (λ (x : Bool). Contains held (signed_literal (truth_fact b) x)) (fact_true b) (atoms (truth_fact b) (fact_listed b) refl refl);
   }
 
   classes : AreClasses is_so class terms

@@ -6,7 +6,7 @@ use Rattle.spec_sorts.specs.Terms.{Truth, Number, Symbol, Term, sort_of}
 use Rattle.spec_sorts.specs.WellSorted.{IsFormulaOver}
 use Rattle.spec_sorts.specs.Subsets.{AreAmong}
 use Rattle.spec_sorts.specs.Literals.{Clause, Literal, literal_of}
-use Rattle.spec_congruence.specs.Congruence.{signed, IsCongruent, IsFine}
+use Rattle.spec_congruence.specs.Congruence.{signed_literal, IsCongruent, IsFine}
 use Rattle.spec_arithmetic.specs.Numbers.{number_at, IsLinear}
 use Rattle.spec_simplex.specs.Numbers.{HoldsAt}
 use Rattle.spec_rules.specs.Truths.{Truths, term_true_by}
@@ -29,7 +29,7 @@ pub record Rests (symbols : List Symbol) (p : Problem) (terms : List Term) (held
   -- one term of each clause is true
   pub met : (c : Clause) → Contains (search_clauses p) c → list_any (term_true_by v) c ≡ true
   -- each term of sort Bool that is no negation is held with its truth
-  pub truths : (t : Term) → Contains terms t → sort_of t ≡ Truth → literal_of t ≡ signed t true → Contains held (signed t (v t))
+  pub truths : (t : Term) → Contains terms t → sort_of t ≡ Truth → literal_of t ≡ signed_literal t true → Contains held (signed_literal t (v t))
   -- what is held joins neither the truth values nor sides that are held apart
   pub fine : IsFine terms held
   -- classes tell which listed terms it makes equal
@@ -61,7 +61,7 @@ pub record RestsWithNumbers (symbols : List Symbol) (p : Problem) (terms : List 
   -- one term of each clause is true
   pub met : (c : Clause) → Contains (whole_clauses p) c → list_any (term_true_by a.truths) c ≡ true
   -- each term of sort Bool that is no negation is held with its truth
-  pub truths : (t : Term) → Contains terms t → sort_of t ≡ Truth → literal_of t ≡ signed t true → Contains held (signed t (a.truths t))
+  pub truths : (t : Term) → Contains terms t → sort_of t ≡ Truth → literal_of t ≡ signed_literal t true → Contains held (signed_literal t (a.truths t))
   -- what is held joins neither the truth values nor sides that are held apart
   pub fine : IsFine terms held
   -- classes tell which listed terms it makes equal

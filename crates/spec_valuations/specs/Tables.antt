@@ -2,7 +2,7 @@
 use Rattle.std.specs.Prelude.{◌≡◌, true, false, List, [], ◌∷◌, ◌++◌, map, Contains, Option, Some, None, if◌then◌else◌}
 use Rattle.spec_numbers.specs.Fractions.{zero_fraction}
 use Rattle.spec_sorts.specs.Terms.{Sort, Truth, Number, Declared, Symbol, same_symbol, Head, Apply, Term, Terms, app, list_of, sort_of, sorts_of, head_takes}
-use Rattle.spec_sorts.specs.Values.{Value, truth, number, element, HasSort, Row, Table, first_fit, Interpretation}
+use Rattle.spec_sorts.specs.Values.{Value, truth, number, element, HasSort, TableRow, Table, first_fit, Interpretation}
 use Rattle.spec_sorts.specs.TermValues.{head_value}
 
 -- which value a term has
@@ -25,12 +25,12 @@ arguments_at s (app (Apply f) ts) = if same_symbol f s then Some ts else None
 arguments_at s (app h ts) = None
 
 -- the row that a term gives
-abbrev pub rows_at : Valuation → Option Terms → Value → List Row
+abbrev pub rows_at : Valuation → Option Terms → Value → List TableRow
 rows_at v None x = []
 rows_at v (Some us) x = record { arguments = values_by v us; value = x } ∷ []
 
 -- a row for each term with the symbol as head, in their order
-abbrev pub rows_of : Valuation → Symbol → List Term → List Row
+abbrev pub rows_of : Valuation → Symbol → List Term → List TableRow
 rows_of v s [] = []
 rows_of v s (t ∷ ts) = rows_at v (arguments_at s t) (v t) ++ rows_of v s ts
 

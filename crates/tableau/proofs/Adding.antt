@@ -5,7 +5,7 @@ use Rattle.std.proofs.lemmas.Bool.Decides.{nat_tests}
 use Rattle.std.proofs.lemmas.List.{length-map, length-append, get_or_past, get_or_push}
 use Rattle.spec_tableaux.specs.Spaces.{as_space}
 use Rattle.spec_tableaux.specs.Rows.{Entry, Row, coefficient_of, is_basic, flattened, with_row}
-use Rattle.spec_tableaux.specs.SolvedForms.{IsOver, IsNonbasic}
+use Rattle.spec_tableaux.specs.SolvedForms.{AllVariables, IsNonbasic}
 use Rattle.spec_tableaux.specs.Numbers.{Number, numbers}
 use Rattle.spec_tableaux.proofs.SolvedForms.{over_more}
 use Rattle.spec_tableaux.proofs.Growing.{row_added, added_solved, solves_more, over_flattened, over_rows, nonbasic_more}
@@ -13,7 +13,7 @@ use Rattle.tableau.specs.declared.entries.Row.{Row as CodeRow}
 use Rattle.tableau.specs.declared.table.Tableau.TheInside.{Inside}
 use Rattle.tableau.specs.Entries.{row_meant, rows_of}
 use Rattle.tableau.specs.Views.{IsTableau, with_sum, row_at, no_row, place, next_place}
-use Rattle.tableau.specs.Kept.{column_at, IsKept, AreColumns, ArePlaces, HasGrown, IsNoted, Forgets}
+use Rattle.tableau.specs.Kept.{column_at, TableauFits, AreColumns, ArePlaces, HasGrown, IsNoted, Forgets}
 use Rattle.tableau.proofs.Readying.{number_space, are_over_more}
 use Rattle.tableau.proofs.Keeping.{over_entry}
 
@@ -29,11 +29,11 @@ variable_added n listed rs t = record {
   same = t.same;
 }
 
-module _ (n : ℕ) (listed rs : List (Row Number)) (es : List (Entry Number)) (t : IsTableau (record { variables = n; listed = listed; rows = rs })) (low : IsOver (λ y. y < n) es) where
+module _ (n : ℕ) (listed rs : List (Row Number)) (es : List (Entry Number)) (t : IsTableau (record { variables = n; listed = listed; rows = rs })) (low : AllVariables (λ y. y < n) es) where
   new_row : Row Number
   new_row = record { basic = n; entries = flattened numbers rs [] es }
 
-  pub flattened_below : IsOver (λ y. y < n) (flattened numbers rs [] es)
+  pub flattened_below : AllVariables (λ y. y < n) (flattened numbers rs [] es)
   flattened_below = over_flattened (as_space numbers) (λ y. y < n) rs [] es t.entries_below (over_more (λ y. y < n) (λ y. IsNonbasic rs y → y < n) es (λ y l k. l) low) tt
 
   pub new_nonbasic : is_basic n rs ≡ false
@@ -141,9 +141,9 @@ columns_back rs old mid new number a g f e = record {
   within = λ y k c. let o = f.others y k c in elim (g.others y k o.0) [ inl h ↦ a.within y k h | inr s ↦ absurd (o.1 s) ];
 }
 
-module _ (i : Inside) (kept : IsKept i) where
+module _ (i : Inside) (kept : TableauFits i) where
   -- a variable more
-  pub kept_variable : (j : Inside) → j.listed.items ≡ i.listed.items → j.rows.items ≡ i.rows.items → j.places.items ≡ i.places.items ++ None ∷ [] → j.columns.items ≡ i.columns.items ++ [] ∷ [] → IsKept j
+  pub kept_variable : (j : Inside) → j.listed.items ≡ i.listed.items → j.rows.items ≡ i.rows.items → j.places.items ≡ i.places.items ++ None ∷ [] → j.columns.items ≡ i.columns.items ++ [] ∷ [] → TableauFits j
   kept_variable j l r p c =
       let count : length j.places.items ≡ suc (length i.places.items) = let k = length-append i.places.items (None ∷ []) in let w = ap length p in omega (arith, k, w) in
       record {
@@ -155,7 +155,7 @@ module _ (i : Inside) (kept : IsKept i) where
 
   -- where there was no memory for a column
   pub kept_back : (number : ℕ) → number ≡ length i.rows.items → (mid : List (List ℕ)) → HasGrown (λ k. k ≡ number) i.columns.items mid
-      → (j : Inside) → j.listed.items ≡ i.listed.items → j.rows.items ≡ i.rows.items → j.places.items ≡ i.places.items → Forgets number mid j.columns.items → IsKept j
+      → (j : Inside) → j.listed.items ≡ i.listed.items → j.rows.items ≡ i.rows.items → j.places.items ≡ i.places.items → Forgets number mid j.columns.items → TableauFits j
   kept_back number e mid g j l r p f = record {
     rows = subst IsTableau (λ k. record { variables = length (sym p k); listed = rows_of (sym l k); rows = rows_of (sym r k) }) kept.rows;
     places = subst (λ (z : List CodeRow). ArePlaces (rows_of z) j.places.items) (sym r) (subst (ArePlaces (rows_of i.rows.items)) (sym p) kept.places);
@@ -164,16 +164,16 @@ module _ (i : Inside) (kept : IsKept i) where
         (columns_back (rows_of i.rows.items) i.columns.items mid j.columns.items number kept.columns g f (e ∙ sym (length-map i.rows.items row_meant)));
   }
 
-  module _ (number basic : ℕ) (entries made : List (Entry Number)) (e : number ≡ length i.rows.items) (b : basic ≡ length i.places.items) (low : IsOver (λ y. y < length i.places.items) entries)
+  module _ (number basic : ℕ) (entries made : List (Entry Number)) (e : number ≡ length i.rows.items) (b : basic ≡ length i.places.items) (low : AllVariables (λ y. y < length i.places.items) entries)
       (is : made ≡ flattened numbers (rows_of i.rows.items) [] entries) where
-    pub made_below : IsOver (λ y. y < length i.columns.items) made
-    made_below = subst (IsOver (λ y. y < length i.columns.items)) (sym is) (subst (λ n. IsOver (λ y. y < n) (flattened numbers (rows_of i.rows.items) [] entries)) (sym kept.count)
+    pub made_below : AllVariables (λ y. y < length i.columns.items) made
+    made_below = subst (AllVariables (λ y. y < length i.columns.items)) (sym is) (subst (λ n. AllVariables (λ y. y < n) (flattened numbers (rows_of i.rows.items) [] entries)) (sym kept.count)
         (flattened_below (length i.places.items) (rows_of i.listed.items) (rows_of i.rows.items) entries kept.rows low))
 
     -- a row more
     pub kept_row : (mid : List (List ℕ)) → HasGrown (λ k. k ≡ number) i.columns.items mid → IsNoted mid number made → (j : Inside)
         → rows_of j.listed.items ≡ rows_of i.listed.items ++ record { basic = basic; entries = entries } ∷ [] → rows_of j.rows.items ≡ rows_of i.rows.items ++ record { basic = basic; entries = made } ∷ []
-        → j.places.items ≡ i.places.items ++ Some number ∷ [] → j.columns.items ≡ mid ++ [] ∷ [] → IsKept j
+        → j.places.items ≡ i.places.items ++ Some number ∷ [] → j.columns.items ≡ mid ++ [] ∷ [] → TableauFits j
     kept_row mid g n j l r p c =
         let rs = rows_of i.rows.items in
         let new : Row Number = record { basic = basic; entries = made } in

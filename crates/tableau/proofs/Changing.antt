@@ -4,13 +4,13 @@ use Rattle.std.proofs.lemmas.List.{map-append, length-map, length-set}
 use Rattle.std.proofs.lemmas.List.Elements.{Contains-get_or, Contains-append_right}
 use Rattle.spec_numbers.specs.Bounds.{Overflow}
 use Rattle.spec_tableaux.specs.Rows.{Entry, Row as Equation, Pivot, coefficient_of, exchanged_row}
-use Rattle.spec_tableaux.specs.SolvedForms.{IsTidy, IsOver, AreTidy, AreOver}
+use Rattle.spec_tableaux.specs.SolvedForms.{IsTidy, AllVariables, AreTidy, AllRowVariables}
 use Rattle.spec_tableaux.specs.Numbers.{Number, numbers}
 use Rattle.tableau.specs.declared.entries.Row.{Row}
 use Rattle.tableau.specs.declared.pivots.Change.{Change}
 use Rattle.tableau.specs.Entries.{row_meant, rows_of}
 use Rattle.tableau.specs.Views.{row_at, no_row}
-use Rattle.tableau.specs.Pivots.{NewRow, StrainsRow, StrainsOther, change_meant, changes_meant, changes_in, stays, with_changes, AreNumbered}
+use Rattle.tableau.specs.Pivots.{NewRow, StrainsRow, StrainsOther, change_meant, changes_meant, changes_in, stays, with_changes, AllNumbers}
 
 -- the row of a number
 pub meant_at : (rows : List Row) (k : ℕ) (r : Row) → k < length rows → r ≡ get_or rows k r → row_meant r ≡ row_at (rows_of rows) k
@@ -23,7 +23,7 @@ tidy_at [] k l t = absurd (omega arith)
 tidy_at (r ∷ rs) zero l t = t.0
 tidy_at (r ∷ rs) (suc k) l t = tidy_at rs k (omega arith) t.1
 
-pub over_at : (p : ℕ → Type 0) (rs : List (Equation Number)) (k : ℕ) → k < length rs → AreOver p rs → IsOver p (row_at rs k).entries
+pub over_at : (p : ℕ → Type 0) (rs : List (Equation Number)) (k : ℕ) → k < length rs → AllRowVariables p rs → AllVariables p (row_at rs k).entries
 over_at p [] k l t = absurd (omega arith)
 over_at p (r ∷ rs) zero l t = t.0
 over_at p (r ∷ rs) (suc k) l t = over_at p rs k (omega arith) t.1
@@ -38,8 +38,8 @@ module _ (rows : List Row) (k : ℕ) (r : Row) (es : List (Entry Number)) (low :
   pub tidy_there : AreTidy numbers (rows_of rows) → IsTidy numbers 0 es
   tidy_there t = subst (IsTidy numbers 0) (sym entries_at) (tidy_at (rows_of rows) k (low_meant rows k low) t)
 
-  pub over_there : (p : ℕ → Type 0) → AreOver p (rows_of rows) → IsOver p es
-  over_there p t = subst (IsOver p) (sym entries_at) (over_at p (rows_of rows) k (low_meant rows k low) t)
+  pub over_there : (p : ℕ → Type 0) → AllRowVariables p (rows_of rows) → AllVariables p es
+  over_there p t = subst (AllVariables p) (sym entries_at) (over_at p (rows_of rows) k (low_meant rows k low) t)
 
   -- an overflow in a row
   pub other_strains : (p : Pivot Number) (c : Number) → (r.basic == p.leaving) ≡ false → c ≡ coefficient_of numbers p.entering (row_meant r).entries → (o : Overflow) → StrainsRow p c es o → StrainsOther p (rows_of rows) o
@@ -74,7 +74,7 @@ pub changes_last : (rs : List (Equation Number)) (cs : List NewRow) (c : NewRow)
 changes_last rs [] c = refl
 changes_last rs (d ∷ cs) c = ap (λ z. set z d.number d.row) (changes_last rs cs c)
 
-numbered_last : (p : ℕ → Type 0) (cs : List NewRow) (c : NewRow) → AreNumbered p (cs ++ c ∷ []) → AreNumbered p cs × p c.number
+numbered_last : (p : ℕ → Type 0) (cs : List NewRow) (c : NewRow) → AllNumbers p (cs ++ c ∷ []) → AllNumbers p cs × p c.number
 numbered_last p [] c h = (tt, h.0)
 numbered_last p (d ∷ cs) c h = let k = numbered_last p cs c h.1 in ((h.0, k.0), k.1)
 
@@ -87,13 +87,13 @@ module _ (p : ℕ → Type 0) (left rest : List Change) (c : Change) (split : le
   meant : changes_meant left ≡ changes_meant rest ++ change_meant c ∷ []
   meant = ap changes_meant split ∙ map-append change_meant rest (c ∷ [])
 
-  pub popped : AreNumbered p (changes_meant left) → AreNumbered p (changes_meant rest) × p c.number
-  popped h = numbered_last p (changes_meant rest) (change_meant c) (subst (AreNumbered p) meant h)
+  pub popped : AllNumbers p (changes_meant left) → AllNumbers p (changes_meant rest) × p c.number
+  popped h = numbered_last p (changes_meant rest) (change_meant c) (subst (AllNumbers p) meant h)
 
   pub put_one : (rows new : List Row) (whole : List (Equation Number)) → new ≡ set rows c.number c.row → with_changes (rows_of rows) (changes_meant left) ≡ whole → with_changes (rows_of new) (changes_meant rest) ≡ whole
   put_one rows new whole e h =
       ap (λ z. with_changes (rows_of z) (changes_meant rest)) e ∙ ap (λ z. with_changes z (changes_meant rest)) (rows_set rows c.number c.row)
       ∙ sym (changes_last (rows_of rows) (changes_meant rest) (change_meant c)) ∙ ap (with_changes (rows_of rows)) (sym meant) ∙ h
 
-pub numbered_same : (old new : List Row) (k : ℕ) (r : Row) (cs : List NewRow) → new ≡ set old k r → AreNumbered (λ n. n < length old) cs → AreNumbered (λ n. n < length new) cs
-numbered_same old new k r cs e h = subst (λ m. AreNumbered (λ n. n < m) cs) (sym (ap length e ∙ length-set old k r)) h
+pub numbered_same : (old new : List Row) (k : ℕ) (r : Row) (cs : List NewRow) → new ≡ set old k r → AllNumbers (λ n. n < length old) cs → AllNumbers (λ n. n < length new) cs
+numbered_same old new k r cs e h = subst (λ m. AllNumbers (λ n. n < m) cs) (sym (ap length e ∙ length-set old k r)) h

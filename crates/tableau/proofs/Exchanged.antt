@@ -10,15 +10,15 @@ use Rattle.tableau.specs.declared.entries.Row.{Row as CodeRow}
 use Rattle.tableau.specs.declared.table.Tableau.TheInside.{Inside}
 use Rattle.tableau.specs.Entries.{row_meant, rows_of}
 use Rattle.tableau.specs.Views.{TableauView, IsTableau, with_exchange, row_at, place}
-use Rattle.tableau.specs.Kept.{column_at, view_of, IsKept, AreColumns, ArePlaces, HasGrown, AreNoted, AreOverColumns}
-use Rattle.tableau.specs.Pivots.{NewRow, exchange_changes, with_changes, AreNumbered}
+use Rattle.tableau.specs.Kept.{column_at, tableau_view, TableauFits, AreColumns, ArePlaces, HasGrown, AreNoted, AreOverColumns}
+use Rattle.tableau.specs.Pivots.{NewRow, exchange_changes, with_changes, AllNumbers}
 use Rattle.tableau.proofs.Exchanging.{exchange_right, exchange_made, right_numbers, right_over}
 use Rattle.tableau.proofs.Keeping.{columns_grown, entering_low, leaving_low, entries_after, solutions_after, tableau_after, places_after, columns_after}
 
 -- A tableau, and the row of the variable that leaves.
 pub record Leaving (i : Inside) (now : TableauView) (b x number : ℕ) : Type 0 where
-  pub is : view_of i ≡ now
-  pub kept : IsKept i
+  pub is : tableau_view i ≡ now
+  pub kept : TableauFits i
   pub pivot : IsPivot numbers now.rows b x
   pub at : Some number ≡ place b now.rows
   pub there : (number < length now.rows) × (is_basic b now.rows ≡ true) × (row_of b now.rows ≡ row_at now.rows number)
@@ -59,20 +59,20 @@ module _ (i : Inside) (now : TableauView) (b x number : ℕ) (w : Leaving i now 
           (exchange_right (rows_of i.rows.items) ks number b x w.kept.rows.solved pivot_here at_here low_here row_here within covers)
           (entries_after (length i.places.items) (rows_of i.listed.items) (rows_of i.rows.items) b x w.kept.rows pivot_here)))
 
-      numbered : AreNumbered (λ k. k < length (rows_of i.rows.items)) cs
-      numbered = subst (AreNumbered (λ k. k < length (rows_of i.rows.items))) (sym made)
+      numbered : AllNumbers (λ k. k < length (rows_of i.rows.items)) cs
+      numbered = subst (AllNumbers (λ k. k < length (rows_of i.rows.items))) (sym made)
           (right_numbers (exchanged_row numbers (pivot_in (rows_of i.rows.items) b x)) (rows_of i.rows.items) (exchange_changes (rows_of i.rows.items) ks number b x)
           (exchange_right (rows_of i.rows.items) ks number b x w.kept.rows.solved pivot_here at_here low_here row_here within covers))
 
-      pub made_numbered : AreNumbered (λ k. k < length i.rows.items) cs
-      made_numbered = subst (λ n. AreNumbered (λ k. k < n) cs) (length-map i.rows.items row_meant) numbered
+      pub made_numbered : AllNumbers (λ k. k < length i.rows.items) cs
+      made_numbered = subst (λ n. AllNumbers (λ k. k < n) cs) (length-map i.rows.items row_meant) numbered
 
-      module _ (mid : List (List ℕ)) (grown : (n : ℕ) → AreNumbered (λ k. k < n) cs → HasGrown (λ k. k < n) i.columns.items mid) where
+      module _ (mid : List (List ℕ)) (grown : (n : ℕ) → AllNumbers (λ k. k < n) cs → HasGrown (λ k. k < n) i.columns.items mid) where
         grown_here : HasGrown (λ k. k < length (rows_of i.rows.items)) i.columns.items mid
         grown_here = grown (length (rows_of i.rows.items)) numbered
 
         -- where there was no memory
-        pub kept_still : (j : Inside) → j.listed.items ≡ i.listed.items → j.rows.items ≡ i.rows.items → j.places.items ≡ i.places.items → j.columns.items ≡ mid → IsKept j
+        pub kept_still : (j : Inside) → j.listed.items ≡ i.listed.items → j.rows.items ≡ i.rows.items → j.places.items ≡ i.places.items → j.columns.items ≡ mid → TableauFits j
         kept_still j l r p c = record {
           rows = subst IsTableau (λ k. record { variables = length (sym p k); listed = rows_of (sym l k); rows = rows_of (sym r k) }) w.kept.rows;
           places = subst (λ (z : List CodeRow). ArePlaces (rows_of z) j.places.items) (sym r) (subst (ArePlaces (rows_of i.rows.items)) (sym p) w.kept.places);
@@ -99,13 +99,13 @@ module _ (i : Inside) (now : TableauView) (b x number : ℕ) (w : Leaving i now 
             same_count : length j.places.items ≡ length i.places.items
             same_count = ap length p ∙ length-set (set i.places.items b None) x (Some number) ∙ length-set i.places.items b None
 
-            view_here : view_of j ≡ record { variables = length i.places.items; listed = rows_of i.listed.items; rows = exchanged numbers b x (rows_of i.rows.items) }
+            view_here : tableau_view j ≡ record { variables = length i.places.items; listed = rows_of i.listed.items; rows = exchanged numbers b x (rows_of i.rows.items) }
             view_here = λ k. record { variables = same_count k; listed = rows_of (l k); rows = same_rows k }
 
             after : IsTableau (record { variables = length i.places.items; listed = rows_of i.listed.items; rows = exchanged numbers b x (rows_of i.rows.items) })
             after = tableau_after (length i.places.items) (rows_of i.listed.items) (rows_of i.rows.items) b x w.kept.rows pivot_here
 
-            pub kept_after : IsKept j
+            pub kept_after : TableauFits j
             kept_after = record {
               rows = subst IsTableau (sym view_here) after;
               places = subst (λ rs. ArePlaces rs j.places.items) (sym same_rows) (subst (ArePlaces (exchanged numbers b x (rows_of i.rows.items))) (sym p)

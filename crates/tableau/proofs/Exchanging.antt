@@ -6,12 +6,12 @@ use Rattle.std.proofs.lemmas.Bool.Decides.{nat_tests}
 use Rattle.std.proofs.lemmas.List.{ext_get_or, get_or-set_same, get_or-set_other, length-map, length-set}
 use Rattle.std.proofs.lemmas.Option.{same_Some}
 use Rattle.spec_tableaux.specs.Rows.{Row, Pivot, coefficient_of, row_of, is_basic, put, minus_times, without, pivot_row, substituted_row, exchanged_row, exchanged, AreDistinct}
-use Rattle.spec_tableaux.specs.SolvedForms.{IsOver, AreOver, IsSolved, IsPivot}
+use Rattle.spec_tableaux.specs.SolvedForms.{AllVariables, AllRowVariables, IsSolved, IsPivot}
 use Rattle.spec_tableaux.specs.Strains.{pivot_in}
 use Rattle.spec_tableaux.specs.Numbers.{Number, numbers}
 use Rattle.spec_tableaux.proofs.Exchanges.{row_of_basic}
 use Rattle.tableau.specs.Views.{row_at, no_row, place, next_place}
-use Rattle.tableau.specs.Pivots.{NewRow, changes_in, stays, with_changes, exchange_changes, AreNumbered}
+use Rattle.tableau.specs.Pivots.{NewRow, changes_in, stays, with_changes, exchange_changes, AllNumbers}
 use Rattle.tableau.specs.Kept.{AreOverColumns, AreNoted, IsNoted}
 use Rattle.tableau.proofs.Changing.{over_at}
 use Rattle.tableau.proofs.Noting.{member, is_member_of}
@@ -60,15 +60,15 @@ changes_make F rs cs r w = ext_get_or no_row (with_changes rs cs) (map F rs) (le
         by true e = refl
         by false e = sym (w i l e)
 
-pub right_numbers : (F : Row Number → Row Number) (rs : List (Row Number)) (cs : List NewRow) → AreRight F rs cs → AreNumbered (λ k. k < length rs) cs
+pub right_numbers : (F : Row Number → Row Number) (rs : List (Row Number)) (cs : List NewRow) → AreRight F rs cs → AllNumbers (λ k. k < length rs) cs
 right_numbers F rs [] r = tt
 right_numbers F rs (c ∷ cs) r = (r.0, right_numbers F rs cs r.2)
 
 -- the entries of the changes are over what those of the rows after F are
-pub right_over : (F : Row Number → Row Number) (rs : List (Row Number)) (cs : List NewRow) (n : ℕ) → AreRight F rs cs → AreOver (λ y. y < n) (map F rs) → AreOverColumns n cs
+pub right_over : (F : Row Number → Row Number) (rs : List (Row Number)) (cs : List NewRow) (n : ℕ) → AreRight F rs cs → AllRowVariables (λ y. y < n) (map F rs) → AreOverColumns n cs
 right_over F rs [] n r o = tt
 right_over F rs (c ∷ cs) n r o = (
-  subst (λ (q : Row Number). IsOver (λ y. y < n) q.entries) (mapped_at F rs c.number r.0 ∙ sym r.1)
+  subst (λ (q : Row Number). AllVariables (λ y. y < n) q.entries) (mapped_at F rs c.number r.0 ∙ sym r.1)
       (over_at (λ y. y < n) (map F rs) c.number (subst (λ m. c.number < m) (sym (length-map rs F)) r.0) o),
   right_over F rs cs n r.2 o,
 )

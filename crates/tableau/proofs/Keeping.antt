@@ -5,7 +5,7 @@ use Rattle.std.proofs.lemmas.Bool.Decides.{nat_tests}
 use Rattle.std.proofs.lemmas.List.{get_or-set_same, get_or-set_other, length-map, length-set}
 use Rattle.spec_tableaux.specs.Spaces.{as_space}
 use Rattle.spec_tableaux.specs.Rows.{Entry, Row, Pivot, coefficient_of, row_of, is_basic, negated, without, pivot_row, substituted_row, exchanged_row, exchanged, Solves}
-use Rattle.spec_tableaux.specs.SolvedForms.{IsOver, AreOver, IsNonbasic, IsSolved, IsPivot}
+use Rattle.spec_tableaux.specs.SolvedForms.{AllVariables, AllRowVariables, IsNonbasic, IsSolved, IsPivot}
 use Rattle.spec_tableaux.specs.Strains.{pivot_in}
 use Rattle.spec_tableaux.specs.Numbers.{Number, numbers}
 use Rattle.spec_tableaux.proofs.Numbers.{numbers_are_ordered_field}
@@ -27,7 +27,7 @@ columns_grown rs a b c g = record {
 }
 
 -- p holds of a variable whose coefficient is not 0
-pub over_entry : (p : ℕ → Type 0) (es : List (Entry Number)) (y : ℕ) → IsOver p es → numbers.is_zero (coefficient_of numbers y es) ≡ false → p y
+pub over_entry : (p : ℕ → Type 0) (es : List (Entry Number)) (y : ℕ) → AllVariables p es → numbers.is_zero (coefficient_of numbers y es) ≡ false → p y
 over_entry p [] y o z = absurd (true≢false (sym numbers_are_ordered_field.zero_is_zero ∙ z))
 over_entry p (e ∷ es) y o z = by (over_entry p es y o.1) (e.variable == y) refl z
   where
@@ -56,12 +56,12 @@ module _ (n : ℕ) (listed rs : List (Row Number)) (b x : ℕ) (t : IsTableau (r
       by true e = let s : x ≡ y = grind (arith, nat_tests) in subst (λ z. z < n) s entering_low
       by false e = at (is_basic y rs) refl (grind (arith, nat_tests))
 
-  others_below : IsOver (λ y. y < n) (pivot_in rs b x).others
+  others_below : AllVariables (λ y. y < n) (pivot_in rs b x).others
   others_below = over_quotients (as_space numbers) (λ y. y < n) (coefficient_of numbers x (row_of b rs).entries) (without x (row_of b rs).entries)
       (over_more (λ y. (y < n) × ((y == x) ≡ false)) (λ y. y < n) (without x (row_of b rs).entries) (λ y o. o.0)
       (over_without (as_space numbers) (λ y. y < n) 0 x (row_of b rs).entries (tidy_row (as_space numbers) b rs t.solved.tidy) (over_row (λ y. y < n) b rs t.entries_below)))
 
-  pub entries_after : AreOver (λ y. y < n) (exchanged numbers b x rs)
+  pub entries_after : AllRowVariables (λ y. y < n) (exchanged numbers b x rs)
   entries_after = over_after (as_space numbers) number_space (λ y. y < n) (λ y. y < n) (pivot_in rs b x) rs (record { stay = λ y l e. l; leave = leaving_low; others = others_below }) t.solved.tidy t.entries_below
       (over_put (as_space numbers) (λ y. y < n) b (pivot_in rs b x).factor (negated numbers (pivot_in rs b x).others) leaving_low (over_negated (as_space numbers) (λ y. y < n) (pivot_in rs b x).others others_below))
 

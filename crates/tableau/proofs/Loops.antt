@@ -2,11 +2,11 @@
 use Rattle.std.proofs.Common.{◌≡◌, ℕ, ◌<◌, ◌==◌, true, false, cond, List, [], ◌∷◌, ◌++◌, refl, sym, ◌∙◌, ap, subst}
 use Rattle.spec_tableaux.specs.Spaces.{as_space}
 use Rattle.spec_tableaux.specs.Rows.{Entry, Pivot, put, minus_times, plus_times, quotients, without, negated, substituted}
-use Rattle.spec_tableaux.specs.SolvedForms.{IsTidy, IsOver}
+use Rattle.spec_tableaux.specs.SolvedForms.{IsTidy, AllVariables}
 use Rattle.spec_tableaux.specs.Numbers.{Number, numbers}
 use Rattle.spec_tableaux.proofs.SolvedForms.{over_without, over_more, over_negated}
 use Rattle.tableau.specs.Sums.{combined, turned}
-use Rattle.tableau.specs.Pivots.{IsReady}
+use Rattle.tableau.specs.Pivots.{IsTidyPivot}
 use Rattle.tableau.proofs.Merging.{put_high, push_step, over_each}
 
 pub put_step : (out new left more whole : List (Entry Number)) (x : ℕ) (c : Number) (e : Entry Number) → left ≡ e ∷ more → e.variable < x → new ≡ out ++ e ∷ []
@@ -29,17 +29,17 @@ combined_plus es [] k = refl
 combined_plus es (g ∷ gs) k = ap (put numbers g.variable (numbers.times k g.coefficient)) (combined_plus es gs k)
 
 -- what the pivot's row is made of has no leaving variable
-pub negated_new : (p : Pivot Number) (es : List (Entry Number)) → IsReady p → es ≡ negated numbers p.others → IsOver (λ y. (y == p.leaving) ≡ false) es
-negated_new p es i e = subst (IsOver (λ y. (y == p.leaving) ≡ false)) (sym e) (over_negated (as_space numbers) (λ y. (y == p.leaving) ≡ false) p.others i.new)
+pub negated_new : (p : Pivot Number) (es : List (Entry Number)) → IsTidyPivot p → es ≡ negated numbers p.others → AllVariables (λ y. (y == p.leaving) ≡ false) es
+negated_new p es i e = subst (AllVariables (λ y. (y == p.leaving) ≡ false)) (sym e) (over_negated (as_space numbers) (λ y. (y == p.leaving) ≡ false) p.others i.new)
 
 -- the same of what is made of another row
-pub merged_new : (p : Pivot Number) (es rest merged : List (Entry Number)) (c : Number) → IsReady p → IsTidy numbers 0 es → IsOver (λ y. (y == p.leaving) ≡ false) es
-    → rest ≡ without p.entering es → merged ≡ combined true rest c p.others → IsOver (λ y. (y == p.leaving) ≡ false) merged
+pub merged_new : (p : Pivot Number) (es rest merged : List (Entry Number)) (c : Number) → IsTidyPivot p → IsTidy numbers 0 es → AllVariables (λ y. (y == p.leaving) ≡ false) es
+    → rest ≡ without p.entering es → merged ≡ combined true rest c p.others → AllVariables (λ y. (y == p.leaving) ≡ false) merged
 merged_new p es rest merged c i t o e m =
     let n : ℕ → Type 0 = λ y. (y == p.leaving) ≡ false in
-    subst (IsOver n) (sym m)
+    subst (AllVariables n) (sym m)
     (over_each numbers (turned true) n c rest p.others
-    (subst (IsOver n) (sym e) (over_more (λ y. n y × ((y == p.entering) ≡ false)) n (without p.entering es) (λ y h. h.0) (over_without (as_space numbers) n 0 p.entering es t o))) i.new)
+    (subst (AllVariables n) (sym e) (over_more (λ y. n y × ((y == p.entering) ≡ false)) n (without p.entering es) (λ y h. h.0) (over_without (as_space numbers) n 0 p.entering es t o))) i.new)
 
 -- and what it is
 pub substituted_made : (p : Pivot Number) (es rest merged made : List (Entry Number)) (c scaled : Number) → numbers.is_zero c ≡ false → scaled ≡ numbers.times c p.factor

@@ -7,12 +7,12 @@ use Rattle.std.proofs.lemmas.Bool.Decides.{nat_tests, Decides-eqb}
 use Rattle.std.proofs.lemmas.List.{append-nil, set-get_or, get_or_past, get_or-set_same, get_or-set_other, length-set}
 use Rattle.std.proofs.lemmas.Map.Made.{is_member-Decides}
 use Rattle.spec_tableaux.specs.Rows.{Entry, Row, coefficient_of}
-use Rattle.spec_tableaux.specs.SolvedForms.{IsTidy, IsOver}
+use Rattle.spec_tableaux.specs.SolvedForms.{IsTidy, AllVariables}
 use Rattle.spec_tableaux.specs.Numbers.{Number, numbers}
 use Rattle.spec_tableaux.proofs.SolvedForms.{over_more}
-use Rattle.tableau.specs.Pivots.{NewRow, AreNumbered}
+use Rattle.tableau.specs.Pivots.{NewRow, AllNumbers}
 use Rattle.tableau.specs.Views.{row_at}
-use Rattle.tableau.specs.Kept.{column_at, AreColumns, HasGrown, IsNoted, AreNoted, AreKnown, Forgets, AreOverColumns}
+use Rattle.tableau.specs.Kept.{column_at, AreColumns, HasGrown, IsNoted, AreNoted, RowsAreNoted, Forgets, AreOverColumns}
 
 pub member : (ks : List ℕ) (k : ℕ) → list_any (nat_eq k) ks ≡ true → Contains ks k
 member ks k = (is_member-Decides Decides-eqb ks k).0
@@ -80,7 +80,7 @@ all_noted_more p a b [] g i = tt
 all_noted_more p a b (c ∷ cs) g i = (noted_more p a b c.number c.row.entries g i.0, all_noted_more p a b cs g i.1)
 
 -- what is so of each variable with a coefficient is so of the entries
-over_tidy : (p : ℕ → Type 0) (from : ℕ) (es : List (Entry Number)) → IsTidy numbers from es → ((y : ℕ) → from ≤ y → numbers.is_zero (coefficient_of numbers y es) ≡ false → p y) → IsOver p es
+over_tidy : (p : ℕ → Type 0) (from : ℕ) (es : List (Entry Number)) → IsTidy numbers from es → ((y : ℕ) → from ≤ y → numbers.is_zero (coefficient_of numbers y es) ≡ false → p y) → AllVariables p es
 over_tidy p from [] t h = tt
 over_tidy p from (e ∷ es) t h = (
   h e.variable t.0 (ap (λ b. numbers.is_zero (cond b e.coefficient (coefficient_of numbers e.variable es))) (eq-eqb e.variable e.variable refl) ∙ t.1),
@@ -88,10 +88,10 @@ over_tidy p from (e ∷ es) t h = (
 )
 
 -- the rows' numbers are in the columns of their entries
-pub rows_known : (rs : List (Row Number)) (columns : List (List ℕ)) → ((k : ℕ) → k < length rs → IsTidy numbers 0 (row_at rs k).entries) → AreColumns rs columns → AreKnown columns rs
+pub rows_known : (rs : List (Row Number)) (columns : List (List ℕ)) → ((k : ℕ) → k < length rs → IsTidy numbers 0 (row_at rs k).entries) → AreColumns rs columns → RowsAreNoted columns rs
 rows_known rs columns t a k l = over_tidy (λ y. Contains (column_at columns y) k) 0 (row_at rs k).entries (t k l) (λ y h z. a.covers y k l z)
 
-over_last : {A : Type 0} (p : ℕ → Type 0) (es : List (Entry A)) (e : Entry A) → IsOver p es → p e.variable → IsOver p (es ++ e ∷ [])
+over_last : {A : Type 0} (p : ℕ → Type 0) (es : List (Entry A)) (e : Entry A) → AllVariables p es → p e.variable → AllVariables p (es ++ e ∷ [])
 over_last p [] e o h = (h, tt)
 over_last p (d ∷ es) e o h = (o.0, over_last p es e o.1 h)
 
@@ -140,10 +140,10 @@ pub all_changes : (columns : List (List ℕ)) (whole rest : List NewRow) → res
 all_changes columns whole rest e s = subst (AreNoted columns) (sym (s.split ∙ ap (λ z. s.before ++ z) e ∙ append-nil s.before)) s.noted
 
 -- the first change of those that are left
-pub numbered_first : (p : ℕ → Type 0) (cs more : List NewRow) (c : NewRow) → cs ≡ c ∷ more → AreNumbered p cs → p c.number × AreNumbered p more
-numbered_first p cs more c e h = subst (AreNumbered p) e h
+pub numbered_first : (p : ℕ → Type 0) (cs more : List NewRow) (c : NewRow) → cs ≡ c ∷ more → AllNumbers p cs → p c.number × AllNumbers p more
+numbered_first p cs more c e h = subst (AllNumbers p) e h
 
-pub columns_first : (n : ℕ) (cs more : List NewRow) (c : NewRow) → cs ≡ c ∷ more → AreOverColumns n cs → IsOver (λ y. y < n) c.row.entries × AreOverColumns n more
+pub columns_first : (n : ℕ) (cs more : List NewRow) (c : NewRow) → cs ≡ c ∷ more → AreOverColumns n cs → AllVariables (λ y. y < n) c.row.entries × AreOverColumns n more
 columns_first n cs more c e h = subst (AreOverColumns n) e h
 
 -- a number went out of the columns up to here
@@ -194,9 +194,9 @@ note_noted (Ok x) old y n c here l e h = noted_one old (set old y c) y n c l ref
 note_noted (Err x) old y n c here l e h = tt
 
 -- the number of one change came into columns
-pub change_grown : (whole rest more : List NewRow) (c : NewRow) (a b d : List (List ℕ)) → rest ≡ c ∷ more → ((n : ℕ) → AreNumbered (λ k. k < n) whole → AreNumbered (λ k. k < n) rest)
-    → ((n : ℕ) → AreNumbered (λ k. k < n) whole → HasGrown (λ k. k < n) a b) → HasGrown (λ k. k ≡ c.number) b d
-    → (n : ℕ) → AreNumbered (λ k. k < n) whole → HasGrown (λ k. k < n) a d
+pub change_grown : (whole rest more : List NewRow) (c : NewRow) (a b d : List (List ℕ)) → rest ≡ c ∷ more → ((n : ℕ) → AllNumbers (λ k. k < n) whole → AllNumbers (λ k. k < n) rest)
+    → ((n : ℕ) → AllNumbers (λ k. k < n) whole → HasGrown (λ k. k < n) a b) → HasGrown (λ k. k ≡ c.number) b d
+    → (n : ℕ) → AllNumbers (λ k. k < n) whole → HasGrown (λ k. k < n) a d
 change_grown whole rest more c a b d e w g h n l =
     let first = (numbered_first (λ k. k < n) rest more c e (w n l)).0 in
     grown_then (λ k. k < n) (λ k. k ≡ c.number) a b d (λ k s. subst (λ z. z < n) (sym s) first) (g n l) h

@@ -2,23 +2,23 @@
 use Rattle.std.proofs.Common.{◌≡◌, ℕ, ◌==◌, false, List, [], ◌∷◌, sym, subst}
 use Rattle.spec_tableaux.specs.Spaces.{IsSpace, as_space}
 use Rattle.spec_tableaux.specs.Rows.{Row, Pivot, coefficient_of, row_of, without}
-use Rattle.spec_tableaux.specs.SolvedForms.{AreOver, IsNonbasic, IsSolved, IsPivot}
+use Rattle.spec_tableaux.specs.SolvedForms.{AllRowVariables, IsNonbasic, IsSolved, IsPivot}
 use Rattle.spec_tableaux.specs.Strains.{pivot_in}
 use Rattle.spec_tableaux.specs.Numbers.{Number, numbers}
 use Rattle.spec_tableaux.proofs.Numbers.{numbers_are_ordered_field}
 use Rattle.spec_tableaux.proofs.OrderedSpaces.{field_is_space}
 use Rattle.spec_tableaux.proofs.SolvedForms.{apart, tidy_quotients, tidy_without, tidy_row, over_quotients, over_without, over_row, over_more}
-use Rattle.tableau.specs.Pivots.{IsReady, AreReady}
+use Rattle.tableau.specs.Pivots.{IsTidyPivot, AreReady}
 
 pub number_space : IsSpace (as_space numbers)
 number_space = field_is_space numbers numbers_are_ordered_field
 
 -- what rows are over, for another reason
-pub are_over_more : (p q : ℕ → Type 0) (rs : List (Row Number)) → ((y : ℕ) → p y → q y) → AreOver p rs → AreOver q rs
+pub are_over_more : (p q : ℕ → Type 0) (rs : List (Row Number)) → ((y : ℕ) → p y → q y) → AllRowVariables p rs → AllRowVariables q rs
 are_over_more p q [] w o = tt
 are_over_more p q (r ∷ rs) w o = (over_more p q r.entries w o.0, are_over_more p q rs w o.1)
 
-pivot_ready : (rs : List (Row Number)) (b x : ℕ) → IsSolved numbers rs → IsPivot numbers rs b x → IsReady (pivot_in rs b x)
+pivot_ready : (rs : List (Row Number)) (b x : ℕ) → IsSolved numbers rs → IsPivot numbers rs b x → IsTidyPivot (pivot_in rs b x)
 pivot_ready rs b x i h =
     let es = (row_of b rs).entries in
     let n : ℕ → Type 0 = λ y. (y == b) ≡ false in

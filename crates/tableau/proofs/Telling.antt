@@ -9,22 +9,22 @@ use Rattle.ratio128.specs.declared.wide.Wide.{Wide as WideType}
 use Rattle.ratio128.specs.Meant.{overflow}
 use Rattle.tableau.specs.declared.stops.RowStop.{RowStop}
 use Rattle.tableau.specs.declared.stops.RowStop.TheVariants.{Wide, Memory}
-use Rattle.tableau.specs.Views.{OnWide}
+use Rattle.tableau.specs.Views.{OnRowOverflow}
 use Rattle.tableau.specs.Sums.{StrainsCombined, StrainsPut, operation, in_product, in_sum, IsLeft}
 
 -- an overflow that is reported
-pub told_wide : {T : Type 0} (p : Overflow → Type 0) (r : Result T RowStop) (w : WideType) → IsErrAnd r (λ e. e ≡ Wide w) → p (overflow w) → IfErr r (OnWide p)
+pub told_wide : {T : Type 0} (p : Overflow → Type 0) (r : Result T RowStop) (w : WideType) → IsErrAnd r (λ e. e ≡ Wide w) → p (overflow w) → IfErr r (OnRowOverflow p)
 told_wide p (Ok x) w g h = tt
-told_wide p (Err e) w g h = subst (OnWide p) (sym g) h
+told_wide p (Err e) w g h = subst (OnRowOverflow p) (sym g) h
 
-wide_as : (p q : Overflow → Type 0) (e : RowStop) → ((o : Overflow) → p o → q o) → OnWide p e → OnWide q e
+wide_as : (p q : Overflow → Type 0) (e : RowStop) → ((o : Overflow) → p o → q o) → OnRowOverflow p e → OnRowOverflow q e
 wide_as p q (Wide w) f h = f (overflow w) h
 wide_as p q Memory f h = tt
 
 -- one that is passed on
-pub passed_on : {T : Type 0} (p q : Overflow → Type 0) (r : Result T RowStop) (s : RowStop) → ((o : Overflow) → p o → q o) → IsErrAnd r (λ e. e ≡ s) → OnWide p s → IfErr r (OnWide q)
+pub passed_on : {T : Type 0} (p q : Overflow → Type 0) (r : Result T RowStop) (s : RowStop) → ((o : Overflow) → p o → q o) → IsErrAnd r (λ e. e ≡ s) → OnRowOverflow p s → IfErr r (OnRowOverflow q)
 passed_on p q (Ok x) s f g h = tt
-passed_on p q (Err e) s f g h = wide_as p q e f (subst (OnWide p) (sym g) h)
+passed_on p q (Err e) s f g h = wide_as p q e f (subst (OnRowOverflow p) (sym g) h)
 
 none : (h : Entry Number) → Contains [] h → ⊥
 none h c = omega (arith, c.1)
@@ -52,7 +52,7 @@ pub put_sum : (whole left rest : List (Entry Number)) (x : ℕ) (c : Number) (e 
 put_sum whole left rest x c e o l g v w = record { entry = e; there = l e (subst (λ (z : List (Entry Number)). Contains z e) (sym g) (0, omega arith, refl)); same = v; wide = w }
 
 -- an overflow that a call tells, for another reason
-pub err_as : {T : Type 0} (p q : Overflow → Type 0) (r : Result T RowStop) → ((o : Overflow) → p o → q o) → IfErr r (OnWide p) → IfErr r (OnWide q)
+pub err_as : {T : Type 0} (p q : Overflow → Type 0) (r : Result T RowStop) → ((o : Overflow) → p o → q o) → IfErr r (OnRowOverflow p) → IfErr r (OnRowOverflow q)
 err_as p q (Ok x) f h = tt
 err_as p q (Err e) f h = wide_as p q e f h
 

@@ -1,7 +1,7 @@
 -- What a tableau keeps besides its rows, and what its fields mean.
 use Rattle.std.specs.Prelude.{◌≡◌, ◌≢◌, ◌<◌, ◌⊎◌, ℕ, Option, None, List, [], ◌∷◌, length, get_or, Contains, false}
 use Rattle.spec_tableaux.specs.Rows.{Entry, Row, coefficient_of}
-use Rattle.spec_tableaux.specs.SolvedForms.{IsOver}
+use Rattle.spec_tableaux.specs.SolvedForms.{AllVariables}
 use Rattle.spec_tableaux.specs.Numbers.{Number, numbers}
 use Rattle.tableau.specs.declared.table.Tableau.TheInside.{Inside}
 use Rattle.tableau.specs.Entries.{rows_of}
@@ -28,11 +28,11 @@ pub record HasGrown (p : ℕ → Type 0) (old new : List (List ℕ)) : Type 0 wh
 
 -- a row number is in the column of each variable of its entries
 abbrev pub IsNoted : List (List ℕ) → ℕ → List (Entry Number) → Type 0
-IsNoted columns k es = IsOver (λ y. Contains (column_at columns y) k) es
+IsNoted columns k es = AllVariables (λ y. Contains (column_at columns y) k) es
 
 -- the same of each row, by its number
-abbrev pub AreKnown : List (List ℕ) → List (Row Number) → Type 0
-AreKnown columns rs = (k : ℕ) → k < length rs → IsNoted columns k (row_at rs k).entries
+abbrev pub RowsAreNoted : List (List ℕ) → List (Row Number) → Type 0
+RowsAreNoted columns rs = (k : ℕ) → k < length rs → IsNoted columns k (row_at rs k).entries
 
 -- the same of each change
 abbrev pub AreNoted : List (List ℕ) → List NewRow → Type 0
@@ -42,7 +42,7 @@ AreNoted columns (c ∷ cs) = IsNoted columns c.number c.row.entries × AreNoted
 -- the entries of each change are over the first n variables
 abbrev pub AreOverColumns : ℕ → List NewRow → Type 0
 AreOverColumns n [] = Unit {0}
-AreOverColumns n (c ∷ cs) = IsOver (λ y. y < n) c.row.entries × AreOverColumns n cs
+AreOverColumns n (c ∷ cs) = AllVariables (λ y. y < n) c.row.entries × AreOverColumns n cs
 
 -- A row number went out of columns, and no other one.
 pub record Forgets (n : ℕ) (old new : List (List ℕ)) : Type 0 where
@@ -55,13 +55,13 @@ abbrev pub ArePlaces : List (Row Number) → List (Option ℕ) → Type 0
 ArePlaces rs places = (y : ℕ) → get_or places y None ≡ place y rs
 
 -- what the fields mean
-abbrev pub view_of : Inside → TableauView
-view_of t = record { variables = length t.places.items; listed = rows_of t.listed.items; rows = rows_of t.rows.items }
+abbrev pub tableau_view : Inside → TableauView
+tableau_view t = record { variables = length t.places.items; listed = rows_of t.listed.items; rows = rows_of t.rows.items }
 
 -- What holds of the fields.
-pub record IsKept (t : Inside) : Type 0 where
+pub record TableauFits (t : Inside) : Type 0 where
   -- the rows are in solved form, over the variables, and have the solutions of those that were added
-  pub rows : IsTableau (view_of t)
+  pub rows : IsTableau (tableau_view t)
   -- each variable has its place
   pub places : ArePlaces (rows_of t.rows.items) t.places.items
   -- and its column

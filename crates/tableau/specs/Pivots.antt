@@ -3,7 +3,7 @@ use Rattle.std.specs.Prelude.{◌≡◌, ◌==◌, ◌||◌, ℕ, Bool, true, fa
 use Rattle.spec_numbers.specs.Bounds.{Overflow, multiplied, divided}
 use Rattle.spec_tableaux.specs.Rows as definitions
 use Rattle.spec_tableaux.specs.Rows.{Entry, Row, coefficient_of, exchanged_row, without}
-use Rattle.spec_tableaux.specs.SolvedForms.{IsTidy, IsOver, AreTidy, AreOver}
+use Rattle.spec_tableaux.specs.SolvedForms.{IsTidy, AllVariables, AreTidy, AllRowVariables}
 use Rattle.spec_tableaux.specs.Strains.{Overflows, IsOther, pivot_in}
 use Rattle.spec_tableaux.specs.Numbers.{Number, numbers}
 use Rattle.tableau.specs.declared.pivots.Pivot.{Pivot}
@@ -50,17 +50,17 @@ pub record StrainsOther (p : definitions.Pivot Number) (rs : List (Row Number)) 
   pub wide : StrainsRow p (coefficient_of numbers p.entering row.entries) row.entries o
 
 -- A pivot of a row in solved form.
-pub record IsReady (p : definitions.Pivot Number) : Type 0 where
+pub record IsTidyPivot (p : definitions.Pivot Number) : Type 0 where
   pub tidy : IsTidy numbers 0 p.others
   -- the leaving variable is none of the others
-  pub new : IsOver (λ y. (y == p.leaving) ≡ false) p.others
+  pub new : AllVariables (λ y. (y == p.leaving) ≡ false) p.others
 
 -- Rows in which the entering variable of a pivot can be replaced.
 pub record AreReady (p : definitions.Pivot Number) (rs : List (Row Number)) : Type 0 where
-  pub pivot : IsReady p
+  pub pivot : IsTidyPivot p
   pub tidy : AreTidy numbers rs
   -- the leaving variable is in no row's entries
-  pub new : AreOver (λ y. (y == p.leaving) ≡ false) rs
+  pub new : AllRowVariables (λ y. (y == p.leaving) ≡ false) rs
 
 -- A row with the number under which it is kept.
 pub record NewRow : Type 0 where
@@ -76,9 +76,9 @@ abbrev pub changes_meant : List Change → List NewRow
 changes_meant cs = map change_meant cs
 
 -- each change has a number of which p holds
-abbrev pub AreNumbered : (ℕ → Type 0) → List NewRow → Type 0
-AreNumbered p [] = Unit {0}
-AreNumbered p (c ∷ cs) = p c.number × AreNumbered p cs
+abbrev pub AllNumbers : (ℕ → Type 0) → List NewRow → Type 0
+AllNumbers p [] = Unit {0}
+AllNumbers p (c ∷ cs) = p c.number × AllNumbers p cs
 
 -- the exchange leaves a row as it is, or it is that of the leaving variable
 abbrev pub stays : definitions.Pivot Number → Row Number → Bool

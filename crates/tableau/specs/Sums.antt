@@ -4,7 +4,7 @@ use Rattle.spec_numbers.specs.Fractions.{Fraction}
 use Rattle.spec_numbers.specs.Bounds.{Overflow, added, subtracted, multiplied}
 use Rattle.spec_tableaux.specs.Fields.{Field}
 use Rattle.spec_tableaux.specs.Rows.{Entry, put}
-use Rattle.spec_tableaux.specs.SolvedForms.{IsOver}
+use Rattle.spec_tableaux.specs.SolvedForms.{AllVariables}
 use Rattle.spec_tableaux.specs.Strains.{Overflows}
 use Rattle.spec_tableaux.specs.Numbers.{Number, numbers}
 
@@ -34,7 +34,7 @@ combined minus es k gs = put_each numbers (turned minus) es k gs
 
 -- the variables of the entries are above y
 abbrev pub AreAbove : ℕ → List (Entry Number) → Type 0
-AreAbove y es = IsOver (λ z. y < z) es
+AreAbove y es = AllVariables (λ z. y < z) es
 
 -- what was written of the sum of old and es grew to new, with rest left of es, and the step's entry used or not
 abbrev pub Merges : Step → List (Entry Number) → List (Entry Number) → List (Entry Number) → List (Entry Number)

@@ -3,7 +3,7 @@ use Rattle.std.specs.Prelude.{◌≡◌, ◌↔◌, ◌<◌, ◌==◌, ℕ, suc,
 use Rattle.spec_numbers.specs.Bounds.{Overflow}
 use Rattle.spec_tableaux.specs.Spaces.{as_space}
 use Rattle.spec_tableaux.specs.Rows.{Entry, Row, coefficient_of, is_basic, exchanged, with_row, Solves}
-use Rattle.spec_tableaux.specs.SolvedForms.{AreOver, IsSolved}
+use Rattle.spec_tableaux.specs.SolvedForms.{AllRowVariables, IsSolved}
 use Rattle.spec_tableaux.specs.Numbers.{Number, numbers}
 use Rattle.ratio128.specs.Meant.{overflow}
 use Rattle.tableau.specs.declared.stops.RowStop.{RowStop}
@@ -25,7 +25,7 @@ pub record IsTableau (t : TableauView) : Type 0 where
   -- each basic variable is one of the variables
   pub basics_below : (b : ℕ) → is_basic b t.rows ≡ true → b < t.variables
   -- so is each variable of an entry
-  pub entries_below : AreOver (λ y. y < t.variables) t.rows
+  pub entries_below : AllRowVariables (λ y. y < t.variables) t.rows
   -- the rows have the solutions of those that were added
   pub same : (v : ℕ → Number) → Solves (as_space numbers) v t.rows ↔ Solves (as_space numbers) v t.listed
 
@@ -78,6 +78,6 @@ pub record IsColumn (rs : List (Row Number)) (y : ℕ) (ks : List ℕ) : Type 0 
   pub once : (i j : ℕ) → i < length ks → j < length ks → slice_index_or ks i 0 ≡ slice_index_or ks j 0 → i ≡ j
 
 -- where the stop is an overflow, p holds of it
-abbrev pub OnWide : (Overflow → Type 0) → RowStop → Type 0
-OnWide p (Wide w) = p (overflow w)
-OnWide p Memory = Unit {0}
+abbrev pub OnRowOverflow : (Overflow → Type 0) → RowStop → Type 0
+OnRowOverflow p (Wide w) = p (overflow w)
+OnRowOverflow p Memory = Unit {0}

@@ -1,10 +1,10 @@
 //! The rows with an entry of a variable.
 
 ghost use Rattle.std.specs.Prelude.{◌≡◌, ◌≢◌, ◌<◌, ◌↔◌, ◌⊎◌, ℕ, true, List, [], OnOk, OnErr, Contains, length, slice_index_or, vec_len, vec_capacity};
-ghost use Rattle.spec_tableaux.specs.SolvedForms.{IsOver};
+ghost use Rattle.spec_tableaux.specs.SolvedForms.{AllVariables};
 ghost use Rattle.tableau.specs.Entries.{entries_of, rows_of};
-ghost use Rattle.tableau.specs.Pivots.{changes_meant, AreNumbered};
-ghost use Rattle.tableau.specs.Kept.{column_at, HasGrown, IsNoted, AreNoted, AreKnown, Forgets, AreOverColumns};
+ghost use Rattle.tableau.specs.Pivots.{changes_meant, AllNumbers};
+ghost use Rattle.tableau.specs.Kept.{column_at, HasGrown, IsNoted, AreNoted, RowsAreNoted, Forgets, AreOverColumns};
 
 use crate::entries::{Entry, Row};
 use crate::pivots::Change;
@@ -138,7 +138,7 @@ pub(crate) fn note_row(
     before: &[Entry],
     entries: &[Entry],
 ) -> Result<(), NoMemory>
-    requires over { IsOver (λ y. y < length columns.old.items) (entries_of entries.now) }
+    requires over { AllVariables (λ y. y < length columns.old.items) (entries_of entries.now) }
     requires known { IsNoted columns.old.items number (entries_of before.now) }
     ensures len { vec_len columns.new ≡ vec_len columns.old }
     ensures capacity { vec_capacity columns.new ≡ vec_capacity columns.old }
@@ -164,9 +164,9 @@ pub(crate) fn note_changes(
     made: &[Change],
 ) -> Result<(), NoMemory>
     requires over { AreOverColumns (length columns.old.items) (changes_meant made.now) }
-    requires known { AreKnown columns.old.items (rows_of rows.now) }
-    requires numbered { AreNumbered (λ k. k < length rows.now) (changes_meant made.now) }
-    ensures grown { (n : ℕ) → AreNumbered (λ k. k < n) (changes_meant made.now)
+    requires known { RowsAreNoted columns.old.items (rows_of rows.now) }
+    requires numbered { AllNumbers (λ k. k < length rows.now) (changes_meant made.now) }
+    ensures grown { (n : ℕ) → AllNumbers (λ k. k < n) (changes_meant made.now)
         → HasGrown (λ k. k < n) columns.old.items columns.new.items }
     ensures noted { OnOk result (AreNoted columns.new.items (changes_meant made.now)) }
 {

@@ -3,14 +3,14 @@
 ghost use Rattle.std.specs.Prelude.{◌≡◌, ◌<◌, ◌↔◌, ℕ, true, false, length, Contains, vec_len, vec_capacity, OnOk, OnErr, IfOk, IfErr, MatchOption};
 ghost use Rattle.spec_tableaux.specs.Spaces.{as_space};
 ghost use Rattle.spec_tableaux.specs.Rows.{coefficient_of, row_of, is_basic, Solves};
-ghost use Rattle.spec_tableaux.specs.SolvedForms.{IsOver, IsPivot, IsSolved};
+ghost use Rattle.spec_tableaux.specs.SolvedForms.{AllVariables, IsPivot, IsSolved};
 ghost use Rattle.spec_tableaux.specs.Strains.{StrainsExchange, StrainsSum};
 ghost use Rattle.spec_tableaux.specs.Numbers.{Number, numbers};
 ghost use Rattle.tableau.specs.Numbers.{number_of};
 ghost use Rattle.tableau.specs.Entries.{entries_of, rows_of};
 ghost use Rattle.tableau.specs.Views.{empty, with_variable, with_sum, with_exchange, row_at, place};
 ghost use Rattle.tableau.specs.Pivots.{changes_meant, exchange_changes};
-ghost use Rattle.tableau.specs.Views.{IsTableau, IsColumn, OnWide};
+ghost use Rattle.tableau.specs.Views.{IsTableau, IsColumn, OnRowOverflow};
 
 use crate::columns::{Column, forget, note_changes, note_row};
 use crate::entries::{Entry, Row, coefficient};
@@ -42,13 +42,13 @@ pub struct Tableau {
 
 impl Model for Tableau {
     ghost use Rattle.tableau.specs.Views.{TableauView};
-    ghost use Rattle.tableau.specs.Kept.{view_of, IsKept};
+    ghost use Rattle.tableau.specs.Kept.{tableau_view, TableauFits};
 
     ghost Value = { TableauView };
 
-    ghost view = { view_of };
+    ghost view = { tableau_view };
 
-    ghost invariant = { IsKept };
+    ghost invariant = { TableauFits };
 }
 
 /// Gives the new rows of an exchange. The row of the leaving variable has the number that is given, and each row with
@@ -68,7 +68,7 @@ fn changes(
     requires column { (k : ℕ) → Contains column.now k → k < length rows.now }
     ensures ok { IfOk result (λ made. changes_meant made.items
         ≡ exchange_changes (rows_of rows.now) column.now number leaving entering) }
-    ensures wide { IfErr result (OnWide (StrainsExchange (rows_of rows.now) leaving entering)) }
+    ensures wide { IfErr result (OnRowOverflow (StrainsExchange (rows_of rows.now) leaving entering)) }
 {
     let pivot = pivot_of(alloc, leaving, entering, &rows[number as usize].entries)?;
     changes_of(alloc, &pivot, rows, number, column)
@@ -202,11 +202,11 @@ impl Tableau {
     /// `Wide` comes where a coefficient on the way leaves the bound on fractions, and `Memory` where there is no memory.
     /// The tableau is then as it was.
     pub fn add_row(&mut self, entries: &[Entry]) -> Result<u64, RowStop>
-        requires { IsOver (λ y. y < self.old.variables) (entries_of entries.now) }
+        requires { AllVariables (λ y. y < self.old.variables) (entries_of entries.now) }
         ensures ok { IfOk result (λ k. (k ≡ length self.old.rows)
             × (self.new ≡ with_sum self.old (entries_of entries.now))) }
         ensures err { OnErr result (self.new ≡ self.old) }
-        ensures wide { IfErr result (OnWide (StrainsSum self.old.rows (entries_of entries.now))) }
+        ensures wide { IfErr result (OnRowOverflow (StrainsSum self.old.rows (entries_of entries.now))) }
     {
         let number = self.rows.len() as u64;
         let basic = self.places.len() as u64;
@@ -243,7 +243,7 @@ impl Tableau {
         requires { IsPivot numbers self.old.rows leaving entering }
         ensures ok { OnOk result (self.new ≡ with_exchange self.old leaving entering) }
         ensures err { OnErr result (self.new ≡ self.old) }
-        ensures wide { IfErr result (OnWide (StrainsExchange self.old.rows leaving entering)) }
+        ensures wide { IfErr result (OnRowOverflow (StrainsExchange self.old.rows leaving entering)) }
         ensures variables { self.new.variables ≡ self.old.variables }
         ensures listed { self.new.listed ≡ self.old.listed }
         ensures keeps { (v : ℕ → Number) → Solves (as_space numbers) v self.new.rows

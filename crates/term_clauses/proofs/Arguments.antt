@@ -9,7 +9,7 @@ use Rattle.spec_rules.specs.Schemes.{innermost}
 use Rattle.term_core.specs.declared.ids.TermId.{TermId}
 use Rattle.term_core.specs.declared.nodes.Head.{Head as NodeHead}
 use Rattle.term_core.specs.declared.nodes.Head.TheVariants as heads
-use Rattle.term_core.specs.Tables.{TableView, term_at, IsIn, AreIn, clause_at, head_meant, takes, HasHead, IsPlaced, Shape, Fits, shape_term}
+use Rattle.term_core.specs.Tables.{TableView, term_at, IsIn, AreIn, clause_at, head_meant, takes, HasHead, IsPlaced, Shape, ShapeFits, shape_term}
 use Rattle.term_core.specs.declared.nodes.Node.{Node}
 use Rattle.proof_log.specs.Logs.{IsFormulaIn}
 use Rattle.term_core.proofs.TermsExtend.{Extends-self, Extends-trans, AreIn-kept, clause_at-kept}
@@ -66,7 +66,7 @@ pub innermost_none : (t : TableView) (ts : List Term) (s : Shape) (w d : Term) �
 innermost_none t ts s w d one e f differs = ap innermost (one_of_length ts d one ∙ ap (λ u. u ∷ []) (sym e ∙ f)) ∙ innermost_other t s.head (terms_of (clause_at t s.arguments)) differs
 
 -- a negation has one argument
-module _ (t : TableView) (s : Shape) (term : Term) (fits : Fits t s) (is_not : s.head ≡ heads.Not) (means : term ≡ shape_term t s) where
+module _ (t : TableView) (s : Shape) (term : Term) (fits : ShapeFits t s) (is_not : s.head ≡ heads.Not) (means : term ≡ shape_term t s) where
   pub negation_count : length (arguments_of term) ≡ 1
   negation_count =
       let sorts : takes Not (map sort_of (clause_at t s.arguments)) ≡ true = subst (λ h. takes (head_meant t h) (map sort_of (clause_at t s.arguments)) ≡ true) is_not fits.sorts in

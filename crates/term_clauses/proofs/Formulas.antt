@@ -16,10 +16,10 @@ use Rattle.spec_proofs.specs.declared.Rule.{Rule}
 use Rattle.spec_proofs.specs.declared.Rest.{Rest}
 use Rattle.spec_proofs.specs.declared.Rest.TheVariants.{Nothing, One, Two, AnyOne, Each, Innermost}
 use Rattle.spec_rules.specs.Rules.{IsBy, IsRight}
-use Rattle.spec_rules.specs.Schemes.{Scheme, schemes, states, kind_of, signed, rests_of, is_formula_of, clauses_by}
+use Rattle.spec_rules.specs.Schemes.{Scheme, schemes, states, kind_of, signed_term, rests_of, is_formula_of, clauses_by}
 use Rattle.spec_derivations.specs.Base.{clauses_of}
 use Rattle.spec_derivations.proofs.Below.{head_fits}
-use Rattle.term_core.specs.Tables.{TableView, clause_at, head_meant, Shape, Fits, shape_term}
+use Rattle.term_core.specs.Tables.{TableView, clause_at, head_meant, Shape, ShapeFits, shape_term}
 use Rattle.rule_bool.specs.Schemes.{arity, HasPlaces}
 use Rattle.term_clauses.specs.Stating.{head_of, scheme_in, scheme_by, IsRuleOf, single, IsSingle, before, clauses_in, AreRulesOf}
 use Rattle.rule_bool.proofs.Arities.{places_there}
@@ -68,12 +68,12 @@ no_clauses term other = go schemes
   where
     go : (ss : List Scheme) → flat_map (λ s. clauses_by s term) ss ≡ []
     go [] = refl
-    go (s ∷ ss) = ap (λ b. (if b then before (signed s.positive term) (rests_of s.rest (arguments_of term)) else []) ++ flat_map (λ x. clauses_by x term) ss) (no_formula s.head term other) ∙ go ss
+    go (s ∷ ss) = ap (λ b. (if b then before (signed_term s.positive term) (rests_of s.rest (arguments_of term)) else []) ++ flat_map (λ x. clauses_by x term) ss) (no_formula s.head term other) ∙ go ss
 
-module _ (s : Scheme) (term front : Term) (formula : is_formula_of s.head term ≡ true) (in_front : signed s.positive term ≡ front) where
+module _ (s : Scheme) (term front : Term) (formula : is_formula_of s.head term ≡ true) (in_front : signed_term s.positive term ≡ front) where
   -- the clauses that it gives by a scheme
   pub given : before front (rests_of s.rest (arguments_of term)) ≡ clauses_by s term
-  given = ap (λ u. before u (rests_of s.rest (arguments_of term))) (sym in_front) ∙ ap (λ b. if b then before (signed s.positive term) (rests_of s.rest (arguments_of term)) else []) (sym formula)
+  given = ap (λ u. before u (rests_of s.rest (arguments_of term))) (sym in_front) ∙ ap (λ b. if b then before (signed_term s.positive term) (rests_of s.rest (arguments_of term)) else []) (sym formula)
 
   -- are right by the rule
   pub right : (rule : Rule) → kind_of rule ≡ states s → (ls : Clause) → Contains (rests_of s.rest (arguments_of term)) ls → IsRight rule [] none (front ∷ ls)
@@ -98,7 +98,7 @@ module _ (t : TableView) (s : Shape) (term : Term) (means : term ≡ shape_term 
   rule_at k d lt = subst (λ (u : Term). IsRuleOf (head_of u) (get_or list k d)) (sym means) (each_at (IsRuleOf (head_meant t s.head)) list k d lt (rules.rules t))
 
   -- and its places
-  pub places_at : Fits t s → (k : ℕ) (d : Rule) → k < length list → HasPlaces (length (arguments_of term)) (scheme_by (get_or list k d)).rest
+  pub places_at : ShapeFits t s → (k : ℕ) (d : Rule) → k < length list → HasPlaces (length (arguments_of term)) (scheme_by (get_or list k d)).rest
   places_at fits k d lt =
       subst (λ n. HasPlaces n (scheme_by (get_or list k d)).rest) (sym (arguments_count t s term means))
       (places_there t s (scheme_by (get_or list k d)).rest fits (each_at (λ rule. HasPlaces (arity s.head) (scheme_by rule).rest) list k d lt rules.places))

@@ -12,7 +12,7 @@ use Rattle.proof_log.specs.Logs.{Logged, assumed, stepped, named, inference_of, 
 use Rattle.proof_log.proofs.Tables.{grown_same}
 use Rattle.proof_log.proofs.Logged.{conclusion_of}
 use Rattle.term_clauses.specs.Growth.{AssumesOneOf, Grows}
-use Rattle.term_clauses.specs.Stating.{listed, Widens, Says, Tells}
+use Rattle.term_clauses.specs.Stating.{listed_steps, Widens, StatesClauses, Tells}
 use Rattle.term_clauses.proofs.Arguments.{Widens-self}
 use Rattle.term_clauses.proofs.Making.{Makes-none, Makes-push, Makes-trans}
 
@@ -79,14 +79,14 @@ module _ (roots : List TermId) (t u : TableView) (old new : List Logged) (g : Gr
   all-kept (s ∷ ss) there = ap₂ (λ (x : Clause) (xs : List Clause). x ∷ xs) (stated-kept s (All-head (λ (x : StepId). x.0 < length old) s ss there)) (all-kept ss (All-tail (λ (x : StepId). x.0 < length old) s ss there))
 
   -- so do all of them
-  pub Says-kept : (steps : List StepId) (clauses : List Clause) → Says t old steps clauses → Says u new steps clauses
+  pub Says-kept : (steps : List StepId) (clauses : List Clause) → StatesClauses t old steps clauses → StatesClauses u new steps clauses
   Says-kept steps clauses says = record {
     there = λ k d lt. subst (λ n. (get_or steps k d).0 < n) (sym (ap length g.log)) (omega (arith, says.there k d lt, length-append old g.more));
     same = all-kept steps says.there ∙ says.same;
   }
 
 -- a clause more, and its number
-Says-push : (roots : List TermId) (t : TableView) (old new : List Logged) (l : Logged) (id : StepId) (steps all : List StepId) (said : List Clause) → Grows roots t t old new → IsLogOf t old → id.0 ≡ length old → new ≡ old ++ l ∷ [] → all ≡ steps ++ id ∷ [] → Says t old steps said → Says t new all (said ++ clause_at t (named l) ∷ [])
+Says-push : (roots : List TermId) (t : TableView) (old new : List Logged) (l : Logged) (id : StepId) (steps all : List StepId) (said : List Clause) → Grows roots t t old new → IsLogOf t old → id.0 ≡ length old → new ≡ old ++ l ∷ [] → all ≡ steps ++ id ∷ [] → StatesClauses t old steps said → StatesClauses t new all (said ++ clause_at t (named l) ∷ [])
 Says-push roots t old new l id steps all said g right number last pushed says =
     let kept = Says-kept roots t t old new g right steps said says in
     let count : length new ≡ length old + 1 = ap length last ∙ length-append old (l ∷ []) in
@@ -99,7 +99,7 @@ Says-push roots t old new l id steps all said g right number last pushed says =
       same = ap (map (stated t new)) pushed ∙ map-append (stated t new) steps (id ∷ []) ∙ ap₂ (λ (xs : List Clause) (x : Clause). xs ++ x ∷ []) kept.same here;
     }
 
-pub Tells-push : (roots : List TermId) (t : TableView) (old new : List Logged) (l : Logged) (id : StepId) (steps all : List StepId) → Grows roots t t old new → IsLogOf t old → id.0 ≡ length old → new ≡ old ++ l ∷ [] → all ≡ steps ++ id ∷ [] → Tells (listed t old steps) (listed t new all) (clause_at t (named l) ∷ [])
+pub Tells-push : (roots : List TermId) (t : TableView) (old new : List Logged) (l : Logged) (id : StepId) (steps all : List StepId) → Grows roots t t old new → IsLogOf t old → id.0 ≡ length old → new ≡ old ++ l ∷ [] → all ≡ steps ++ id ∷ [] → Tells (listed_steps t old steps) (listed_steps t new all) (clause_at t (named l) ∷ [])
 Tells-push roots t old new l id steps all g right number last pushed = record {
   says = λ said says. Says-push roots t old new l id steps all said g right number last pushed says;
   made = Makes-push old new l id steps all number last pushed;
@@ -110,25 +110,25 @@ module _ (t u v : TableView) (wider : Widens t u) (old new : List Logged) (right
   pub Grows-made : Grows [] u v old new → Grows [] t v old new
   Grows-made g = Grows-trans [] t u v old old new (Grows-wider [] t u old wider still) g
 
-  pub Tells-made : (steps all : List StepId) (clauses : List Clause) → Tells (listed u old steps) (listed v new all) clauses → Tells (listed t old steps) (listed v new all) clauses
+  pub Tells-made : (steps all : List StepId) (clauses : List Clause) → Tells (listed_steps u old steps) (listed_steps v new all) clauses → Tells (listed_steps t old steps) (listed_steps v new all) clauses
   Tells-made steps all clauses tells = record {
     says = λ said says. tells.says said (Says-kept [] t u old old (Grows-wider [] t u old wider still) right steps said says);
     made = tells.made;
   }
 
 -- no clause, then some, then others
-pub Tells-none : (t : TableView) (log : List Logged) (steps : List StepId) → Tells (listed t log steps) (listed t log steps) []
+pub Tells-none : (t : TableView) (log : List Logged) (steps : List StepId) → Tells (listed_steps t log steps) (listed_steps t log steps) []
 Tells-none t log steps = record {
-  says = λ said says. subst (Says t log steps) (sym (append-nil said)) says;
+  says = λ said says. subst (StatesClauses t log steps) (sym (append-nil said)) says;
   made = Makes-none log steps;
 }
 
-pub Tells-trans : (t u v : TableView) (a b c : List Logged) (one two three : List StepId) (cs ds : List Clause) → Tells (listed t a one) (listed u b two) cs → Tells (listed u b two) (listed v c three) ds → Tells (listed t a one) (listed v c three) (cs ++ ds)
+pub Tells-trans : (t u v : TableView) (a b c : List Logged) (one two three : List StepId) (cs ds : List Clause) → Tells (listed_steps t a one) (listed_steps u b two) cs → Tells (listed_steps u b two) (listed_steps v c three) ds → Tells (listed_steps t a one) (listed_steps v c three) (cs ++ ds)
 Tells-trans t u v a b c one two three cs ds f g = record {
-  says = λ said says. subst (Says v c three) (append_assoc said cs ds) (g.says (said ++ cs) (f.says said says));
+  says = λ said says. subst (StatesClauses v c three) (append_assoc said cs ds) (g.says (said ++ cs) (f.says said says));
   made = Makes-trans a b c one two three f.made g.made;
 }
 
 -- the same of clauses that are the same
-pub Tells-same : (t u : TableView) (old new : List Logged) (steps all : List StepId) (cs ds : List Clause) → cs ≡ ds → Tells (listed t old steps) (listed u new all) cs → Tells (listed t old steps) (listed u new all) ds
-Tells-same t u old new steps all cs ds e tells = subst (Tells (listed t old steps) (listed u new all)) e tells
+pub Tells-same : (t u : TableView) (old new : List Logged) (steps all : List StepId) (cs ds : List Clause) → cs ≡ ds → Tells (listed_steps t old steps) (listed_steps u new all) cs → Tells (listed_steps t old steps) (listed_steps u new all) ds
+Tells-same t u old new steps all cs ds e tells = subst (Tells (listed_steps t old steps) (listed_steps u new all)) e tells

@@ -5,7 +5,7 @@ use Rattle.std.proofs.lemmas.List.{append-nil, map-append}
 use Rattle.proof_log.specs.declared.premises.StepId.{StepId}
 use Rattle.proof_log.specs.Logs.{Logged}
 use Rattle.term_clauses.specs.Growth.{AreAllMade}
-use Rattle.term_clauses.specs.Stating.{Makes}
+use Rattle.term_clauses.specs.Stating.{ListsMade}
 
 -- numbers from one on, and then those that follow
 range_both : (a m n : ℕ) → range_with_len a (m + n) ≡ range_with_len a m ++ range_with_len (a + m) n
@@ -19,7 +19,7 @@ range_both a (suc m) n =
     ap (range_with_len a) more ∙ ap (λ ns. a ∷ ns) (range_both (a + 1) m n) ∙ ap (λ b. a ∷ range_with_len (a + 1) m ++ range_with_len b n) next
 
 -- nothing came
-pub Makes-none : (log : List Logged) (steps : List StepId) → Makes log log steps steps
+pub Makes-none : (log : List Logged) (steps : List StepId) → ListsMade log log steps steps
 Makes-none log steps = record {
   more = [];
   steps = sym (append-nil steps);
@@ -27,7 +27,7 @@ Makes-none log steps = record {
 }
 
 -- one clause came
-pub Makes-push : (old new : List Logged) (l : Logged) (id : StepId) (steps all : List StepId) → id.0 ≡ length old → new ≡ old ++ l ∷ [] → all ≡ steps ++ id ∷ [] → Makes old new steps all
+pub Makes-push : (old new : List Logged) (l : Logged) (id : StepId) (steps all : List StepId) → id.0 ≡ length old → new ≡ old ++ l ∷ [] → all ≡ steps ++ id ∷ [] → ListsMade old new steps all
 Makes-push old new l id steps all number last pushed = record {
   more = id ∷ [];
   steps = pushed;
@@ -35,7 +35,7 @@ Makes-push old new l id steps all number last pushed = record {
 }
 
 -- some came, then others
-pub Makes-trans : (a b c : List Logged) (one two three : List StepId) → Makes a b one two → Makes b c two three → Makes a c one three
+pub Makes-trans : (a b c : List Logged) (one two three : List StepId) → ListsMade a b one two → ListsMade b c two three → ListsMade a c one three
 Makes-trans a b c one two three f g =
     let number : StepId → ℕ = λ s. s.0 in
     let m = length f.more in
@@ -56,5 +56,5 @@ Makes-trans a b c one two three f g =
     }
 
 -- all that were listed came, where none was listed before
-pub all_made : (old new : List Logged) (before after : List StepId) → before ≡ [] → Makes old new before after → AreAllMade old new after
+pub all_made : (old new : List Logged) (before after : List StepId) → before ≡ [] → ListsMade old new before after → AreAllMade old new after
 all_made old new before after none made = subst (AreAllMade old new) (sym (made.steps ∙ ap (λ ss. ss ++ made.more) none)) made.all

@@ -9,7 +9,7 @@ use Rattle.spec_sorts.specs.Subsets.{arguments_of, AreAmong, IsClosed}
 use Rattle.term_core.specs.declared.ids.TermId.{TermId}
 use Rattle.term_core.specs.Tables.{TableView, AreDifferent, term_at, clause_at, Shape, shape_term}
 use Rattle.term_core.proofs.TermsClosed.{argument_of, argument_in}
-use Rattle.term_clauses.specs.Marks.{IsMarked, Marks, marked, AreMarksOf}
+use Rattle.term_clauses.specs.Marks.{IsMarked, MarksTerms, marked, AreMarksOf}
 use Rattle.term_clauses.proofs.Marked.{marked_below, in_marked, HasMarked, from_marked, marked_once}
 
 -- The terms are marked, and with each marked number from `from` on the arguments of its term.
@@ -24,7 +24,7 @@ keeps : (ts : List Term) (old new : List Bool) (u : Term) → ((k : ℕ) → IsM
 keeps ts old new u kept h = (h.0, kept h.0 h.1, h.2)
 
 module _ (t : TableView) (roots : List TermId) (there : AreAmong (clause_at t roots) (subterms_of (clause_at t roots))) (closed : IsClosed (subterms_of (clause_at t roots))) where
-  pub marks_start : (old new : List Bool) → length old ≤ length t.terms → ((k : ℕ) → IsMarked old k → ⊥) → Marks old roots new → IsMarkedFrom t roots (length new) new
+  pub marks_start : (old new : List Bool) → length old ≤ length t.terms → ((k : ℕ) → IsMarked old k → ⊥) → MarksTerms old roots new → IsMarkedFrom t roots (length new) new
   marks_start old new short empty m = record {
     short = omega (arith, m.length);
     starts = m.there;
@@ -36,7 +36,7 @@ module _ (t : TableView) (roots : List TermId) (there : AreAmong (clause_at t ro
   }
 
   -- the arguments of one marked term more
-  pub marks_more : (n : ℕ) (old new : List Bool) (s : Shape) → IsMarkedFrom t roots (suc n) old → IsMarked old n → get_or t.terms n no_term ≡ shape_term t s → All (λ (id : TermId). id.0 < n) s.arguments → Marks old s.arguments new → IsMarkedFrom t roots n new
+  pub marks_more : (n : ℕ) (old new : List Bool) (s : Shape) → IsMarkedFrom t roots (suc n) old → IsMarked old n → get_or t.terms n no_term ≡ shape_term t s → All (λ (id : TermId). id.0 < n) s.arguments → MarksTerms old s.arguments new → IsMarkedFrom t roots n new
   marks_more n old new s h here means below m = record {
     short = omega (arith, m.length, h.short);
     starts = λ id id_in. m.kept id.0 (h.starts id id_in);

@@ -9,7 +9,7 @@ use Rattle.spec_sorts.specs.Subsets.{arguments_of}
 use Rattle.spec_sorts.proofs.WellSorted.{before}
 use Rattle.spec_proofs.specs.declared.Rest.{Rest}
 use Rattle.spec_proofs.specs.declared.Rest.TheVariants.{Nothing, One, Two, AnyOne, Each, Innermost}
-use Rattle.spec_rules.specs.Schemes.{signed, side_of, innermost}
+use Rattle.spec_rules.specs.Schemes.{signed_term, side_of, innermost}
 use Rattle.spec_derivations.proofs.Below.{argument_sorted, head_fits}
 use Rattle.spec_derivations.proofs.Formulas.{each_truth, is_core, core_truth}
 use Rattle.term_core.specs.declared.ids.TermId.{TermId}
@@ -31,7 +31,7 @@ module _ (symbols : List Symbol) where
       record { term = before symbols [] Not (t ∷ []) takes tt (f.term, tt); sort = refl }
 
   -- and so it is with either sign
-  pub formula_signed : (p : Bool) (t : Term) → IsFormulaOver symbols t → IsFormulaOver symbols (signed p t)
+  pub formula_signed : (p : Bool) (t : Term) → IsFormulaOver symbols t → IsFormulaOver symbols (signed_term p t)
   formula_signed true t f = f
   formula_signed false t f = formula_negated t f
 
@@ -49,7 +49,7 @@ module _ (symbols : List Symbol) where
   single_formulas (Two x y) ts each places =
       All-cons (IsFormulaOver symbols) (side_of ts x) (side_of ts y ∷ []) (formula_signed x.positive _ (each x.place no_term places.0))
       (All-cons (IsFormulaOver symbols) (side_of ts y) [] (formula_signed y.positive _ (each y.place no_term places.1)) (All-nil (IsFormulaOver symbols)))
-  single_formulas (Each p) ts each places = All-map (IsFormulaOver symbols) (signed p) ts (λ k d lt. formula_signed p (get_or ts k d) (each k d lt))
+  single_formulas (Each p) ts each places = All-map (IsFormulaOver symbols) (signed_term p) ts (λ k d lt. formula_signed p (get_or ts k d) (each k d lt))
   single_formulas (AnyOne p) ts each places = All-nil (IsFormulaOver symbols)
   single_formulas Innermost ts each places = All-nil (IsFormulaOver symbols)
 
@@ -107,7 +107,7 @@ module _ (t u : TableView) (wider : Widens t u) where
   }
 
   -- what stands for it with a sign there
-  pub signed_in : (p : Bool) (id front : TermId) → IsFormulaIn t id → IsIn u front → term_at u front ≡ signed p (term_at t id) → IsFormulaIn u front
+  pub signed_in : (p : Bool) (id front : TermId) → IsFormulaIn t id → IsIn u front → term_at u front ≡ signed_term p (term_at t id) → IsFormulaIn u front
   signed_in p id front f there is = (
     there,
     subst (λ (fs : List Symbol). IsFormulaOver fs (term_at u front)) (sym (symbols_same t u wider))

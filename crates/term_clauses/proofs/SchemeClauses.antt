@@ -7,7 +7,7 @@ use Rattle.spec_sorts.specs.Terms.{Term, no_term}
 use Rattle.spec_sorts.specs.Literals.{Clause}
 use Rattle.spec_proofs.specs.declared.Rule.{Rule}
 use Rattle.spec_rules.specs.Rules.{IsRight}
-use Rattle.spec_rules.specs.Schemes.{signed}
+use Rattle.spec_rules.specs.Schemes.{signed_term}
 use Rattle.term_clauses.specs.Stating.{before}
 
 -- a clause more after those of the arguments up to here
@@ -18,7 +18,7 @@ clauses_more front f xs k d lt =
     ∙ ap (before front) (sym (map-append f (take k xs) (get_or xs k d ∷ [])) ∙ ap (map f) (sym (take_more xs k d lt)))
 
 -- a step is right by terms that are the same
-pub right_same : (rule : Rule) (front front2 : Term) (args args2 : List Term) (p : Bool) (k : ℕ) → front2 ≡ front → args2 ≡ args → k < length args → ((u : Term) → Contains args u → IsRight rule [] none (front ∷ signed p u ∷ [])) → IsRight rule [] none (front2 ∷ signed p (get_or args2 k no_term) ∷ [])
+pub right_same : (rule : Rule) (front front2 : Term) (args args2 : List Term) (p : Bool) (k : ℕ) → front2 ≡ front → args2 ≡ args → k < length args → ((u : Term) → Contains args u → IsRight rule [] none (front ∷ signed_term p u ∷ [])) → IsRight rule [] none (front2 ∷ signed_term p (get_or args2 k no_term) ∷ [])
 right_same rule front front2 args args2 p k same one lt right =
-    subst (λ (t : Term). IsRight rule [] none (t ∷ signed p (get_or args2 k no_term) ∷ [])) (sym same)
-    (subst (λ (ts : List Term). IsRight rule [] none (front ∷ signed p (get_or ts k no_term) ∷ [])) (sym one) (right (get_or args k no_term) (Contains-get_or args k no_term lt)))
+    subst (λ (t : Term). IsRight rule [] none (t ∷ signed_term p (get_or args2 k no_term) ∷ [])) (sym same)
+    (subst (λ (ts : List Term). IsRight rule [] none (front ∷ signed_term p (get_or ts k no_term) ∷ [])) (sym one) (right (get_or args k no_term) (Contains-get_or args k no_term lt)))

@@ -15,7 +15,7 @@ use Rattle.term_core.specs.Tables.{TableView, term_at, AreIn, clause_at, Extends
 use Rattle.term_core.proofs.TermsExtend.{clause_at-kept}
 use Rattle.proof_log.specs.Logs.{IsFormulaIn, AreFormulasIn}
 use Rattle.term_clauses.specs.SpokenTerms.{problem_in, AreSpoken, HasMore}
-use Rattle.term_clauses.specs.Stating.{Widens, Names}
+use Rattle.term_clauses.specs.Stating.{Widens, NamesTerm}
 use Rattle.term_clauses.specs.Choices.{AreComparable, truth_term}
 use Rattle.term_clauses.proofs.Arguments.{literal_more}
 use Rattle.term_clauses.proofs.Parts.{formula_kept}
@@ -64,7 +64,7 @@ unfolding sort_of
 truth_formula symbols true = record { term = before symbols [] True [] refl tt tt; sort = refl }
 truth_formula symbols false = record { term = before symbols [] False [] refl tt tt; sort = refl }
 
-pub truth_in : (t : TableView) (b : Bool) (id : TermId) → Names t (truth_term b) id → IsFormulaIn t id
+pub truth_in : (t : TableView) (b : Bool) (id : TermId) → NamesTerm t (truth_term b) id → IsFormulaIn t id
 truth_in t b id h = (h.0, subst (IsFormulaOver t.symbols) (sym h.1) (truth_formula t.symbols b))
 
 -- formulas have one sort

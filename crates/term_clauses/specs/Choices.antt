@@ -26,7 +26,7 @@ abbrev pub IsNoChoice : Term → Type 0
 IsNoChoice t = (branch_equalities t ≡ []) × (choice_clauses t ≡ [])
 
 -- The term is a choice between terms of another sort than Bool, with these parts.
-pub record IsChoice (t : TableView) (id : TermId) (x : Choice) : Type 0 where
+pub record IsIteTerm (t : TableView) (id : TermId) (x : Choice) : Type 0 where
   -- what chooses is a formula
   pub condition : IsFormulaIn t x.condition
   -- the first term has the sort of the choice

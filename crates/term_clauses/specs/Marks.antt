@@ -11,8 +11,8 @@ use Rattle.term_clauses.specs.SpokenTerms.{AreRising}
 abbrev pub IsMarked : List Bool → ℕ → Type 0
 IsMarked marks k = slice_index_or marks k false ≡ true
 
--- Marks with those of some numbers more.
-pub record Marks (old : List Bool) (ids : List TermId) (new : List Bool) : Type 0 where
+-- MarksTerms with those of some numbers more.
+pub record MarksTerms (old : List Bool) (ids : List TermId) (new : List Bool) : Type 0 where
   -- there are as many
   pub length : length new ≡ length old
   -- what was marked is

@@ -8,7 +8,7 @@ use Rattle.spec_sorts.specs.Literals.{Clause}
 use Rattle.spec_proofs.specs.declared.Rule.{Rule}
 use Rattle.spec_proofs.specs.declared.Rest.{Rest}
 use Rattle.spec_proofs.specs.declared.Rest.TheVariants.{Nothing, One, Two, AnyOne, Each, Innermost}
-use Rattle.spec_rules.specs.Schemes.{signed, side_of, Scheme, true_scheme, Kind, states, kind_of, clauses_by}
+use Rattle.spec_rules.specs.Schemes.{signed_term, side_of, Scheme, true_scheme, Kind, states, kind_of, clauses_by}
 use Rattle.spec_derivations.specs.Base.{clauses_of}
 use Rattle.term_core.specs.declared.nodes.Head.{Head as NodeHead}
 use Rattle.term_core.specs.declared.ids.TermId.{TermId}
@@ -44,14 +44,14 @@ pub record ComesBefore (t : TableView) (id front : TermId) : Type 0 where
   pub first : IsFormulaIn t front
 
 -- The numbers are those of these clauses, in their order.
-pub record Says (t : TableView) (log : List Logged) (steps : List StepId) (clauses : List Clause) : Type 0 where
+pub record StatesClauses (t : TableView) (log : List Logged) (steps : List StepId) (clauses : List Clause) : Type 0 where
   -- each is a number of the log
   pub there : All (λ s. s.0 < length log) steps
   -- the clauses
   pub same : map (stated t log) steps ≡ clauses
 
 -- After the numbers that were there stand those of all that came into the log, in order and each once.
-pub record Makes (old new : List Logged) (before after : List StepId) : Type 0 where
+pub record ListsMade (old new : List Logged) (before after : List StepId) : Type 0 where
   -- the numbers that came
   pub more : List StepId
   -- they come after those that were there
@@ -69,19 +69,19 @@ pub record Listed : Type 0 where
   pub steps : List StepId
 
 -- a table, a log and numbers
-abbrev pub listed : TableView → List Logged → List StepId → Listed
-listed t log steps = record { table = t; log = log; steps = steps }
+abbrev pub listed_steps : TableView → List Logged → List StepId → Listed
+listed_steps t log steps = record { table = t; log = log; steps = steps }
 
 -- These clauses came into the log, and their numbers stand after those that were there.
 pub record Tells (old new : Listed) (clauses : List Clause) : Type 0 where
   -- what the numbers say
-  pub says : (said : List Clause) → Says old.table old.log old.steps said → Says new.table new.log new.steps (said ++ clauses)
+  pub says : (said : List Clause) → StatesClauses old.table old.log old.steps said → StatesClauses new.table new.log new.steps (said ++ clauses)
   -- nothing came that has no number among them
-  pub made : Makes old.log new.log old.steps new.steps
+  pub made : ListsMade old.log new.log old.steps new.steps
 
 -- the number is the table's, and means this term
-abbrev pub Names : TableView → Term → TermId → Type 0
-Names t u id = IsIn t id × (term_at t id ≡ u)
+abbrev pub NamesTerm : TableView → Term → TermId → Type 0
+NamesTerm t u id = IsIn t id × (term_at t id ≡ u)
 
 -- the numbers are the table's, and mean this clause
 abbrev pub NamesAll : TableView → Clause → List TermId → Type 0
@@ -109,7 +109,7 @@ abbrev pub single : Rest → List Term → Clause
 single Nothing ts = []
 single (One x) ts = side_of ts x ∷ []
 single (Two x y) ts = side_of ts x ∷ side_of ts y ∷ []
-single (Each p) ts = map (signed p) ts
+single (Each p) ts = map (signed_term p) ts
 single r ts = []
 
 -- the scheme has one clause, whatever the arguments are

@@ -9,8 +9,8 @@ ghost use Rattle.term_core.specs.Tables.{term_at, IsIn};
 ghost use Rattle.proof_log.specs.Logs.{IsFormulaIn, IsLogOf};
 ghost use Rattle.proof_log.specs.Theories.{IsTermIn};
 ghost use Rattle.term_clauses.specs.Growth.{Grows};
-ghost use Rattle.term_clauses.specs.Stating.{Widens, Names, listed, Tells};
-ghost use Rattle.term_clauses.specs.Choices.{AreComparable, equality_at, IsNoChoice, IsChoice};
+ghost use Rattle.term_clauses.specs.Stating.{Widens, NamesTerm, listed_steps, Tells};
+ghost use Rattle.term_clauses.specs.Choices.{AreComparable, equality_at, IsNoChoice, IsIteTerm};
 
 use crate::signs::signed;
 use crate::steps::state;
@@ -35,7 +35,7 @@ pub(crate) struct Choice {
 /// Gives the parts of a choice between terms of another sort than Bool; `None` where the term is none.
 pub(crate) fn choice_of(table: &TermTable, id: TermId) -> Option<Choice>
     requires { IsTermIn table.now id }
-    ensures { MatchOption result (IsNoChoice (term_at table.now id)) (λ x. IsChoice table.now id x) }
+    ensures { MatchOption result (IsNoChoice (term_at table.now id)) (λ x. IsIteTerm table.now id x) }
 {
     if is_formula(table, id) {
         return None;
@@ -69,7 +69,7 @@ pub fn equality(
 ) -> Result<TermId, NoMemory>
     requires { AreComparable table.old a b }
     ensures wider { Widens table.old table.new }
-    ensures means { IfOk result (Names table.new (equality_at table.old a b)) }
+    ensures means { IfOk result (NamesTerm table.new (equality_at table.old a b)) }
 {
     let node = Node::new(alloc, Head::Equal, &[a, b])?;
     table.put(node)
@@ -86,8 +86,8 @@ pub fn state_choice(
     requires there { IsTermIn table.old id }
     requires log { IsLogOf table.old log.old }
     ensures grows { Grows [] table.old table.new log.old log.new }
-    ensures tells { OnOk result (Tells (listed table.old log.old steps.old.items)
-        (listed table.new log.new steps.new.items) (choice_clauses (term_at table.old id))) }
+    ensures tells { OnOk result (Tells (listed_steps table.old log.old steps.old.items)
+        (listed_steps table.new log.new steps.new.items) (choice_clauses (term_at table.old id))) }
 {
     proof_log::laws::logs_stand_in_grown_tables();
     let Some(choice) = choice_of(table, id) else {
@@ -132,8 +132,8 @@ fn state_branch(
     requires log { IsLogOf table.old log.old }
     requires right { IsRight rule [] none (term_at table.old front ∷ equality_at table.old id branch ∷ []) }
     ensures grows { Grows [] table.old table.new log.old log.new }
-    ensures tells { OnOk result (Tells (listed table.old log.old steps.old.items)
-        (listed table.new log.new steps.new.items)
+    ensures tells { OnOk result (Tells (listed_steps table.old log.old steps.old.items)
+        (listed_steps table.new log.new steps.new.items)
         ((term_at table.old front ∷ equality_at table.old id branch ∷ []) ∷ [])) }
 {
     proof_log::laws::logs_stand_in_grown_tables();

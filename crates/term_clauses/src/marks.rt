@@ -2,7 +2,7 @@
 
 ghost use Rattle.std.specs.Prelude.{ℕ, ◌<◌, ◌≤◌, length, All, IfOk};
 ghost use Rattle.term_core.specs.Tables.{IsIn, AreIn};
-ghost use Rattle.term_clauses.specs.Marks.{Marks, IsMarked, AreMarksOf, AreMarked};
+ghost use Rattle.term_clauses.specs.Marks.{MarksTerms, IsMarked, AreMarksOf, AreMarked};
 
 use spec_sorts::subterms::subterms_are_least;
 use std::alloc::Global;
@@ -72,7 +72,7 @@ fn mark_subterms(table: &TermTable, roots: &[TermId], marks: &mut [bool])
 /// Marks these numbers.
 fn mark_each(marks: &mut [bool], ids: &[TermId])
     requires { All (λ id. id.0 < length marks.old) ids.now }
-    ensures { Marks marks.old ids.now marks.new }
+    ensures { MarksTerms marks.old ids.now marks.new }
 {
     'ids: for id in ids.iter() {
         marks[id.0 as usize] = true;

@@ -4,11 +4,11 @@ ghost use Rattle.std.specs.Prelude.{◌≡◌, ◌<◌, [], ◌∷◌, length, m
 ghost use Rattle.spec_sorts.specs.Terms.{negated, no_term};
 ghost use Rattle.spec_sorts.specs.Subsets.{arguments_of};
 ghost use Rattle.spec_sorts.specs.WellSorted.{IsFormulaOver};
-ghost use Rattle.spec_rules.specs.Schemes.{signed, side_of, innermost};
+ghost use Rattle.spec_rules.specs.Schemes.{signed_term, side_of, innermost};
 ghost use Rattle.term_core.specs.Tables.{term_at, IsIn};
 ghost use Rattle.rule_bool.specs.Schemes.{HasPlaces};
 ghost use Rattle.proof_log.specs.Logs.{IsFormulaIn};
-ghost use Rattle.term_clauses.specs.Stating.{ComesBefore, Names, NamesAll, Widens, IsSingle, single};
+ghost use Rattle.term_clauses.specs.Stating.{ComesBefore, NamesTerm, NamesAll, Widens, IsSingle, single};
 
 use spec_proofs::{Rest, Side};
 use std::alloc::Global;
@@ -19,7 +19,7 @@ use world_io::NoMemory;
 fn negation(alloc: Global, table: &mut TermTable, id: TermId) -> Result<TermId, NoMemory>
     requires { IsFormulaIn table.old id }
     ensures wider { Widens table.old table.new }
-    ensures means { IfOk result (Names table.new (negated (term_at table.old id))) }
+    ensures means { IfOk result (NamesTerm table.new (negated (term_at table.old id))) }
 {
     let node = Node::new(alloc, Head::Not, &[id])?;
     table.put(node)
@@ -34,7 +34,7 @@ pub fn signed(
 ) -> Result<TermId, NoMemory>
     requires { IsFormulaIn table.old id }
     ensures wider { Widens table.old table.new }
-    ensures means { IfOk result (Names table.new (signed positive (term_at table.old id))) }
+    ensures means { IfOk result (NamesTerm table.new (signed_term positive (term_at table.old id))) }
 {
     if positive {
         return Ok(id);
@@ -58,7 +58,7 @@ fn side(alloc: Global, table: &mut TermTable, id: TermId, side: Side) -> Result<
     requires arguments { All (IsFormulaOver table.old.symbols) (arguments_of (term_at table.old id)) }
     requires place { side.place < length (arguments_of (term_at table.old id)) }
     ensures wider { Widens table.old table.new }
-    ensures means { IfOk result (Names table.new (side_of (arguments_of (term_at table.old id)) side)) }
+    ensures means { IfOk result (NamesTerm table.new (side_of (arguments_of (term_at table.old id)) side)) }
 {
     let term = argument(table, id, side.place);
     signed(alloc, table, term, side.positive)
@@ -130,7 +130,7 @@ fn with_each(
     requires { ComesBefore table.old id front }
     ensures wider { Widens table.old table.new }
     ensures means { IfOk result (λ v. NamesAll table.new
-        (term_at table.old front ∷ map (signed positive) (arguments_of (term_at table.old id))) v.items) }
+        (term_at table.old front ∷ map (signed_term positive) (arguments_of (term_at table.old id))) v.items) }
 {
     let count = argument_count(table, id);
     let mut clause = Vec::new(alloc);

@@ -8,7 +8,7 @@ ghost use Rattle.term_core.specs.Tables.{term_at};
 ghost use Rattle.proof_log.specs.Logs.{AreFormulasIn};
 ghost use Rattle.proof_log.specs.Theories.{IsTermIn};
 ghost use Rattle.term_clauses.specs.SpokenTerms.{problem_in, AreSpoken, HasMore};
-ghost use Rattle.term_clauses.specs.Stating.{Widens, Names};
+ghost use Rattle.term_clauses.specs.Stating.{Widens, NamesTerm};
 ghost use Rattle.term_clauses.specs.Marks.{marked};
 ghost use Rattle.term_clauses.specs.Choices.{AreComparable, equality_at, truth_term, truth_fact};
 
@@ -75,7 +75,7 @@ fn add_truth_fact(
 /// Puts the term of a truth value, or finds it.
 fn truth(alloc: Global, table: &mut TermTable, value: bool) -> Result<TermId, NoMemory>
     ensures wider { Widens table.old table.new }
-    ensures means { IfOk result (Names table.new (truth_term value)) }
+    ensures means { IfOk result (NamesTerm table.new (truth_term value)) }
 {
     let head = if value { Head::True } else { Head::False };
     let node = Node::new(alloc, head, &[])?;

@@ -5,14 +5,14 @@ ghost use Rattle.spec_sorts.specs.Terms.{Term};
 ghost use Rattle.spec_text.specs.Trees.{none};
 ghost use Rattle.spec_sorts.specs.Subsets.{arguments_of};
 ghost use Rattle.spec_sorts.specs.WellSorted.{IsWellSorted};
-ghost use Rattle.spec_rules.specs.Schemes.{signed, innermost, rests_of, clauses_by};
+ghost use Rattle.spec_rules.specs.Schemes.{signed_term, innermost, rests_of, clauses_by};
 ghost use Rattle.spec_rules.specs.Rules.{IsRight};
 ghost use Rattle.spec_derivations.specs.Base.{clauses_of};
 ghost use Rattle.term_core.specs.Tables.{term_at, IsIn};
 ghost use Rattle.rule_bool.specs.Schemes.{HasPlaces};
 ghost use Rattle.proof_log.specs.Logs.{IsLogOf};
 ghost use Rattle.term_clauses.specs.Growth.{Grows};
-ghost use Rattle.term_clauses.specs.Stating.{JoinsFormulas, ComesBefore, listed, Tells, head_of, scheme_by, IsRuleOf, IsSingle, single, before};
+ghost use Rattle.term_clauses.specs.Stating.{JoinsFormulas, ComesBefore, listed_steps, Tells, head_of, scheme_by, IsRuleOf, IsSingle, single, before};
 
 use crate::head_rules::rules_of;
 use crate::signs::{argument_count, innermost, signed, with_rest};
@@ -36,8 +36,8 @@ pub fn state_term(
     requires sorted { IsWellSorted table.old.symbols [] (term_at table.old id) }
     requires log { IsLogOf table.old log.old }
     ensures grows { Grows [] table.old table.new log.old log.new }
-    ensures tells { OnOk result (Tells (listed table.old log.old steps.old.items)
-        (listed table.new log.new steps.new.items) (clauses_of (term_at table.old id))) }
+    ensures tells { OnOk result (Tells (listed_steps table.old log.old steps.old.items)
+        (listed_steps table.new log.new steps.new.items) (clauses_of (term_at table.old id))) }
 {
     let node = table.node(id);
     if !are_formulas(table, node.arguments.as_slice()) {
@@ -64,8 +64,8 @@ fn state_scheme(
     requires rule { IsRuleOf (head_of (term_at table.old id)) rule }
     requires places { HasPlaces (length (arguments_of (term_at table.old id))) (scheme_by rule).rest }
     ensures grows { Grows [] table.old table.new log.old log.new }
-    ensures tells { OnOk result (Tells (listed table.old log.old steps.old.items)
-        (listed table.new log.new steps.new.items) (clauses_by (scheme_by rule) (term_at table.old id))) }
+    ensures tells { OnOk result (Tells (listed_steps table.old log.old steps.old.items)
+        (listed_steps table.new log.new steps.new.items) (clauses_by (scheme_by rule) (term_at table.old id))) }
 {
     proof_log::laws::logs_stand_in_grown_tables();
     let _ = table.node(id);
@@ -93,8 +93,8 @@ fn state_rests(
     requires right { (ls : List Term) → Contains (rests_of rest (arguments_of (term_at table.old id))) ls
         → IsRight rule [] none (term_at table.old front ∷ ls) }
     ensures grows { Grows [] table.old table.new log.old log.new }
-    ensures tells { OnOk result (Tells (listed table.old log.old steps.old.items)
-        (listed table.new log.new steps.new.items)
+    ensures tells { OnOk result (Tells (listed_steps table.old log.old steps.old.items)
+        (listed_steps table.new log.new steps.new.items)
         (before (term_at table.old front) (rests_of rest (arguments_of (term_at table.old id))))) }
 {
     match rest {
@@ -122,8 +122,8 @@ fn state_single(
     requires right { IsRight rule [] none
         (term_at table.old front ∷ single rest (arguments_of (term_at table.old id))) }
     ensures grows { Grows [] table.old table.new log.old log.new }
-    ensures tells { OnOk result (Tells (listed table.old log.old steps.old.items)
-        (listed table.new log.new steps.new.items)
+    ensures tells { OnOk result (Tells (listed_steps table.old log.old steps.old.items)
+        (listed_steps table.new log.new steps.new.items)
         ((term_at table.old front ∷ single rest (arguments_of (term_at table.old id))) ∷ [])) }
 {
     proof_log::laws::logs_stand_in_grown_tables();
@@ -146,8 +146,8 @@ fn state_innermost(
     requires right { (ls : List Term) → Contains (innermost (arguments_of (term_at table.now id))) ls
         → IsRight rule [] none (term_at table.now front ∷ ls) }
     ensures grows { Grows [] table.now table.now log.old log.new }
-    ensures tells { OnOk result (Tells (listed table.now log.old steps.old.items)
-        (listed table.now log.new steps.new.items)
+    ensures tells { OnOk result (Tells (listed_steps table.now log.old steps.old.items)
+        (listed_steps table.now log.new steps.new.items)
         (before (term_at table.now front) (innermost (arguments_of (term_at table.now id))))) }
 {
     let Some(inner) = innermost(table, id) else {
@@ -174,11 +174,11 @@ fn state_any(
     requires there { ComesBefore table.old id front }
     requires log { IsLogOf table.old log.old }
     requires right { (u : Term) → Contains (arguments_of (term_at table.old id)) u
-        → IsRight rule [] none (term_at table.old front ∷ signed positive u ∷ []) }
+        → IsRight rule [] none (term_at table.old front ∷ signed_term positive u ∷ []) }
     ensures grows { Grows [] table.old table.new log.old log.new }
-    ensures tells { OnOk result (Tells (listed table.old log.old steps.old.items)
-        (listed table.new log.new steps.new.items)
-        (before (term_at table.old front) (map (λ u. signed positive u ∷ []) (arguments_of (term_at table.old id))))) }
+    ensures tells { OnOk result (Tells (listed_steps table.old log.old steps.old.items)
+        (listed_steps table.new log.new steps.new.items)
+        (before (term_at table.old front) (map (λ u. signed_term positive u ∷ []) (arguments_of (term_at table.old id))))) }
 {
     let count = argument_count(table, id);
     'places: for place in 0..count {

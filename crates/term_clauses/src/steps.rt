@@ -6,7 +6,7 @@ ghost use Rattle.spec_rules.specs.Rules.{IsRight};
 ghost use Rattle.term_core.specs.Tables.{clause_at};
 ghost use Rattle.proof_log.specs.Logs.{AreFormulasIn, IsLogOf};
 ghost use Rattle.term_clauses.specs.Growth.{Grows};
-ghost use Rattle.term_clauses.specs.Stating.{listed, Tells};
+ghost use Rattle.term_clauses.specs.Stating.{listed_steps, Tells};
 
 use proof_log::{Clause, LogFault, Numbers, ProofLog, Rule, Step, StepId, StepIds};
 use spec_rules::laws::wide_steps_are_not_right;
@@ -27,8 +27,8 @@ pub fn state(
     requires clause { AreFormulasIn table.now clause.items }
     requires right { IsRight rule [] none (clause_at table.now clause.items) }
     ensures grows { Grows [] table.now table.now log.old log.new }
-    ensures tells { OnOk result (Tells (listed table.now log.old steps.old.items)
-        (listed table.now log.new steps.new.items) (clause_at table.now clause.items ∷ [])) }
+    ensures tells { OnOk result (Tells (listed_steps table.now log.old steps.old.items)
+        (listed_steps table.now log.new steps.new.items) (clause_at table.now clause.items ∷ [])) }
 {
     wide_steps_are_not_right();
     let step = Step {

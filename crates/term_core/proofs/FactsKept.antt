@@ -7,7 +7,7 @@ use Rattle.std.proofs.Math.Seq.{get_or-append_seam}
 use Rattle.spec_text.specs.Bytes.{Name}
 use Rattle.spec_sorts.specs.Terms.{Term, no_term}
 use Rattle.term_core.specs.declared.facts.Facts.{Facts}
-use Rattle.term_core.specs.Facts.{IsFacts, no_facts, AreFacts, IsKept}
+use Rattle.term_core.specs.Facts.{IsFacts, no_facts, AreFacts, TableFits}
 use Rattle.term_core.specs.declared.ids.TermId.{TermId}
 use Rattle.term_core.specs.declared.nodes.Node.{Node}
 use Rattle.term_core.specs.Symbols.{SymbolsView}
@@ -55,7 +55,7 @@ module _ (sorts : List Name) where
   facts_at terms facts k f a lt e =
       subst (IsFacts sorts (get_or terms k no_term)) (sym (e ∙ get_or_default facts k f no_facts (omega (arith, a.long, lt)))) (a.right k lt)
 
-module _ (d : SymbolsView) (nodes : List Node) (facts : List Facts) (v : TableView) (kept : IsKept d nodes facts) (is : table_of d nodes ≡ v) where
+module _ (d : SymbolsView) (nodes : List Node) (facts : List Facts) (v : TableView) (kept : TableFits d nodes facts) (is : table_of d nodes ≡ v) where
   -- the same of a table
   pub kept_at : (id : TermId) (f : Facts) → IsIn v id → f ≡ get_or facts id.0 f → IsFacts v.sorts (term_at v id) f
   kept_at id f within e =

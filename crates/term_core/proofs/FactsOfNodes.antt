@@ -16,7 +16,7 @@ use Rattle.term_core.specs.declared.sorts.Sort.{Sort as TableSort}
 use Rattle.term_core.specs.declared.nodes.Head.{Head as NodeHead}
 use Rattle.term_core.specs.declared.nodes.Head.TheVariants as heads
 use Rattle.term_core.specs.Symbols.{sort_meant, symbol_at}
-use Rattle.term_core.specs.Tables.{TableView, term_at, clause_at, head_meant, takes, Shape, Fits, shape_term}
+use Rattle.term_core.specs.Tables.{TableView, term_at, clause_at, head_meant, takes, Shape, ShapeFits, shape_term}
 
 -- numbers have these heads, and those of symbols, parameters and `ite`
 abbrev pub IsOfNumbers : NodeHead → Type 0
@@ -136,7 +136,7 @@ ite_long (Truth ∷ s ∷ t ∷ []) e = refl
 ite_long _ e = cc
 
 -- what fits with the head `ite` has three arguments
-pub ite_fits : (t : TableView) (s : Shape) → Fits t s → s.head ≡ heads.Ite → length s.arguments ≡ 3
+pub ite_fits : (t : TableView) (s : Shape) → ShapeFits t s → s.head ≡ heads.Ite → length s.arguments ≡ 3
 ite_fits t s f e =
     sym (length-map s.arguments (term_at t)) ∙ sym (length-map (clause_at t s.arguments) sort_of)
     ∙ ite_long (map sort_of (clause_at t s.arguments)) (ap (λ h. takes (head_meant t h) (map sort_of (clause_at t s.arguments))) (sym e) ∙ f.sorts)

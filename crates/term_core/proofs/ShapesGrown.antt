@@ -8,7 +8,7 @@ use Rattle.spec_text.specs.Bytes.{Name}
 use Rattle.spec_sorts.specs.Terms.{Symbol, Term, no_term}
 use Rattle.term_core.specs.declared.nodes.Node.{Node}
 use Rattle.term_core.specs.Symbols.{SymbolsView}
-use Rattle.term_core.specs.Tables.{view, Shape, shape_of, shapes_of, no_shape, shape_term, Fits, Extends, AreBefore, grown}
+use Rattle.term_core.specs.Tables.{view, Shape, shape_of, shapes_of, no_shape, shape_term, ShapeFits, Extends, AreBefore, grown}
 use Rattle.term_core.proofs.TermsExtend.{Fits-kept, shape_term-kept}
 
 pub more_terms : (d : SymbolsView) (done more : List Term) → Extends (view d done) (view d (done ++ more))
@@ -29,7 +29,7 @@ pub record IsAt (d : SymbolsView) (terms : List Term) (s : Shape) (j : ℕ) : Ty
   pub front : List Term
   pub more : List Term
   pub long : length front ≡ j
-  pub fits : Fits (view d front) s
+  pub fits : ShapeFits (view d front) s
   pub whole : terms ≡ front ++ (shape_term (view d front) s ∷ more)
 
 module _ (d : SymbolsView) where
@@ -84,7 +84,7 @@ module _ (d : SymbolsView) where
       let t = written done s in
       grown-at (done ++ t ∷ []) ss i j b.1 (omega (arith, within)) (omega (arith, at, length-append done (t ∷ [])))
 
-  pub AreBefore-push : (done : List Term) (ss : List Shape) (s : Shape) → AreBefore d done ss → Fits (view d (grown d done ss)) s → AreBefore d done (ss ++ s ∷ [])
+  pub AreBefore-push : (done : List Term) (ss : List Shape) (s : Shape) → AreBefore d done ss → ShapeFits (view d (grown d done ss)) s → AreBefore d done (ss ++ s ∷ [])
   AreBefore-push done [] s b last = (last, tt)
   AreBefore-push done (u ∷ ss) s b last = (b.0, AreBefore-push (done ++ written done u ∷ []) ss s b.1 last)
 
@@ -119,5 +119,5 @@ module _ (d : SymbolsView) (terms : List Term) (s : Shape) (j : ℕ) (here : IsA
       let t = shape_term (view d here.front) s in
       (λ i. get_or (here.whole i) (sym here.long i) no_term) ∙ get_or-append_seam here.front t here.more no_term ∙ sym (shape_term-kept _ _ extends s here.fits)
 
-  pub at-fits : Fits (view d terms) s
+  pub at-fits : ShapeFits (view d terms) s
   at-fits = Fits-kept _ _ extends s here.fits

@@ -7,7 +7,7 @@ use Rattle.term_core.specs.declared.nodes.Node.{Node}
 use Rattle.term_core.specs.contracts.nodes.NodePartialEq.TheImpl.{ghosts}
 use Rattle.term_core.specs.Symbols.{SymbolsView}
 use Rattle.term_core.specs.Tables.{TableView, declared_in, node_term, term_at, IsIn, IsPlaced, table_of, Extends}
-use Rattle.term_core.specs.Facts.{IsFacts, AreFacts, IsKept}
+use Rattle.term_core.specs.Facts.{IsFacts, AreFacts, TableFits}
 use Rattle.term_core.proofs.TermsExtend.{Extends-self}
 use Rattle.term_core.proofs.NodesPut.{Puts, puts, IsStored}
 use Rattle.term_core.proofs.TermsPut.{number, grows, puts_whole, puts_there, puts_kept, puts_once, puts_added, puts_known}
@@ -17,7 +17,7 @@ use Rattle.term_core.proofs.FactsKept.{facts_push}
 pub same_extends : (t u : TableView) → u ≡ t → Extends t u × (declared_in u ≡ declared_in t)
 same_extends t u is = (subst (Extends t) (sym is) (Extends-self t), ap declared_in is)
 
-module _ (d : SymbolsView) (old : List Node) (facts : List Facts) (v : TableView) (kept : IsKept d old facts) (is : table_of d old ≡ v) (node : Node) (fits : IsPlaced v node) where
+module _ (d : SymbolsView) (old : List Node) (facts : List Facts) (v : TableView) (kept : TableFits d old facts) (is : table_of d old ≡ v) (node : Node) (fits : IsPlaced v node) where
   placed : IsPlaced (table_of d old) node
   placed = subst (λ (t : TableView). IsPlaced t node) (sym is) fits
 
@@ -45,7 +45,7 @@ module _ (d : SymbolsView) (old : List Node) (facts : List Facts) (v : TableView
     put_added = subst (λ (t : TableView). (table_of d new ≡ t) ⊎ ((table_of d new).terms ≡ t.terms ++ node_term t node ∷ [])) is (puts_added d old node place kept.whole placed new here)
 
     -- where the node stands last, so do its facts
-    pub put_facts : (fs : List Facts) (f : Facts) → new ≡ old ++ node ∷ [] → fs ≡ facts ++ f ∷ [] → IsFacts v.sorts (node_term v node) f → IsKept d new fs
+    pub put_facts : (fs : List Facts) (f : Facts) → new ≡ old ++ node ∷ [] → fs ≡ facts ++ f ∷ [] → IsFacts v.sorts (node_term v node) f → TableFits d new fs
     put_facts fs f last more right = record {
       whole = puts_whole d old node place kept.whole placed new here;
       right = subst (AreFacts d.sorts (table_of d new).terms) (sym more)

@@ -15,7 +15,7 @@ use Rattle.term_core.specs.declared.nodes.Head.TheVariants as heads
 use Rattle.term_core.specs.declared.nodes.Node.{Node}
 use Rattle.term_core.specs.NameLists.{HaveNoTwice}
 use Rattle.term_core.specs.Symbols.{SymbolsView, HasSortIn, sort_meant, no_symbol, symbol_at, names_of, IsSymbol, AreDeclared}
-use Rattle.term_core.specs.Tables.{view, AreIn, clause_at, head_over, IsOver, Shape, no_shape, shape_of, shapes_of, Fits, shape_term, AreDifferent, grown, IsWhole}
+use Rattle.term_core.specs.Tables.{view, AreIn, clause_at, head_over, IsHeadIn, Shape, no_shape, shape_of, shapes_of, ShapeFits, shape_term, AreDifferent, grown, NodesFit}
 use Rattle.term_core.proofs.ShapesGrown.{IsAt, grown-at, terms-length, at-term, at-fits}
 
 abbrev IsApply : Head → Type 0
@@ -94,7 +94,7 @@ one_symbol symbols a b apart in_a in_b e =
     ap (λ n. record { 0 = n }) (apart a.0 b.0 (omega (arith, long, in_a)) (omega (arith, long, in_b)) (at_a ∙ ap name e ∙ sym at_b))
 
 -- heads that are read alike are one
-one_head : (d : SymbolsView) (g h : NodeHead) → AreDeclared d.sorts d.symbols → IsOver d.sorts d.symbols g → IsOver d.sorts d.symbols h → head_over d.sorts d.symbols g ≡ head_over d.sorts d.symbols h → g ≡ h
+one_head : (d : SymbolsView) (g h : NodeHead) → AreDeclared d.sorts d.symbols → IsHeadIn d.sorts d.symbols g → IsHeadIn d.sorts d.symbols h → head_over d.sorts d.symbols g ≡ head_over d.sorts d.symbols h → g ≡ h
 one_head d (heads.Apply a) (heads.Apply b) apart in_g in_h e = ap heads.Apply (one_symbol d.symbols a b apart.names_apart in_g in_h (ap symbol_in e))
 one_head d (heads.Apply a) _ apart in_g in_h e = absurd (subst IsApply e tt)
 one_head d _ (heads.Apply b) apart in_g in_h e = absurd (subst IsApply (sym e) tt)
@@ -134,13 +134,13 @@ module _ (terms : List Term) (k : ℕ) (told : (i j : ℕ) → i < k → j < len
 
   -- so is what is written
   pub one_shape : (d : SymbolsView) (s u : Shape) → AreDeclared d.sorts d.symbols → ((j : ℕ) (x : TermId) → j < length s.arguments → (get_or s.arguments j x).0 < k)
-      → IsOver d.sorts d.symbols s.head → Fits (view d terms) u → shape_term (view d terms) s ≡ shape_term (view d terms) u → s ≡ u
+      → IsHeadIn d.sorts d.symbols s.head → ShapeFits (view d terms) u → shape_term (view d terms) s ≡ shape_term (view d terms) u → s ≡ u
   one_shape d s u apart low here fits e =
       let heads_one = one_head d s.head u.head apart here fits.head (ap head_in e) in
       let lists_one = one_list d s.arguments u.arguments low fits.arguments (sym (list_of-terms_of _) ∙ ap terms_in e ∙ list_of-terms_of _) in
       λ i. record { head = heads_one i; arguments = lists_one i }
 
-module _ (d : SymbolsView) (nodes : List Node) (whole : IsWhole d nodes) where
+module _ (d : SymbolsView) (nodes : List Node) (whole : NodesFit d nodes) where
   abbrev terms : List Term
   terms = grown d [] (shapes_of nodes)
 

@@ -13,7 +13,7 @@ use Rattle.term_core.specs.declared.nodes.Head.{Head as NodeHead}
 use Rattle.term_core.specs.declared.nodes.Head.TheVariants as heads
 use Rattle.term_core.specs.declared.nodes.Node.{Node}
 use Rattle.term_core.specs.Symbols.{SymbolsView, no_symbol}
-use Rattle.term_core.specs.Tables.{TableView, view, term_at, IsIn, head_over, IsOver, head_meant, takes, clause_at, Shape, shapes_of, no_shape, shape_term, Fits, grown, IsWhole}
+use Rattle.term_core.specs.Tables.{TableView, view, term_at, IsIn, head_over, IsHeadIn, head_meant, takes, clause_at, Shape, shapes_of, no_shape, shape_term, ShapeFits, grown, NodesFit}
 use Rattle.term_core.proofs.ShapesGrown.{at-term, at-fits}
 use Rattle.term_core.proofs.TermsApart.{at}
 
@@ -30,15 +30,15 @@ pub term_there : (t : TableView) (id : TermId) → IsIn t id → Contains t.term
 term_there t id lt = (id.0, lt, get_or_default t.terms id.0 (term_at t id) no_term lt)
 
 -- a term of the table is written at its number
-is_written : (d : SymbolsView) (nodes : List Node) → IsWhole d nodes → (t : Term) → Contains (grown d [] (shapes_of nodes)) t
-    → (s : Shape) × Fits (view d (grown d [] (shapes_of nodes))) s × (t ≡ shape_term (view d (grown d [] (shapes_of nodes))) s)
+is_written : (d : SymbolsView) (nodes : List Node) → NodesFit d nodes → (t : Term) → Contains (grown d [] (shapes_of nodes)) t
+    → (s : Shape) × ShapeFits (view d (grown d [] (shapes_of nodes))) s × (t ≡ shape_term (view d (grown d [] (shapes_of nodes))) s)
 is_written d nodes whole t c =
     let terms = grown d [] (shapes_of nodes) in
     let s : Shape = get_or (shapes_of nodes) c.0 no_shape in
     let here = at d nodes whole c.0 c.1 in
     (s, at-fits d terms s c.0 here, sym c.2 ∙ get_or_default terms c.0 t no_term c.1 ∙ at-term d terms s c.0 here)
 
-pub closed_terms : (d : SymbolsView) (nodes : List Node) → IsWhole d nodes → IsClosed (grown d [] (shapes_of nodes))
+pub closed_terms : (d : SymbolsView) (nodes : List Node) → NodesFit d nodes → IsClosed (grown d [] (shapes_of nodes))
 closed_terms d nodes whole t c u a =
     let tv : TableView = view d (grown d [] (shapes_of nodes)) in
     let w = is_written d nodes whole t c in
@@ -50,7 +50,7 @@ closed_terms d nodes whole t c u a =
 abbrev TakesItsOwn : Term → Type 0
 TakesItsOwn (app h ts) = takes h (map sort_of (list_of ts)) ≡ true
 
-pub heads_take : (d : SymbolsView) (nodes : List Node) → IsWhole d nodes → (h : Head) (ts : Terms) → Contains (grown d [] (shapes_of nodes)) (app h ts) → takes h (map sort_of (list_of ts)) ≡ true
+pub heads_take : (d : SymbolsView) (nodes : List Node) → NodesFit d nodes → (h : Head) (ts : Terms) → Contains (grown d [] (shapes_of nodes)) (app h ts) → takes h (map sort_of (list_of ts)) ≡ true
 heads_take d nodes whole h ts c =
     let tv : TableView = view d (grown d [] (shapes_of nodes)) in
     let w = is_written d nodes whole (app h ts) c in
@@ -60,7 +60,7 @@ heads_take d nodes whole h ts c =
 abbrev HeadIsOver : List Symbol → Term → Type 0
 HeadIsOver symbols (app h ts) = IsHeadOver symbols h
 
-meant_over : (d : SymbolsView) (h : NodeHead) → IsOver d.sorts d.symbols h → IsHeadOver d.symbols (head_over d.sorts d.symbols h)
+meant_over : (d : SymbolsView) (h : NodeHead) → IsHeadIn d.sorts d.symbols h → IsHeadOver d.symbols (head_over d.sorts d.symbols h)
 meant_over d (heads.Apply s) there = Contains-get_or d.symbols s.0 no_symbol there
 meant_over d (heads.Literal q) there = record { positive = q.parts.positive; coprime = q.parts.coprime }
 meant_over d heads.True there = tt
@@ -80,13 +80,13 @@ meant_over d heads.Less there = tt
 meant_over d heads.AtMost there = tt
 meant_over d (heads.Parameter k s) there = tt
 
-pub heads_over : (d : SymbolsView) (nodes : List Node) → IsWhole d nodes → (h : Head) (ts : Terms) → Contains (grown d [] (shapes_of nodes)) (app h ts) → IsHeadOver d.symbols h
+pub heads_over : (d : SymbolsView) (nodes : List Node) → NodesFit d nodes → (h : Head) (ts : Terms) → Contains (grown d [] (shapes_of nodes)) (app h ts) → IsHeadOver d.symbols h
 heads_over d nodes whole h ts c =
     let w = is_written d nodes whole (app h ts) c in
     subst (HeadIsOver d.symbols) (sym w.2) (meant_over d w.0.head w.1.head)
 
 -- the arguments of a term stand before it
-pub first_arguments : (d : SymbolsView) (nodes : List Node) → IsWhole d nodes → (before after : List Term) (t : Term) → grown d [] (shapes_of nodes) ≡ before ++ t ∷ after → AreAmong (arguments_of t) before
+pub first_arguments : (d : SymbolsView) (nodes : List Node) → NodesFit d nodes → (before after : List Term) (t : Term) → grown d [] (shapes_of nodes) ≡ before ++ t ∷ after → AreAmong (arguments_of t) before
 first_arguments d nodes whole before after t e u a =
     let s : Shape = get_or (shapes_of nodes) (length before) no_shape in
     let here = at d nodes whole (length before) (omega (arith, ap length e, length-append before (t ∷ after))) in

@@ -10,7 +10,7 @@ use Rattle.term_core.specs.declared.sorts.Sort.TheVariants.{Declared as declared
 use Rattle.term_core.specs.declared.nodes.Head.{Head as NodeHead}
 use Rattle.term_core.specs.declared.nodes.Head.TheVariants as heads
 use Rattle.term_core.specs.Symbols.{HasSortIn, HaveSortsIn, sort_meant, sorts_meant, no_symbol, symbol_at}
-use Rattle.term_core.specs.Tables.{TableView, term_at, IsIn, AreIn, clause_at, literal_at, takes, head_meant, HasHead, Shape, Fits, shape_term, Extends}
+use Rattle.term_core.specs.Tables.{TableView, term_at, IsIn, AreIn, clause_at, literal_at, takes, head_meant, HasHead, Shape, ShapeFits, shape_term, Extends}
 
 pub Extends-self : (t : TableView) → Extends t t
 Extends-self t = record {
@@ -85,10 +85,10 @@ module _ (old new : TableView) (grows : Extends old new) where
   head_meant-kept (heads.Parameter k s) within = ap (Parameter k) (sort_meant-kept s within)
   head_meant-kept _ within = refl
 
-  pub shape_term-kept : (s : Shape) → Fits old s → shape_term new s ≡ shape_term old s
+  pub shape_term-kept : (s : Shape) → ShapeFits old s → shape_term new s ≡ shape_term old s
   shape_term-kept s f = λ i. of (head_meant-kept s.head f.head i) (clause_at-kept s.arguments f.arguments i)
 
-  pub Fits-kept : (s : Shape) → Fits old s → Fits new s
+  pub Fits-kept : (s : Shape) → ShapeFits old s → ShapeFits new s
   Fits-kept s f = record {
     head = HasHead-kept s.head f.head;
     arguments = AreIn-kept s.arguments f.arguments;

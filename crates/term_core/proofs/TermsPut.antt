@@ -6,7 +6,7 @@ use Rattle.spec_sorts.specs.Terms.{no_term}
 use Rattle.term_core.specs.declared.ids.TermId.{TermId}
 use Rattle.term_core.specs.declared.nodes.Node.{Node}
 use Rattle.term_core.specs.Symbols.{SymbolsView, AreDeclared}
-use Rattle.term_core.specs.Tables.{TableView, node_term, term_at, IsIn, IsPlaced, shape_of, shapes_of, no_shape, grown, table_of, IsWhole, Extends, AreBefore, shape_term}
+use Rattle.term_core.specs.Tables.{TableView, node_term, term_at, IsIn, IsPlaced, shape_of, shapes_of, no_shape, grown, table_of, NodesFit, Extends, AreBefore, shape_term}
 use Rattle.term_core.proofs.NamesApart.{AreApart-push}
 use Rattle.term_core.proofs.NodesPut.{Puts}
 use Rattle.term_core.proofs.ShapesGrown.{terms-length, grown-push, AreBefore-push, at-term, at-fits, Widens, grown-wider, AreBefore-wider}
@@ -16,7 +16,7 @@ use Rattle.term_core.proofs.TermsExtend.{Extends-self}
 abbrev pub number : ℕ → TermId
 number at = record { 0 = at }
 
-module _ (d : SymbolsView) (old : List Node) (node : Node) (place : ℕ) (whole : IsWhole d old) (placed : IsPlaced (table_of d old) node) where
+module _ (d : SymbolsView) (old : List Node) (node : Node) (place : ℕ) (whole : NodesFit d old) (placed : IsPlaced (table_of d old) node) where
   abbrev pub before : TableView
   before = table_of d old
 
@@ -30,8 +30,8 @@ module _ (d : SymbolsView) (old : List Node) (node : Node) (place : ℕ) (whole 
   pub grows : (new : List Node) → new ≡ old ++ node ∷ [] → grown d [] (shapes_of new) ≡ before.terms ++ node_term before node ∷ []
   grows new e = ap (λ ns. grown d [] (shapes_of ns)) e ∙ ap (grown d []) (map-append shape_of old (node ∷ [])) ∙ grown-push d [] (shapes_of old) (shape_of node)
 
-  pub puts_whole : (new : List Node) → Puts old node place new → IsWhole d new
-  puts_whole new (inl p) = subst (IsWhole d) (sym p.0) whole
+  pub puts_whole : (new : List Node) → Puts old node place new → NodesFit d new
+  puts_whole new (inl p) = subst (NodesFit d) (sym p.0) whole
   puts_whole new (inr p) =
       let is : shapes_of new ≡ shapes_of old ++ shape_of node ∷ [] = ap shapes_of p.0 ∙ map-append shape_of old (node ∷ []) in
       record {
@@ -78,7 +78,7 @@ module _ (d : SymbolsView) (old : List Node) (node : Node) (place : ℕ) (whole 
       (sym (at-term d before.terms s id.0 here) ∙ e)))
 
 -- more sorts and symbols, by the same numbers, leave nodes whole
-pub wider_whole : (d e : SymbolsView) (nodes : List Node) → Widens d e → AreDeclared e.sorts e.symbols → IsWhole d nodes → IsWhole e nodes
+pub wider_whole : (d e : SymbolsView) (nodes : List Node) → Widens d e → AreDeclared e.sorts e.symbols → NodesFit d nodes → NodesFit e nodes
 wider_whole d e nodes wider declared whole = record {
   declared = declared;
   nodes_apart = whole.nodes_apart;
@@ -86,5 +86,5 @@ wider_whole d e nodes wider declared whole = record {
 }
 
 -- and their terms
-pub wider_terms : (d e : SymbolsView) (nodes : List Node) → Widens d e → IsWhole d nodes → grown e [] (shapes_of nodes) ≡ grown d [] (shapes_of nodes)
+pub wider_terms : (d e : SymbolsView) (nodes : List Node) → Widens d e → NodesFit d nodes → grown e [] (shapes_of nodes) ≡ grown d [] (shapes_of nodes)
 wider_terms d e nodes wider whole = grown-wider d e wider [] (shapes_of nodes) whole.before

@@ -7,7 +7,7 @@ use Rattle.term_core.specs.declared.facts.Facts.{Facts}
 use Rattle.term_core.specs.declared.nodes.Node.{Node}
 use Rattle.term_core.specs.declared.sorts.Sort.TheVariants.{Bool as bool_sort}
 use Rattle.term_core.specs.Symbols.{SymbolsView, HasSortIn, sort_meant}
-use Rattle.term_core.specs.Tables.{grown, shapes_of, IsWhole}
+use Rattle.term_core.specs.Tables.{grown, shapes_of, NodesFit}
 
 -- the facts are those of a term
 pub record IsFacts (sorts : List Name) (t : Term) (f : Facts) : Type 0 where
@@ -34,8 +34,8 @@ pub record AreFacts (sorts : List Name) (terms : List Term) (facts : List Facts)
   pub right : (k : ℕ) → k < length terms → IsFacts sorts (get_or terms k no_term) (get_or facts k no_facts)
 
 -- Sorts, symbols and nodes that stand for a table, with the facts of its terms.
-pub record IsKept (d : SymbolsView) (nodes : List Node) (facts : List Facts) : Type 0 where
+pub record TableFits (d : SymbolsView) (nodes : List Node) (facts : List Facts) : Type 0 where
   -- they stand for a table
-  pub whole : IsWhole d nodes
+  pub whole : NodesFit d nodes
   -- the facts are those of its terms
   pub right : AreFacts d.sorts (grown d [] (shapes_of nodes)) facts

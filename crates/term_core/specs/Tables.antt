@@ -77,14 +77,14 @@ abbrev pub head_meant : TableView → NodeHead → Head
 head_meant t h = head_over t.sorts t.symbols h
 
 -- the symbol of a head, or the sort of a parameter, is there
-abbrev pub IsOver : List Name → List Symbol → NodeHead → Type 0
-IsOver sorts symbols (heads.Apply s) = IsSymbol symbols s
-IsOver sorts symbols (heads.Parameter k s) = HasSortIn sorts s
-IsOver sorts symbols h = Unit {0}
+abbrev pub IsHeadIn : List Name → List Symbol → NodeHead → Type 0
+IsHeadIn sorts symbols (heads.Apply s) = IsSymbol symbols s
+IsHeadIn sorts symbols (heads.Parameter k s) = HasSortIn sorts s
+IsHeadIn sorts symbols h = Unit {0}
 
 -- what a head names is there in a table
 abbrev pub HasHead : TableView → NodeHead → Type 0
-HasHead t h = IsOver t.sorts t.symbols h
+HasHead t h = IsHeadIn t.sorts t.symbols h
 
 -- the head takes arguments of these sorts; a parameter takes none, and its number and sort are free
 abbrev pub takes : Head → List Sort → Bool
@@ -112,7 +112,7 @@ abbrev pub no_shape : Shape
 no_shape = record { head = heads.True; arguments = [] }
 
 -- What it names is there, and its head takes arguments of their sorts.
-pub record Fits (t : TableView) (s : Shape) : Type 0 where
+pub record ShapeFits (t : TableView) (s : Shape) : Type 0 where
   -- what the head names is there
   pub head : HasHead t s.head
   -- each argument is a term of the table
@@ -122,7 +122,7 @@ pub record Fits (t : TableView) (s : Shape) : Type 0 where
 
 -- what a node names is there, and its head takes arguments of their sorts
 abbrev pub IsPlaced : TableView → Node → Type 0
-IsPlaced t n = Fits t (shape_of n)
+IsPlaced t n = ShapeFits t (shape_of n)
 
 -- the term that is so written
 abbrev pub shape_term : TableView → Shape → Term
@@ -162,7 +162,7 @@ view d terms = record { sorts = d.sorts; symbols = d.symbols; terms = terms }
 -- each names what comes before it, of sorts that it takes; the first comes after the terms done
 abbrev pub AreBefore : SymbolsView → List Term → List Shape → Type 0
 AreBefore d done [] = Unit {0}
-AreBefore d done (s ∷ ss) = Fits (view d done) s × AreBefore d (done ++ shape_term (view d done) s ∷ []) ss
+AreBefore d done (s ∷ ss) = ShapeFits (view d done) s × AreBefore d (done ++ shape_term (view d done) s ∷ []) ss
 
 -- the terms done, and after them each that is so written
 abbrev pub grown : SymbolsView → List Term → List Shape → List Term
@@ -178,7 +178,7 @@ abbrev pub table_of : SymbolsView → List Node → TableView
 table_of d nodes = view d (grown d [] (shapes_of nodes))
 
 -- Sorts, symbols and nodes that stand for a table: no name and no node twice, each node after what it names.
-pub record IsWhole (d : SymbolsView) (nodes : List Node) : Type 0 where
+pub record NodesFit (d : SymbolsView) (nodes : List Node) : Type 0 where
   -- the sorts and symbols by their numbers
   pub declared : AreDeclared d.sorts d.symbols
   -- no node stands twice

@@ -34,7 +34,7 @@ pub struct TermTable {
 
 impl Model for TermTable {
     ghost use Rattle.term_core.specs.Tables.{TableView, table_code, table_of};
-    ghost use Rattle.term_core.specs.Facts.{IsKept};
+    ghost use Rattle.term_core.specs.Facts.{TableFits};
 
     ghost Value = { TableView };
 
@@ -42,7 +42,7 @@ impl Model for TermTable {
 
     ghost view = { λ t. table_of t.symbols t.nodes.keys };
 
-    ghost invariant = { λ t. IsKept t.symbols t.nodes.keys t.facts.items };
+    ghost invariant = { λ t. TableFits t.symbols t.nodes.keys t.facts.items };
 }
 
 impl TermTable {

@@ -8,7 +8,7 @@ use Rattle.term_core.specs.declared.ids.TermId.{TermId}
 use Rattle.term_core.specs.Tables.{TableView, term_at, clause_at}
 use Rattle.term_reader.specs.declared.building.Binary.{Binary}
 use Rattle.term_reader.specs.declared.building.Binary.TheVariants as binaries
-use Rattle.term_reader.specs.Building.{Keeps, Means, IsOf, AreOf, BinarySort, TakesBoth, binary_head}
+use Rattle.term_reader.specs.Building.{KeepsTable, MeansTerm, IsOf, AreOfSort, BinarySort, TakesBoth, binary_head}
 use Rattle.term_reader.specs.Chains.{FoldSort, Folds}
 use Rattle.term_reader.proofs.Tables.{keeps_same, keeps_along, of_kept}
 use Rattle.term_core.proofs.TermsExtend.{term_at-kept}
@@ -28,7 +28,7 @@ to_right h t us = right no_term (pair h) (us ++ t ∷ [])
 -- A number that means what was taken together, and the numbers that come.
 pub record IsFolded (b : Binary) (f : Fold) (old now : TableView) (all : Term) (id : TermId) (rest : List TermId) : Type 0 where
   -- what was there is there still
-  pub keeps : Keeps old now
+  pub keeps : KeepsTable old now
   -- the sort of each
   pub sort : Sort
   -- the head takes two of it and gives one
@@ -36,7 +36,7 @@ pub record IsFolded (b : Binary) (f : Fold) (old now : TableView) (all : Term) (
   -- what was taken together has it
   pub one : IsOf now sort id
   -- the others have it
-  pub others : AreOf old sort rest
+  pub others : AreOfSort old sort rest
   -- with them it is the whole
   pub same : f (term_at now id) (clause_at old rest) ≡ all
 
@@ -68,7 +68,7 @@ module _ (b : Binary) (f : Fold) (old now : TableView) (all : Term) (id : TermId
   pub both_right : TakesBoth now b next id
   both_right = record { sort = h.sort; suits = suiting b h.sort h.suits; one = of_kept old now h.keeps h.sort next there; other = h.one }
 
-  pub fold_step : (t u : Term) (new : TableView) (both : TermId) → AreOf old h.sort after → Keeps now new → Means new (pair (binary_head b) t u) both → f (pair (binary_head b) t u) (clause_at old after) ≡ f (term_at now id) (clause_at old rest) → IsFolded b f old new all both after
+  pub fold_step : (t u : Term) (new : TableView) (both : TermId) → AreOfSort old h.sort after → KeepsTable now new → MeansTerm new (pair (binary_head b) t u) both → f (pair (binary_head b) t u) (clause_at old after) ≡ f (term_at now id) (clause_at old rest) → IsFolded b f old new all both after
   fold_step t u new both others keeps means same = record {
     keeps = keeps_along old now new h.keeps keeps;
     sort = h.sort;
@@ -78,14 +78,14 @@ module _ (b : Binary) (f : Fold) (old now : TableView) (all : Term) (id : TermId
     same = ap (λ v. f v (clause_at old after)) means.1 ∙ same ∙ h.same;
   }
 
-pub fold_ends : (b : Binary) (f : Fold) (old now : TableView) (all : Term) (id : TermId) (rest : List TermId) → ((t : Term) → f t [] ≡ t) → length rest ≡ 0 → IsFolded b f old now all id rest → Means now all id
+pub fold_ends : (b : Binary) (f : Fold) (old now : TableView) (all : Term) (id : TermId) (rest : List TermId) → ((t : Term) → f t [] ≡ t) → length rest ≡ 0 → IsFolded b f old now all id rest → MeansTerm now all id
 fold_ends b f old now all id [] alone none h = (h.one.0, sym (alone (term_at now id)) ∙ h.same)
 fold_ends b f old now all id (next ∷ rest) alone none h = absurd (omega (arith, none))
 
 -- to the left: the next one is the first of the others
 module _ (b : Binary) (old now : TableView) (all : Term) (id : TermId) (rest after : List TermId) (next : TermId) (is : rest ≡ next ∷ after) (h : IsFolded b (to_left (binary_head b)) old now all id rest) where
-  others_left : AreOf old h.sort (next ∷ after)
-  others_left = subst (AreOf old h.sort) is h.others
+  others_left : AreOfSort old h.sort (next ∷ after)
+  others_left = subst (AreOfSort old h.sort) is h.others
 
   next_left : IsOf old h.sort next
   next_left = All-head (IsOf old h.sort) next after others_left
@@ -93,7 +93,7 @@ module _ (b : Binary) (old now : TableView) (all : Term) (id : TermId) (rest aft
   pub left_takes : TakesBoth now b id next
   left_takes = both_left b (to_left (binary_head b)) old now all id rest after next h next_left
 
-  pub left_step : (new : TableView) (both : TermId) → Keeps now new → Means new (pair (binary_head b) (term_at now id) (term_at now next)) both → IsFolded b (to_left (binary_head b)) old new all both after
+  pub left_step : (new : TableView) (both : TermId) → KeepsTable now new → MeansTerm new (pair (binary_head b) (term_at now id) (term_at now next)) both → IsFolded b (to_left (binary_head b)) old new all both after
   left_step new both keeps means =
       let kept : term_at now next ≡ term_at old next = term_at-kept old now h.keeps.extends next next_left.0 in
       fold_step b (to_left (binary_head b)) old now all id rest after next h next_left (term_at now id) (term_at now next) new both (All-tail (IsOf old h.sort) next after others_left) keeps means
@@ -120,19 +120,19 @@ right_two h (v ∷ w ∷ ws) t u = ap (pair h v) (right_two h (w ∷ ws) t u)
 
 -- to the right: the next one is the last of the others
 module _ (b : Binary) (old now : TableView) (all : Term) (id : TermId) (rest before : List TermId) (next : TermId) (is : rest ≡ before ++ next ∷ []) (h : IsFolded b (to_right (binary_head b)) old now all id rest) where
-  others_right : AreOf old h.sort (before ++ next ∷ [])
-  others_right = subst (AreOf old h.sort) is h.others
+  others_right : AreOfSort old h.sort (before ++ next ∷ [])
+  others_right = subst (AreOfSort old h.sort) is h.others
 
   next_right : IsOf old h.sort next
   next_right = All-contains (IsOf old h.sort) (before ++ next ∷ []) next others_right (Contains-push before next)
 
-  front_right : AreOf old h.sort before
-  front_right = subst (AreOf old h.sort) (take_at before (next ∷ []) (length before) refl) (All-take (IsOf old h.sort) (length before) (before ++ next ∷ []) others_right)
+  front_right : AreOfSort old h.sort before
+  front_right = subst (AreOfSort old h.sort) (take_at before (next ∷ []) (length before) refl) (All-take (IsOf old h.sort) (length before) (before ++ next ∷ []) others_right)
 
   pub right_takes : TakesBoth now b next id
   right_takes = both_right b (to_right (binary_head b)) old now all id rest before next h next_right
 
-  pub right_step : (new : TableView) (both : TermId) → Keeps now new → Means new (pair (binary_head b) (term_at now next) (term_at now id)) both → IsFolded b (to_right (binary_head b)) old new all both before
+  pub right_step : (new : TableView) (both : TermId) → KeepsTable now new → MeansTerm new (pair (binary_head b) (term_at now next) (term_at now id)) both → IsFolded b (to_right (binary_head b)) old new all both before
   right_step new both keeps means =
       let g : Head = binary_head b in
       let t : Term = term_at now id in

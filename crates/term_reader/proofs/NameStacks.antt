@@ -11,7 +11,7 @@ use Rattle.spec_sorts.specs.Theory.{look_up}
 use Rattle.term_core.specs.NameLists.{HaveNoTwice}
 use Rattle.term_core.proofs.NamesApart.{bytes_same, same_bytes, not_there}
 use Rattle.term_reader.specs.declared.name_stack.Place.{Place}
-use Rattle.term_reader.specs.NameStacks.{no_place, names_at, numbers_in, place_after, latest_of, IsStack, IsLatest, Meets, newest}
+use Rattle.term_reader.specs.NameStacks.{no_place, names_at, numbers_in, place_after, latest_of, IsStack, IsLatest, MeetsName, newest}
 
 -- the latest place with one place more
 pub latest_push : (n m : ℕ) (ms : List ℕ) → latest_of n (ms ++ m ∷ []) ≡ cond (m == n) (suc (length ms)) (latest_of n ms)
@@ -200,11 +200,11 @@ names_more met more (p ∷ places) h =
     let rest = names_more met more places (All-tail (λ (q : Place). q.number < length met) p places h) in
     λ i. one i ∷ rest i
 
-pub names_kept : (met more : List Name) (latest later : List ℕ) (places : List Place) → IsStack met latest places → Meets met latest more later → names_at more places ≡ names_at met places
+pub names_kept : (met more : List Name) (latest later : List ℕ) (places : List Place) → IsStack met latest places → MeetsName met latest more later → names_at more places ≡ names_at met places
 names_kept met more latest later places h (inl e) = ap (λ ns. names_at ns places) e.0
 names_kept met more latest later places h (inr e) = ap (λ ns. names_at ns places) e.1 ∙ names_more met (e.0 ∷ []) places h.there
 
-pub stack_kept : (met more : List Name) (latest later : List ℕ) (places : List Place) → IsStack met latest places → Meets met latest more later → IsStack more later places
+pub stack_kept : (met more : List Name) (latest later : List ℕ) (places : List Place) → IsStack met latest places → MeetsName met latest more later → IsStack more later places
 stack_kept met more latest later places h (inl e) = subst (λ ns. IsStack ns later places) (sym e.0) (subst (λ ls. IsStack met ls places) (sym e.1) h)
 stack_kept met more latest later places h (inr e) = subst (λ ns. IsStack ns later places) (sym e.1) (subst (λ ls. IsStack (met ++ e.0 ∷ []) ls places) (sym e.2) (record {
   long = omega (arith, length-append latest (0 ∷ []), length-append met (e.0 ∷ []), h.long);

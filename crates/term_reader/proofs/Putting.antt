@@ -7,7 +7,7 @@ use Rattle.term_core.specs.declared.ids.TermId.{TermId}
 use Rattle.term_core.specs.Tables.{TableView, term_at, IsIn, AreIn, clause_at}
 use Rattle.term_reader.specs.declared.building.Link.{Link}
 use Rattle.term_reader.specs.declared.building.Link.TheVariants as links
-use Rattle.term_reader.specs.Building.{Keeps, Means, IsOf, AreOf, HasPair, link_term}
+use Rattle.term_reader.specs.Building.{KeepsTable, MeansTerm, IsOf, AreOfSort, HasPair, link_term}
 use Rattle.term_reader.specs.Chains.{AreLinked, linked_terms}
 use Rattle.term_reader.proofs.Tables.{keeps_same, keeps_along, of_kept}
 use Rattle.term_core.proofs.TermsExtend.{term_at-kept, clause_at-kept, AreIn-kept}
@@ -15,7 +15,7 @@ use Rattle.term_core.proofs.TermsExtend.{term_at-kept, clause_at-kept, AreIn-kep
 -- The terms of the first pairs are there, by their numbers, and the others come.
 pub record IsPut (link : Link) (old now : TableView) (all : List (TermId × TermId)) (parts : List TermId) (rest : List (TermId × TermId)) : Type 0 where
   -- what was there is there still
-  pub keeps : Keeps old now
+  pub keeps : KeepsTable old now
   -- the numbers of what was put
   pub there : AreIn now parts
   -- with what comes it is the whole
@@ -42,7 +42,7 @@ module _ (link : Link) (old now : TableView) (all : List (TermId × TermId)) (pa
     other = of_kept old now h.keeps pair.sort p.1 pair.other;
   }
 
-  pub put_step : (new : TableView) (id : TermId) (next : List TermId) → Keeps now new → Means new (link_term link (term_at now p.0) (term_at now p.1)) id → next ≡ parts ++ id ∷ [] → IsPut link old new all next after
+  pub put_step : (new : TableView) (id : TermId) (next : List TermId) → KeepsTable now new → MeansTerm new (link_term link (term_at now p.0) (term_at now p.1)) id → next ≡ parts ++ id ∷ [] → IsPut link old new all next after
   put_step new id next keeps means e =
       let there : AreIn new (parts ++ id ∷ []) = All-push (λ i. IsIn new i) parts id (AreIn-kept now new keeps.extends parts h.there) means.0 in
       let first : term_at now p.0 ≡ term_at old p.0 = term_at-kept old now h.keeps.extends p.0 pair.one.0 in
@@ -75,7 +75,7 @@ link_sort links.Greater t u = refl
 link_sort links.AtLeast t u = refl
 
 -- and so are the numbers of such terms
-pub parts_are_truths : (link : Link) (old new : TableView) (all : List (TermId × TermId)) (parts : List TermId) → AreIn new parts → clause_at new parts ≡ linked_terms link old all → AreOf new Truth parts
+pub parts_are_truths : (link : Link) (old new : TableView) (all : List (TermId × TermId)) (parts : List TermId) → AreIn new parts → clause_at new parts ≡ linked_terms link old all → AreOfSort new Truth parts
 parts_are_truths link old new all [] there e = λ k d l. absurd (omega (arith, l))
 parts_are_truths link old new [] (id ∷ ids) there e = absurd (omega (arith, ap length e))
 parts_are_truths link old new (p ∷ all) (id ∷ ids) there e =

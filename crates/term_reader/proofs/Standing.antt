@@ -11,12 +11,12 @@ use Rattle.term_core.specs.Tables.{TableView}
 use Rattle.term_core.proofs.TermsExtend.{IsIn-kept, term_at-kept}
 use Rattle.term_reader.specs.declared.scope.Function.{Function}
 use Rattle.term_reader.specs.declared.scope.Function.TheVariants.{Declared, Defined}
-use Rattle.term_reader.specs.Building.{Keeps}
+use Rattle.term_reader.specs.Building.{KeepsTable}
 use Rattle.term_core.proofs.NamesApart.{same_bytes}
 use Rattle.term_reader.proofs.NameStacks.{newest_push}
-use Rattle.term_reader.specs.Scopes.{ScopeView, SortStands, FunctionStands, function_under, Stands}
+use Rattle.term_reader.specs.Scopes.{ScopeView, SortStands, FunctionStands, function_under, ScopeMeans}
 
-module _ (old new : TableView) (keeps : Keeps old new) where
+module _ (old new : TableView) (keeps : KeepsTable old new) where
   sorts_same : new.sorts ≡ old.sorts
   sorts_same = ap (λ d. d.sorts) keeps.declared
 
@@ -47,7 +47,7 @@ module _ (old new : TableView) (keeps : Keeps old new) where
   }
 
   -- the scope stands for the same signature
-  pub stands_kept : (v : ScopeView) (s : Signature) → Stands old v s → Stands new v s
+  pub stands_kept : (v : ScopeView) (s : Signature) → ScopeMeans old v s → ScopeMeans new v s
   stands_kept v s h = record { sorts = λ n. sort_kept _ _ (h.sorts n); functions = λ n. function_kept _ _ (h.functions n); count = h.count; sorted = h.sorted }
 
 module _ (s : Signature) (k : Known) where

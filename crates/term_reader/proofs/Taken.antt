@@ -13,15 +13,15 @@ use Rattle.spec_sorts.proofs.WellSorted.{same_sort_is}
 use Rattle.spec_reading.specs.Reading.{by_rule, unless}
 use Rattle.term_core.specs.declared.ids.TermId.{TermId}
 use Rattle.term_core.specs.declared.nodes.Head.TheVariants as heads
-use Rattle.term_core.specs.Tables.{TableView, term_at, IsIn, AreIn, clause_at, Fits, takes}
+use Rattle.term_core.specs.Tables.{TableView, term_at, IsIn, AreIn, clause_at, ShapeFits, takes}
 use Rattle.term_core.specs.declared.theory_heads.TheoryHead.TheVariants as theory_heads
 use Rattle.term_core.specs.TheoryHeads.{rule_of}
 use Rattle.term_reader.specs.declared.building.Binary.TheVariants as binaries
 use Rattle.term_reader.specs.declared.building.Link.{Link}
 use Rattle.term_reader.specs.declared.building.Link.TheVariants as links
-use Rattle.term_reader.specs.Building.{IsOf, AreOf, HasPair, LinkSort, link_term}
+use Rattle.term_reader.specs.Building.{IsOf, AreOfSort, HasPair, LinkSort, link_term}
 use Rattle.term_reader.specs.Chains.{AreLinked, linked_terms, Folds}
-use Rattle.term_reader.specs.Heads.{AreAlike, IsTaken}
+use Rattle.term_reader.specs.Heads.{AreAlike, TakesArguments}
 
 -- a test that the first of terms passes
 pub passes_on : (test : Term → Bool) (t : TableView) (rest after : List TermId) (id : TermId) → rest ≡ id ∷ after → AreIn t rest → test (term_at t id) ≡ true → AreIn t after × (each_passes test (clause_at t after) ≡ each_passes test (clause_at t rest))
@@ -32,7 +32,7 @@ passes_on test t rest after id is h e =
     )
 
 -- terms whose sorts are one
-pub of_sorts : (t : TableView) (s : Sort) (ids : List TermId) → AreIn t ids → all_same s (map sort_of (clause_at t ids)) ≡ true → AreOf t s ids
+pub of_sorts : (t : TableView) (s : Sort) (ids : List TermId) → AreIn t ids → all_same s (map sort_of (clause_at t ids)) ≡ true → AreOfSort t s ids
 of_sorts t s [] there e = All-nil (IsOf t s)
 of_sorts t s (id ∷ ids) there e =
     let both = and_parts (same_sort s (sort_of (term_at t id))) (all_same s (map sort_of (clause_at t ids))) e in
@@ -48,26 +48,26 @@ of_alike t link (id ∷ ids) suits there e =
     record { sort = s; suits = suits s; each = All-cons (IsOf t s) id ids (first, refl) (of_sorts t s ids (All-tail (λ i. IsIn t i) id ids there) e) }
 
 module _ (t : TableView) (link : Link) (s : Sort) (suits : LinkSort link s) where
-  pub linked_neighbours : (ids : List TermId) → AreOf t s ids → AreLinked t link (neighbours ids)
+  pub linked_neighbours : (ids : List TermId) → AreOfSort t s ids → AreLinked t link (neighbours ids)
   linked_neighbours [] h = All-nil (λ (p : TermId × TermId). HasPair t link p.0 p.1)
   linked_neighbours (a ∷ []) h = All-nil (λ (p : TermId × TermId). HasPair t link p.0 p.1)
   linked_neighbours (a ∷ b ∷ ids) h =
-      let rest : AreOf t s (b ∷ ids) = All-tail (IsOf t s) a (b ∷ ids) h in
+      let rest : AreOfSort t s (b ∷ ids) = All-tail (IsOf t s) a (b ∷ ids) h in
       All-cons (λ (p : TermId × TermId). HasPair t link p.0 p.1) (a, b) (neighbours (b ∷ ids))
       (record { sort = s; suits = suits; one = All-head (IsOf t s) a (b ∷ ids) h; other = All-head (IsOf t s) b ids rest })
       (linked_neighbours (b ∷ ids) rest)
 
-  linked_each : (a : TermId) (ids : List TermId) → IsOf t s a → AreOf t s ids → AreLinked t link (map (λ b. (a, b)) ids)
+  linked_each : (a : TermId) (ids : List TermId) → IsOf t s a → AreOfSort t s ids → AreLinked t link (map (λ b. (a, b)) ids)
   linked_each a [] first h = All-nil (λ (p : TermId × TermId). HasPair t link p.0 p.1)
   linked_each a (b ∷ ids) first h =
       All-cons (λ (p : TermId × TermId). HasPair t link p.0 p.1) (a, b) (map (λ c. (a, c)) ids)
       (record { sort = s; suits = suits; one = first; other = All-head (IsOf t s) b ids h })
       (linked_each a ids first (All-tail (IsOf t s) b ids h))
 
-  pub linked_pairs : (ids : List TermId) → AreOf t s ids → AreLinked t link (all_pairs ids)
+  pub linked_pairs : (ids : List TermId) → AreOfSort t s ids → AreLinked t link (all_pairs ids)
   linked_pairs [] h = All-nil (λ (p : TermId × TermId). HasPair t link p.0 p.1)
   linked_pairs (a ∷ ids) h =
-      let rest : AreOf t s ids = All-tail (IsOf t s) a ids h in
+      let rest : AreOfSort t s ids = All-tail (IsOf t s) a ids h in
       All-append (λ (p : TermId × TermId). HasPair t link p.0 p.1) (map (λ b. (a, b)) ids) (all_pairs ids)
       (linked_each a ids (All-head (IsOf t s) a ids h) rest) (linked_pairs ids rest)
 
@@ -103,7 +103,7 @@ some_pairs (a ∷ []) two = absurd (omega (arith, two))
 some_pairs (a ∷ b ∷ ids) two = omega arith
 
 -- one number's negative
-pub minus_fits : (t : TableView) (ids : List TermId) → AreOf t Number ids → length ids ≡ 1 → Fits t (record { head = heads.Minus; arguments = ids })
+pub minus_fits : (t : TableView) (ids : List TermId) → AreOfSort t Number ids → length ids ≡ 1 → ShapeFits t (record { head = heads.Minus; arguments = ids })
 minus_fits t [] h one = absurd (omega (arith, one))
 minus_fits t (a ∷ b ∷ ids) h one = absurd (omega (arith, one))
 minus_fits t (a ∷ []) h one = record { head = tt; arguments = λ k d l. (h k d l).0; sorts = subst (λ s. takes Minus (s ∷ []) ≡ true) (sym (All-head (IsOf t Number) a [] h).1) refl }
@@ -128,43 +128,43 @@ counts_on t rest after id count next constant is there same e =
 
 -- what each head takes
 module _ (t : TableView) (ids : List TermId) where
-  pub xor_folds : IsTaken t theory_heads.Xor ids → Folds t binaries.Xor ids
+  pub xor_folds : TakesArguments t theory_heads.Xor ids → Folds t binaries.Xor ids
   unfolding rule_of
   xor_folds h = record { sort = Truth; suits = refl; each = of_sorts t Truth ids h.there h.sorts }
 
-  pub implies_folds : IsTaken t theory_heads.Implies ids → Folds t binaries.Implies ids
+  pub implies_folds : TakesArguments t theory_heads.Implies ids → Folds t binaries.Implies ids
   unfolding rule_of
   implies_folds h = record { sort = Truth; suits = refl; each = of_sorts t Truth ids h.there h.sorts }
 
-  pub divide_folds : IsTaken t theory_heads.Divide ids → Folds t binaries.Divide ids
+  pub divide_folds : TakesArguments t theory_heads.Divide ids → Folds t binaries.Divide ids
   unfolding rule_of
   divide_folds h = record { sort = Number; suits = refl; each = of_sorts t Number ids h.there h.sorts }
 
-  pub minus_numbers : IsTaken t theory_heads.Minus ids → AreOf t Number ids
+  pub minus_numbers : TakesArguments t theory_heads.Minus ids → AreOfSort t Number ids
   unfolding rule_of
   minus_numbers h = of_sorts t Number ids h.there h.sorts
 
-  pub equal_alike : IsTaken t theory_heads.Equal ids → AreAlike t links.Equal ids
+  pub equal_alike : TakesArguments t theory_heads.Equal ids → AreAlike t links.Equal ids
   unfolding rule_of
   equal_alike h = of_alike t links.Equal ids (λ s. tt) h.there h.sorts
 
-  pub distinct_alike : IsTaken t theory_heads.Distinct ids → AreAlike t links.Unequal ids
+  pub distinct_alike : TakesArguments t theory_heads.Distinct ids → AreAlike t links.Unequal ids
   unfolding rule_of
   distinct_alike h = of_alike t links.Unequal ids (λ s. tt) h.there h.sorts
 
-  pub less_alike : IsTaken t theory_heads.Less ids → AreAlike t links.Less ids
+  pub less_alike : TakesArguments t theory_heads.Less ids → AreAlike t links.Less ids
   unfolding rule_of
   less_alike h = record { sort = Number; suits = refl; each = of_sorts t Number ids h.there h.sorts }
 
-  pub at_most_alike : IsTaken t theory_heads.AtMost ids → AreAlike t links.AtMost ids
+  pub at_most_alike : TakesArguments t theory_heads.AtMost ids → AreAlike t links.AtMost ids
   unfolding rule_of
   at_most_alike h = record { sort = Number; suits = refl; each = of_sorts t Number ids h.there h.sorts }
 
-  pub greater_alike : IsTaken t theory_heads.Greater ids → AreAlike t links.Greater ids
+  pub greater_alike : TakesArguments t theory_heads.Greater ids → AreAlike t links.Greater ids
   unfolding rule_of
   greater_alike h = record { sort = Number; suits = refl; each = of_sorts t Number ids h.there h.sorts }
 
-  pub at_least_alike : IsTaken t theory_heads.AtLeast ids → AreAlike t links.AtLeast ids
+  pub at_least_alike : TakesArguments t theory_heads.AtLeast ids → AreAlike t links.AtLeast ids
   unfolding rule_of
   at_least_alike h = record { sort = Number; suits = refl; each = of_sorts t Number ids h.there h.sorts }
 

@@ -11,25 +11,25 @@ use Rattle.term_reader.specs.declared.building.Link.{Link}
 use Rattle.term_reader.specs.declared.building.Link.TheVariants as links
 
 -- The table has all that it had, and no sort or symbol more.
-pub record Keeps (old new : TableView) : Type 0 where
+pub record KeepsTable (old new : TableView) : Type 0 where
   -- what was there is there still
   pub extends : Extends old new
   -- the sorts and symbols are the same
   pub declared : declared_in new ≡ declared_in old
 
 -- the number is that of the term
-abbrev pub Means : TableView → Term → TermId → Type 0
-Means t u id = IsIn t id × (term_at t id ≡ u)
+abbrev pub MeansTerm : TableView → Term → TermId → Type 0
+MeansTerm t u id = IsIn t id × (term_at t id ≡ u)
 
 -- the number of the term, where there is one
 abbrev pub EndsBuilding : TableView → Term → Result TermId NoMemory → Type 0
-EndsBuilding t u (Ok id) = Means t u id
+EndsBuilding t u (Ok id) = MeansTerm t u id
 EndsBuilding t u (Err e) = Unit {0}
 
 -- The term is there, or there was no memory; the table keeps what it had.
 pub record Builds (old new : TableView) (t : Term) (r : Result TermId NoMemory) : Type 0 where
   -- what was there is there still
-  pub keeps : Keeps old new
+  pub keeps : KeepsTable old new
   -- the number of the term
   pub ends : EndsBuilding new t r
 
@@ -38,8 +38,8 @@ abbrev pub IsOf : TableView → Sort → TermId → Type 0
 IsOf t s id = IsIn t id × (sort_of (term_at t id) ≡ s)
 
 -- the numbers are of terms of that sort
-abbrev pub AreOf : TableView → Sort → List TermId → Type 0
-AreOf t s ids = All (IsOf t s) ids
+abbrev pub AreOfSort : TableView → Sort → List TermId → Type 0
+AreOfSort t s ids = All (IsOf t s) ids
 
 -- the head of a term of two arguments
 abbrev pub binary_head : Binary → Head

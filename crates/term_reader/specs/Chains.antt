@@ -8,7 +8,7 @@ use Rattle.term_core.specs.Tables.{TableView, term_at, AreIn, clause_at}
 use Rattle.term_reader.specs.declared.building.Binary.{Binary}
 use Rattle.term_reader.specs.declared.building.Binary.TheVariants as binaries
 use Rattle.term_reader.specs.declared.building.Link.{Link}
-use Rattle.term_reader.specs.Building.{Keeps, AreOf, HasPair, link_term}
+use Rattle.term_reader.specs.Building.{KeepsTable, AreOfSort, HasPair, link_term}
 
 -- each pair can be so linked
 abbrev pub AreLinked : TableView → Link → List (TermId × TermId) → Type 0
@@ -26,7 +26,7 @@ EndsPutting t us (Err e) = Unit {0}
 -- The terms are there, or there was no memory; the table keeps what it had.
 pub record PutsAll (old new : TableView) (us : List Term) (r : Result (Vec TermId Global) NoMemory) : Type 0 where
   -- what was there is there still
-  pub keeps : Keeps old new
+  pub keeps : KeepsTable old new
   -- the numbers of the terms
   pub ends : EndsPutting new us r
 
@@ -45,4 +45,4 @@ pub record Folds (t : TableView) (head : Binary) (ids : List TermId) : Type 0 wh
   -- the head takes two of it and gives one
   pub suits : FoldSort head sort
   -- each has it
-  pub each : AreOf t sort ids
+  pub each : AreOfSort t sort ids

@@ -13,7 +13,7 @@ use Rattle.term_reader.specs.declared.faults.ReadError.TheVariants.{Fault, Memor
 use Rattle.term_reader.specs.declared.heads.Takes.{Takes as TakesCode}
 use Rattle.term_reader.specs.declared.heads.Takes.TheVariants.{Truths, Numbers, Alike, Choice}
 use Rattle.term_reader.specs.Names.{located_of}
-use Rattle.term_reader.specs.Building.{Keeps, AreOf, LinkSort}
+use Rattle.term_reader.specs.Building.{KeepsTable, AreOfSort, LinkSort}
 
 -- the sorts that a head takes
 abbrev pub takes_meant : TakesCode → Takes
@@ -23,7 +23,7 @@ takes_meant Alike = alike
 takes_meant Choice = choice
 
 -- Arguments that a head takes.
-pub record IsTaken (t : TableView) (h : TheoryHead) (ids : List TermId) : Type 0 where
+pub record TakesArguments (t : TableView) (h : TheoryHead) (ids : List TermId) : Type 0 where
   -- it takes so many
   pub count : takes_count (rule_of h) (length ids) ≡ true
   -- each is a term of the table
@@ -38,11 +38,11 @@ pub record AreAlike (t : TableView) (link : Link) (ids : List TermId) : Type 0 w
   -- terms of it can be so linked
   pub suits : LinkSort link sort
   -- each has it
-  pub each : AreOf t sort ids
+  pub each : AreOfSort t sort ids
 
 -- the arguments are numbers
 abbrev pub AreNumbers : TableView → List TermId → Type 0
-AreNumbers t ids = AreOf t Number ids
+AreNumbers t ids = AreOfSort t Number ids
 
 -- the number of the term, or its first fault, where memory was enough
 abbrev pub EndsReading : TableView → Answer Term → Result TermId ReadError → Type 0
@@ -51,8 +51,8 @@ EndsReading t answer (Err (Fault f)) = answer ≡ Err (located_of f)
 EndsReading t answer (Err Memory) = Unit {0}
 
 -- The answer, by the number of its term in the table, which keeps what it had.
-pub record Answers (old new : TableView) (answer : Answer Term) (r : Result TermId ReadError) : Type 0 where
+pub record ReturnsTerm (old new : TableView) (answer : Answer Term) (r : Result TermId ReadError) : Type 0 where
   -- what was there is there still
-  pub keeps : Keeps old new
+  pub keeps : KeepsTable old new
   -- the number of the term, or its first fault
   pub ends : EndsReading new answer r

@@ -47,8 +47,8 @@ pub record IsLatest (names : List Name) (n : Name) (k : ℕ) : Type 0 where
   pub later : (j : ℕ) → k < j → j < length names → slice_index_or names j [] ≡ n → ⊥
 
 -- the names that were met stay, or one comes, which has no place
-abbrev pub Meets : List Name → List ℕ → List Name → List ℕ → Type 0
-Meets met latest more later =
+abbrev pub MeetsName : List Name → List ℕ → List Name → List ℕ → Type 0
+MeetsName met latest more later =
     ((more ≡ met) × (later ≡ latest)) ⊎ ((n : Name) × (more ≡ met ++ n ∷ []) × (later ≡ latest ++ 0 ∷ []))
 
 -- names with what they stand for, newest first

@@ -73,7 +73,7 @@ FunctionStands t (Some (Defined m)) (Some (defined d)) = IsMacro t m d
 FunctionStands t _ _ = ⊥
 
 -- In a table the scope stands for a signature: each name is there in both or in none, and means the same.
-pub record Stands (t : TableView) (v : ScopeView) (s : Signature) : Type 0 where
+pub record ScopeMeans (t : TableView) (v : ScopeView) (s : Signature) : Type 0 where
   -- the names of sorts
   pub sorts : (n : Name) → SortStands t (sort_under v n) (sort_as s n)
   -- the names of functions
@@ -85,7 +85,7 @@ pub record Stands (t : TableView) (v : ScopeView) (s : Signature) : Type 0 where
 
 -- in a table the scope stands for some signature
 abbrev pub HasSignature : TableView → ScopeView → Type 0
-HasSignature t v = (s : Signature) × Stands t v s
+HasSignature t v = (s : Signature) × ScopeMeans t v s
 
 -- The scope has what it had, and functions more.
 pub record Widens (old new : ScopeView) : Type 0 where

@@ -3,8 +3,8 @@
 ghost use Rattle.std.specs.Prelude.{◌<◌, length};
 ghost use Rattle.spec_sorts.specs.Terms.{Truth, of, negated, pair};
 ghost use Rattle.spec_sorts.specs.Theory.{conjunction, unequal};
-ghost use Rattle.term_core.specs.Tables.{head_meant, term_at, clause_at, Fits};
-ghost use Rattle.term_reader.specs.Building.{Builds, IsOf, AreOf, TakesBoth, HasPair, binary_head, link_term};
+ghost use Rattle.term_core.specs.Tables.{head_meant, term_at, clause_at, ShapeFits};
+ghost use Rattle.term_reader.specs.Building.{Builds, IsOf, AreOfSort, TakesBoth, HasPair, binary_head, link_term};
 ghost use Rattle.term_reader.specs.declared.building.Binary.TheVariants.{Equal as equals};
 
 use std::alloc::Global;
@@ -55,7 +55,7 @@ pub fn put(
     head: Head,
     arguments: &[TermId],
 ) -> Result<TermId, NoMemory>
-    requires { Fits table.old (record { head = head; arguments = arguments.now }) }
+    requires { ShapeFits table.old (record { head = head; arguments = arguments.now }) }
     ensures { Builds table.old table.new (of (head_meant table.old head) (clause_at table.old arguments.now)) result }
 {
     match Node::new(alloc, head, arguments) {
@@ -138,7 +138,7 @@ pub fn put_link(
 #[tactic(auto, using(crate::proofs::Tables::keeps_same, crate::proofs::Tables::one_part, crate::proofs::Tables::and_fits, crate::proofs::Tables::several))]
 pub fn conjoin(alloc: Global, table: &mut TermTable, parts: &[TermId]) -> Result<TermId, NoMemory>
     requires some { 0 < length parts.now }
-    requires truths { AreOf table.old Truth parts.now }
+    requires truths { AreOfSort table.old Truth parts.now }
     ensures { Builds table.old table.new (conjunction (clause_at table.old parts.now)) result }
 {
     if parts.len() == 1 {

@@ -8,7 +8,7 @@ ghost use Rattle.spec_reading.specs.Reading.{by_rule};
 ghost use Rattle.term_core.specs.Tables.{AreIn, clause_at};
 ghost use Rattle.term_core.specs.TheoryHeads.{rule_of};
 ghost use Rattle.term_reader.specs.Building.{Builds, link_term};
-ghost use Rattle.term_reader.specs.Heads.{takes_meant, IsTaken, AreAlike, Answers, AreNumbers};
+ghost use Rattle.term_reader.specs.Heads.{takes_meant, TakesArguments, AreAlike, ReturnsTerm, AreNumbers};
 ghost use Rattle.term_reader.specs.declared.building.Link.TheVariants.{Unequal as unequal_link};
 
 use crate::building::{Binary, Link, put};
@@ -236,7 +236,7 @@ fn build(
     head: TheoryHead,
     ids: &[TermId],
 ) -> Result<TermId, NoMemory>
-    requires { IsTaken table.old head ids.now }
+    requires { TakesArguments table.old head ids.now }
     ensures { Builds table.old table.new ((rule_of head).reads (clause_at table.old ids.now)) result }
 {
     match head {
@@ -278,7 +278,7 @@ pub fn by_rule(
     ids: &[TermId],
 ) -> Result<TermId, ReadError>
     requires { AreIn table.old ids.now }
-    ensures { Answers table.old table.new (by_rule (rule_of head) at (clause_at table.old ids.now)) result }
+    ensures { ReturnsTerm table.old table.new (by_rule (rule_of head) at (clause_at table.old ids.now)) result }
 {
     if !head.takes_count(ids.len()) {
         return Err(ReadError::Fault(fault_at(at, Fault::WrongCount)));

@@ -2,7 +2,7 @@
 
 ghost use Rattle.std.specs.Prelude.{◌≡◌, false, ◌<◌, [], ◌∷◌, ◌++◌, length, take, slice_index_or, MatchOption, IfOk, OnErr, OnOk};
 ghost use Rattle.spec_text.specs.Bytes.{among};
-ghost use Rattle.term_reader.specs.NameStacks.{IsLatest, Meets};
+ghost use Rattle.term_reader.specs.NameStacks.{IsLatest, MeetsName};
 
 use std::alloc::Global;
 use std::marker::Model;
@@ -31,7 +31,7 @@ pub struct NameStack {
 // The number of a name among those that were met, which it gets where it was not met before.
 fn number_of(met: &mut NameTable, latest: &mut Vec<u64>, name: &[u8]) -> Result<u64, NoMemory>
     ensures there { IfOk result (λ k. (k < length met.new) × (slice_index_or met.new k [] ≡ name.now)) }
-    ensures kept { OnOk result (Meets met.old latest.old.items met.new latest.new.items) }
+    ensures kept { OnOk result (MeetsName met.old latest.old.items met.new latest.new.items) }
     ensures same { OnErr result ((met.new ≡ met.old) × (latest.new.items ≡ latest.old.items)) }
 {
     if let Some(number) = met.find(name) {

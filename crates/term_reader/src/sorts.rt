@@ -4,7 +4,7 @@ ghost use Rattle.spec_reading.specs.Sorts.{sort_in, atom_sort, sort_named};
 ghost use Rattle.spec_sorts.specs.Signatures.{Signature};
 ghost use Rattle.smt_sexpr.specs.Items.{tree_meant};
 ghost use Rattle.term_core.specs.Tables.{TableView};
-ghost use Rattle.term_reader.specs.Scopes.{Stands};
+ghost use Rattle.term_reader.specs.Scopes.{ScopeMeans};
 ghost use Rattle.term_reader.specs.Sorts.{IsSortOf};
 
 use crate::faults::{TermFault, fault_at};
@@ -14,7 +14,7 @@ use spec_text::Fault;
 use term_core::Sort;
 
 fn sort_named(scope: &Scope, at: u64, name: &[u8]) -> Result<Sort, TermFault>
-    ensures { (t : TableView) (s : Signature) → Stands t scope.now s → IsSortOf t (sort_named s at name.now) result }
+    ensures { (t : TableView) (s : Signature) → ScopeMeans t scope.now s → IsSortOf t (sort_named s at name.now) result }
 {
     if same_bytes(name, b"Bool") {
         return Ok(Sort::Bool);
@@ -29,7 +29,7 @@ fn sort_named(scope: &Scope, at: u64, name: &[u8]) -> Result<Sort, TermFault>
 }
 
 fn atom_sort(scope: &Scope, at: u64, kind: Kind, name: &[u8]) -> Result<Sort, TermFault>
-    ensures { (t : TableView) (s : Signature) → Stands t scope.now s
+    ensures { (t : TableView) (s : Signature) → ScopeMeans t scope.now s
         → IsSortOf t (atom_sort s at kind name.now) result }
 {
     match kind {
@@ -46,7 +46,7 @@ fn atom_sort(scope: &Scope, at: u64, kind: Kind, name: &[u8]) -> Result<Sort, Te
 /// `Reserved` at a reserved word, and `BadShape` at any other atom. It takes no memory.
 /// Source: SMT-LIB 2.6, sections 3.5 and 4.2.3.
 pub fn sort_in(scope: &Scope, tree: Trees<'_>) -> Result<Sort, TermFault>
-    ensures { (t : TableView) (s : Signature) → Stands t scope.now s
+    ensures { (t : TableView) (s : Signature) → ScopeMeans t scope.now s
         → IsSortOf t (sort_in s (tree_meant tree.entry)) result }
 {
     match look(tree) {

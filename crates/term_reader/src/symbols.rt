@@ -6,7 +6,7 @@ ghost use Rattle.spec_sorts.specs.Signatures.{declared};
 ghost use Rattle.spec_reading.specs.Reading.{by_known, with_sorts};
 ghost use Rattle.term_core.specs.Symbols.{symbol_at, IsSymbol};
 ghost use Rattle.term_core.specs.Tables.{TableView, term_at, IsIn, AreIn, clause_at};
-ghost use Rattle.term_reader.specs.Heads.{Answers, EndsReading};
+ghost use Rattle.term_reader.specs.Heads.{ReturnsTerm, EndsReading};
 
 use crate::building::put;
 use crate::comparing::have_sorts;
@@ -31,7 +31,7 @@ pub fn by_symbol(
 ) -> Result<TermId, ReadError>
     requires symbol { IsSymbol table.old.symbols symbol }
     requires there { AreIn table.old ids.now }
-    ensures { Answers table.old table.new
+    ensures { ReturnsTerm table.old table.new
         (by_known (declared (symbol_at table.old.symbols symbol)) at (clause_at table.old ids.now)) result }
 {
     if ids.len() != table.symbols().parameters(symbol).len() {

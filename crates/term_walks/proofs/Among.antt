@@ -6,7 +6,7 @@ use Rattle.std.specs.Cmp.{ranks}
 use Rattle.std.specs.declared.cmp.Ordering.{Ordering}
 use Rattle.std.specs.declared.cmp.Ordering.TheVariants.{Less, Equal, Greater}
 use Rattle.std.specs.BTreeSet.{insert_key}
-use Rattle.term_walks.specs.Orders.{In, Adds, Ascends}
+use Rattle.term_walks.specs.Orders.{In, AddsNumbers, Ascends}
 
 pub in_first : (q : ℕ) (xs ys : List ℕ) → In q xs → In q (xs ++ ys)
 in_first q [] ys h = absurd h
@@ -52,11 +52,11 @@ put_in : (q k : ℕ) (xs : List ℕ) → (In q (k ∷ xs) → In q (insert_key n
 put_in q k [] = (λ h. h, λ h. elim h [ inl e ↦ inr e | inr r ↦ absurd r ])
 put_in q k (x ∷ xs) = let p = put_in q k xs in match_in q k x xs (insert_key nat_cmp xs k) (nat_cmp k x) (ranks k x) p.0 p.1
 
-pub adds_none : (old : List ℕ) → Adds old [] old
+pub adds_none : (old : List ℕ) → AddsNumbers old [] old
 adds_none old = record { kept = λ q h. h; there = λ q h. absurd h; no_others = λ q h. inl h }
 
-pub adds_more : (old mid new ids : List ℕ) (at k d : ℕ) → at < length ids → k ≡ get_or ids at d → new ≡ insert_key nat_cmp mid k → Adds old (take at ids) mid → Adds old (take (at + 1) ids) new
-adds_more old mid new ids at k d lt is keys h = subst (λ l. Adds old l new) (sym (take_more ids at d lt)) (record {
+pub adds_more : (old mid new ids : List ℕ) (at k d : ℕ) → at < length ids → k ≡ get_or ids at d → new ≡ insert_key nat_cmp mid k → AddsNumbers old (take at ids) mid → AddsNumbers old (take (at + 1) ids) new
+adds_more old mid new ids at k d lt is keys h = subst (λ l. AddsNumbers old l new) (sym (take_more ids at d lt)) (record {
   kept = λ q a. subst (In q) (sym keys) ((put_in q k mid).0 (inr (h.kept q a)));
   there = λ q a. elim (in_either q (take at ids) (get_or ids at d ∷ []) a) [
     | inl b ↦ subst (In q) (sym keys) ((put_in q k mid).0 (inr (h.there q b)))

@@ -15,7 +15,7 @@ use Rattle.term_core.specs.Tables.{TableView, declared_in, IsIn, AreIn, term_at,
 use Rattle.term_core.proofs.TermsExtend.{IsIn-kept, term_at-kept}
 use Rattle.term_walks.specs.Filling.{Fills, FillsAll}
 use Rattle.term_walks.specs.FilledTerms.{IsFilled, AreFilled, refilled, IsParameter, IsNoParameter}
-use Rattle.term_walks.specs.Orders.{number_term, IsReady}
+use Rattle.term_walks.specs.Orders.{number_term, HasArgumentsBefore}
 use Rattle.term_walks.proofs.Named.{heads_in}
 use Rattle.term_walks.proofs.Taking.{all_push}
 
@@ -111,7 +111,7 @@ module _ (old new : TableView) (grows : Extends old new) where
   filled_kept : (ts : List Term) (k : ℕ) (id : TermId) → k < length old.terms → IsFilled old ts k id → IsFilled new ts k id
   filled_kept ts k id lt h = (IsIn-kept old new grows id h.0, term_at-kept old new grows id h.0 ∙ h.1 ∙ ap (filled ts) (sym (number_kept k lt)))
 
-  pub ready_kept : (order : List ℕ) (count k : ℕ) → k < length old.terms → IsReady old order count k → IsReady new order count k
+  pub ready_kept : (order : List ℕ) (count k : ℕ) → k < length old.terms → HasArgumentsBefore old order count k → HasArgumentsBefore new order count k
   ready_kept order count k lt r u i =
       let p = r u (subst (λ x. Contains (arguments_of x) u) (number_kept k lt) i) in
       (p.0, p.1, p.2, IsIn-kept old new grows (record { 0 = get_or order p.0 0 }) p.3, number_kept (get_or order p.0 0) p.3 ∙ p.4)

@@ -7,7 +7,7 @@ use Rattle.spec_sorts.specs.Terms.{Term}
 use Rattle.spec_sorts.specs.Subsets.{arguments_of}
 use Rattle.term_core.specs.Tables.{TableView}
 use Rattle.term_walks.specs.Filling.{FillsAll}
-use Rattle.term_walks.specs.Orders.{number_term, In, Adds, Ascends, Names, IsOrder}
+use Rattle.term_walks.specs.Orders.{number_term, In, AddsNumbers, Ascends, NamesArguments, IsOrder}
 use Rattle.term_walks.proofs.Among.{in_first, in_either, in_second, all_in}
 
 -- Those found ascend, and those that wait are below them.
@@ -24,11 +24,11 @@ pub less_by : (q k : ℕ) → IsLtBy nat_cmp q k → q < k
 less_by q k h = subst (λ o. MatchOrdering o (q < k) (q ≡ k) (k < q)) h (ranks q k)
 
 -- an argument of a number's term came
-came : (t : TableView) (k : ℕ) (ids old new found : List ℕ) (u : Term) → Adds old ids new → Names t k ids → Contains (arguments_of (number_term t k)) u
+came : (t : TableView) (k : ℕ) (ids old new found : List ℕ) (u : Term) → AddsNumbers old ids new → NamesArguments t k ids → Contains (arguments_of (number_term t k)) u
     → (a : ℕ) × (In a new ⊎ In a found) × (a < k) × (number_term t a ≡ u)
 came t k ids old new found u adds names i = let p = names.covers u i in (p.0, inl (adds.there p.0 p.1), all_in (λ a. a < k) p.0 ids names.before p.1, p.2)
 
-pub found_first : (t : TableView) (root : ℕ) (ids old new : List ℕ) → old ≡ [] → Adds old ids new → Names t root ids → root < length t.terms → IsFound t root new (root ∷ []) root
+pub found_first : (t : TableView) (root : ℕ) (ids old new : List ℕ) → old ≡ [] → AddsNumbers old ids new → NamesArguments t root ids → root < length t.terms → IsFound t root new (root ∷ []) root
 found_first t root ids old new e adds names lt = record {
   ascends = (λ q j. absurd j, tt);
   apart = λ q k i j. elim j [ inl is ↦ subst (λ n. q < n) (sym is) (new_below q i) | inr r ↦ absurd r ];
@@ -60,7 +60,7 @@ k_there t root k waiting rest found top f popped = f.there k (inl (waits k waiti
 pub k_below : (t : TableView) (root k : ℕ) (waiting rest found : List ℕ) (top : ℕ) → IsFound t root waiting found top → waiting ≡ rest ++ k ∷ [] → k < top
 k_below t root k waiting rest found top f popped = f.below k (waits k waiting rest popped)
 
-module _ (t : TableView) (root k : ℕ) (ids waiting rest new found : List ℕ) (top : ℕ) (f : IsFound t root waiting found top) (popped : waiting ≡ rest ++ k ∷ []) (low : All (λ q. IsLtBy nat_cmp q k) rest) (adds : Adds rest ids new) (names : Names t k ids) where
+module _ (t : TableView) (root k : ℕ) (ids waiting rest new found : List ℕ) (top : ℕ) (f : IsFound t root waiting found top) (popped : waiting ≡ rest ++ k ∷ []) (low : All (λ q. IsLtBy nat_cmp q k) rest) (adds : AddsNumbers rest ids new) (names : NamesArguments t k ids) where
   new_below : (q : ℕ) → In q new → q < k
   new_below q i = elim (adds.no_others q i) [ inl r ↦ less_by q k (all_in (λ q. IsLtBy nat_cmp q k) q rest low r) | inr a ↦ all_in (λ a. a < k) q ids names.before a ]
 

@@ -10,7 +10,7 @@ use Rattle.spec_sorts.proofs.General.{list_of-terms_of}
 use Rattle.term_core.specs.declared.ids.TermId.{TermId}
 use Rattle.term_core.specs.Tables.{TableView, term_at, clause_at}
 use Rattle.term_walks.specs.Filling.{FillsAll, Fills}
-use Rattle.term_walks.specs.Orders.{numbers_of, number_term, In, Names}
+use Rattle.term_walks.specs.Orders.{numbers_of, number_term, In, NamesArguments}
 use Rattle.term_walks.proofs.Among.{in_place, at_in, in_all}
 
 abbrev pub no_number : TermId
@@ -51,7 +51,7 @@ pub heads_in : (P : Head → Type 0) (h : Head) (us : List Term) → AllHeads P 
 unfolding AllHeads AllHeadsIn
 heads_in P h us a = a.1
 
-pub named : (t : TableView) (k : ℕ) (h : Head) (ids : List TermId) → number_term t k ≡ of h (clause_at t ids) → All (λ (id : TermId). id.0 < k) ids → Names t k (numbers_of ids)
+pub named : (t : TableView) (k : ℕ) (h : Head) (ids : List TermId) → number_term t k ≡ of h (clause_at t ids) → All (λ (id : TermId). id.0 < k) ids → NamesArguments t k (numbers_of ids)
 named t k h ids e low = record {
   before = in_all (λ a. a < k) (numbers_of ids) (λ q i. let p = of_number ids q i in subst (λ n. n < k) p.2 (below p.0 p.1));
   covers = λ u c.

@@ -17,8 +17,8 @@ use Rattle.term_core.specs.Tables.{TableView, AreIn, AreDifferent, term_at, clau
 use Rattle.term_walks.specs.declared.values.Value.{Value as CodeValue}
 use Rattle.term_walks.specs.declared.valuation.Known.{Known}
 use Rattle.term_walks.specs.Valuations.{value_meant, values_meant}
-use Rattle.term_walks.specs.Orders.{number_term, In, Ascends, IsOrder, StandsBefore, IsReady}
-use Rattle.term_walks.specs.KnownValues.{known_meant, AreKnown}
+use Rattle.term_walks.specs.Orders.{number_term, In, Ascends, IsOrder, StandsBefore, HasArgumentsBefore}
+use Rattle.term_walks.specs.KnownValues.{known_meant, AreKnownValues}
 use Rattle.term_walks.proofs.Among.{in_place, at_in}
 use Rattle.term_walks.proofs.Places.{falls_before, one_place}
 use Rattle.term_walks.proofs.Named.{arguments_are}
@@ -73,8 +73,8 @@ unfolding bounded_values
 take_end t i ids k made le = ap (λ l. with_front (values_meant t.sorts made) (bounded_values i [] (terms_of (clause_at t l)))) (drop_of_length-le ids le) ∙ ap Ok (append-nil (values_meant t.sorts made))
 
 -- something more is known, of the next
-pub known_push : (t : TableView) (i : Interpretation) (order : List ℕ) (ks new : List Known) (x : Known) (at : ℕ) → new ≡ ks ++ x ∷ [] → length ks ≡ at → AreKnown t i order ks
-    → known_meant t.sorts x ≡ bounded_value i [] (number_term t (get_or order at 0)) → AreKnown t i order new
+pub known_push : (t : TableView) (i : Interpretation) (order : List ℕ) (ks new : List Known) (x : Known) (at : ℕ) → new ≡ ks ++ x ∷ [] → length ks ≡ at → AreKnownValues t i order ks
+    → known_meant t.sorts x ≡ bounded_value i [] (number_term t (get_or order at 0)) → AreKnownValues t i order new
 known_push t i order ks new x at e long are last j d lt =
     let within : j < length ks + 1 = subst (λ m. j < m) (ap length e ∙ length_push ks x) lt in
     elim (cases_lt j (length ks)) [
@@ -85,14 +85,14 @@ known_push t i order ks new x at e long are last j d lt =
     ]
 
 -- the arguments of the next of an order stand before it
-pub ready : (t : TableView) (root : ℕ) (order : List ℕ) (at : ℕ) → IsOrder t root order → at < length order → IsReady t order at (get_or order at 0)
+pub ready : (t : TableView) (root : ℕ) (order : List ℕ) (at : ℕ) → IsOrder t root order → at < length order → HasArgumentsBefore t order at (get_or order at 0)
 ready t root order at o lt u i =
     let a = o.closed (get_or order at 0) u (at_in order at lt) i in
     let p = in_place a.0 order a.1 in
     (p.0, falls_before order o.ascends p.0 at p.1 (subst (λ n. n < get_or order at 0) (sym p.2) a.2), p.1, o.there (get_or order p.0 0) (at_in order p.0 p.1), ap (number_term t) p.2 ∙ a.3)
 
 -- so their numbers do
-pub stand : (t : TableView) (order : List ℕ) (count k : ℕ) (h : Head) (ids : List TermId) → AreDifferent t.terms → IsReady t order count k → number_term t k ≡ of h (clause_at t ids) → AreIn t ids
+pub stand : (t : TableView) (order : List ℕ) (count k : ℕ) (h : Head) (ids : List TermId) → AreDifferent t.terms → HasArgumentsBefore t order count k → number_term t k ≡ of h (clause_at t ids) → AreIn t ids
     → All (λ (id : TermId). StandsBefore order count id.0) ids
 stand t order count k h ids apart are means within j d lt =
     let id = get_or ids j d in

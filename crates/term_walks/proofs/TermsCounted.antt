@@ -9,7 +9,7 @@ use Rattle.spec_sorts.specs.Terms.{Term}
 use Rattle.spec_sorts.specs.Subterms.{subterms_of}
 use Rattle.spec_sorts.specs.Subsets.{arguments_of, AreAmong, IsClosed, AreOnce}
 use Rattle.term_core.specs.declared.ids.TermId.{TermId}
-use Rattle.term_core.specs.Tables.{TableView, term_at, IsIn, AreIn, clause_at, Shape, shape_term, Fits, AreDifferent}
+use Rattle.term_core.specs.Tables.{TableView, term_at, IsIn, AreIn, clause_at, Shape, shape_term, ShapeFits, AreDifferent}
 use Rattle.term_walks.specs.Counting.{no_number, AreNumbersOnce, AddsOnce}
 use Rattle.term_core.proofs.TermsClosed.{argument_of, argument_in, term_there}
 
@@ -46,7 +46,7 @@ module _ (t : TableView) (ids : List TermId) (start : AreAmong (clause_at t ids)
         closed = λ k lt. absurd (omega (arith, lt));
       }
 
-  pub counted_more : (seen new : List TermId) (done : ℕ) (d : TermId) (s : Shape) → Counted t ids seen done → done < length seen → term_at t (get_or seen done d) ≡ shape_term t s → Fits t s
+  pub counted_more : (seen new : List TermId) (done : ℕ) (d : TermId) (s : Shape) → Counted t ids seen done → done < length seen → term_at t (get_or seen done d) ≡ shape_term t s → ShapeFits t s
       → AddsOnce seen s.arguments new → Counted t ids new (done + 1)
   counted_more seen new done d s c lt means fits a =
       let kept : (id : TermId) → Contains seen id → Contains new id = λ id i. subst (λ l. Contains l id) (sym a.kept) (Contains-append_left seen a.more id i) in

@@ -29,5 +29,5 @@ IsKnownNamed sorts (known.Value v) = IsNamed sorts v
 IsKnownNamed sorts (known.Wide w) = Unit {0}
 
 -- under an interpretation, this is what is to be known of the first terms of an order
-abbrev pub AreKnown : TableView → Interpretation → List ℕ → List Known → Type 0
-AreKnown t i order ks = (j : ℕ) (d : Known) → j < length ks → known_meant t.sorts (get_or ks j d) ≡ bounded_value i [] (number_term t (get_or order j 0))
+abbrev pub AreKnownValues : TableView → Interpretation → List ℕ → List Known → Type 0
+AreKnownValues t i order ks = (j : ℕ) (d : Known) → j < length ks → known_meant t.sorts (get_or ks j d) ≡ bounded_value i [] (number_term t (get_or order j 0))

@@ -25,7 +25,7 @@ Ascends [] = Unit {0}
 Ascends (k ∷ ks) = ((q : ℕ) → In q ks → k < q) × Ascends ks
 
 -- Numbers that came among others.
-pub record Adds (old more new : List ℕ) : Type 0 where
+pub record AddsNumbers (old more new : List ℕ) : Type 0 where
   -- those that were there are there
   pub kept : (q : ℕ) → In q old → In q new
   -- those that came too
@@ -34,7 +34,7 @@ pub record Adds (old more new : List ℕ) : Type 0 where
   pub no_others : (q : ℕ) → In q new → In q old ⊎ In q more
 
 -- Numbers that name the arguments of a number's term.
-pub record Names (t : TableView) (k : ℕ) (ids : List ℕ) : Type 0 where
+pub record NamesArguments (t : TableView) (k : ℕ) (ids : List ℕ) : Type 0 where
   -- they are smaller
   pub before : All (λ a. a < k) ids
   -- each argument is the term of one of them
@@ -60,5 +60,5 @@ abbrev pub StandsBefore : List ℕ → ℕ → ℕ → Type 0
 StandsBefore order count n = (j : ℕ) × (j < count) × (j < length order) × (get_or order j 0 ≡ n)
 
 -- each argument of the number's term stands among the first so many
-abbrev pub IsReady : TableView → List ℕ → ℕ → ℕ → Type 0
-IsReady t order count k = (u : Term) → Contains (arguments_of (number_term t k)) u → (j : ℕ) × (j < count) × (j < length order) × (get_or order j 0 < length t.terms) × (number_term t (get_or order j 0) ≡ u)
+abbrev pub HasArgumentsBefore : TableView → List ℕ → ℕ → ℕ → Type 0
+HasArgumentsBefore t order count k = (u : Term) → Contains (arguments_of (number_term t k)) u → (j : ℕ) × (j < count) × (j < length order) × (get_or order j 0 < length t.terms) × (number_term t (get_or order j 0) ≡ u)

@@ -2,7 +2,7 @@
 use Rattle.std.specs.Prelude.{◌≡◌, ◌<◌, ◌≤◌, false, List, [], length, map, All, slice_index_or, Result, Ok, Err}
 use Rattle.spec_text.specs.Bytes.{Name}
 use Rattle.spec_numbers.specs.Bounds.{Overflow}
-use Rattle.spec_sorts.specs.Values.{Value, truth, number, element, Row, Table, Interpretation}
+use Rattle.spec_sorts.specs.Values.{Value, truth, number, element, TableRow, Table, Interpretation}
 use Rattle.ratio128.specs.declared.wide.Wide.{Wide}
 use Rattle.ratio128.specs.Meant.{fraction, overflow}
 use Rattle.term_core.specs.declared.ids.SymbolId.{SymbolId}
@@ -35,7 +35,7 @@ answer_meant sorts (Ok v) = Ok (value_meant sorts v)
 answer_meant sorts (Err w) = Err (overflow w)
 
 -- the row that the code's means
-abbrev pub row_meant : List Name → CodeRow → Row
+abbrev pub row_meant : List Name → CodeRow → TableRow
 row_meant sorts r = record { arguments = values_meant sorts r.arguments.items; value = value_meant sorts r.value }
 
 -- the table that the code's means
@@ -78,8 +78,8 @@ pub record IsTableNamed (sorts : List Name) (t : CodeTable) : Type 0 where
   pub default : IsNamed sorts t.default
 
 -- an interpretation has, under each symbol's name, the table of the symbol's number
-abbrev pub Stands : TableView → Interp → Interpretation → Type 0
-Stands t interp i = (s : SymbolId) → IsSymbol t.symbols s → i.table (symbol_at t.symbols s).name ≡ slice_index_or (tables_meant t.sorts interp) s.0 no_table
+abbrev pub HasSymbolTables : TableView → Interp → Interpretation → Type 0
+HasSymbolTables t interp i = (s : SymbolId) → IsSymbol t.symbols s → i.table (symbol_at t.symbols s).name ≡ slice_index_or (tables_meant t.sorts interp) s.0 no_table
 
 -- Tables for the symbols of a table of terms.
 pub record HasTables (t : TableView) (interp : Interp) : Type 0 where
@@ -100,7 +100,7 @@ pub record Tells (t : TableView) (interp : Interp) (i : Interpretation) : Type 0
   -- there are tables
   pub tables : HasTables t interp
   -- the interpretation has them
-  pub stands : Stands t interp i
+  pub stands : HasSymbolTables t interp i
 
 -- the value that was found, or the overflow; out of memory says nothing
 abbrev pub IsOutcome : List Name → Result CodeValue ValueStop → Result Value Overflow → Type 0

@@ -2,7 +2,7 @@
 
 ghost use Rattle.std.specs.Prelude.{◌≡◌, ◌<◌, ℕ, List, length, get_or, IfOk, OnOk};
 ghost use Rattle.term_core.specs.Tables.{IsIn};
-ghost use Rattle.term_walks.specs.Orders.{numbers_of, In, Ascends, Adds, Names, IsOrder, StandsBefore};
+ghost use Rattle.term_walks.specs.Orders.{numbers_of, In, Ascends, AddsNumbers, NamesArguments, IsOrder, StandsBefore};
 
 use std::alloc::Global;
 use std::collections::BTreeSet;
@@ -31,14 +31,14 @@ pub fn order_of(alloc: Global, table: &TermTable, root: TermId) -> Result<Vec<u6
 /// Puts the arguments of a term among those that wait.
 fn add_arguments(waiting: &mut BTreeSet<u64>, table: &TermTable, id: TermId) -> Result<(), NoMemory>
     requires { IsIn table.now id }
-    ensures { OnOk result ((ids : List ℕ) × Names table.now id.0 ids × Adds waiting.old.keys ids waiting.new.keys) }
+    ensures { OnOk result ((ids : List ℕ) × NamesArguments table.now id.0 ids × AddsNumbers waiting.old.keys ids waiting.new.keys) }
 {
     add_all(waiting, table.node(id).arguments.as_slice())
 }
 
 /// Puts numbers among those that wait.
 fn add_all(waiting: &mut BTreeSet<u64>, ids: &[TermId]) -> Result<(), NoMemory>
-    ensures { OnOk result (Adds waiting.old.keys (numbers_of ids.now) waiting.new.keys) }
+    ensures { OnOk result (AddsNumbers waiting.old.keys (numbers_of ids.now) waiting.new.keys) }
 {
     'ids: for at in 0..ids.len() {
         waiting.insert(ids[at].0)?;

@@ -5,7 +5,7 @@ ghost use Rattle.spec_sorts.specs.Terms.{Term, filled};
 ghost use Rattle.term_core.specs.Tables.{TableView, declared_in, term_at, IsIn, AreIn, clause_at, node_term, IsPlaced, Extends};
 ghost use Rattle.term_walks.specs.Filling.{FillsAll};
 ghost use Rattle.term_walks.specs.FilledTerms.{IsFilled, AreFilled, refilled, IsNoParameter, IsParameterOr};
-ghost use Rattle.term_walks.specs.Orders.{Ascends, IsOrder, StandsBefore, IsReady};
+ghost use Rattle.term_walks.specs.Orders.{Ascends, IsOrder, StandsBefore, HasArgumentsBefore};
 
 use crate::order::{order_of, place_among};
 use std::alloc::Global;
@@ -97,7 +97,7 @@ fn fill_next(
     requires arguments { AreIn table.old arguments.now }
     requires fills { FillsAll (clause_at table.old arguments.now) (term_at table.old id) }
     requires ascends { Ascends order.now }
-    requires ready { IsReady table.old order.now (length made.now) id.0 }
+    requires ready { HasArgumentsBefore table.old order.now (length made.now) id.0 }
     requires made { AreFilled table.old (clause_at table.old arguments.now) order.now made.now }
     ensures filled { IfOk result (λ n. IsIn table.new n
         × (term_at table.new n ≡ filled (clause_at table.old arguments.now) (term_at table.old id))) }
@@ -122,7 +122,7 @@ fn put_filled(
     requires none { IsNoParameter (term_at table.old id) }
     requires fills { FillsAll (clause_at table.old arguments.now) (term_at table.old id) }
     requires ascends { Ascends order.now }
-    requires ready { IsReady table.old order.now (length made.now) id.0 }
+    requires ready { HasArgumentsBefore table.old order.now (length made.now) id.0 }
     requires made { AreFilled table.old (clause_at table.old arguments.now) order.now made.now }
     ensures filled { IfOk result (λ n. IsIn table.new n
         × (term_at table.new n ≡ filled (clause_at table.old arguments.now) (term_at table.old id))) }
@@ -155,7 +155,7 @@ fn filled_node(
 ) -> Result<Node, NoMemory>
     requires there { IsIn table.now id }
     requires ascends { Ascends order.now }
-    requires ready { IsReady table.now order.now (length made.now) id.0 }
+    requires ready { HasArgumentsBefore table.now order.now (length made.now) id.0 }
     ensures { (ts : List Term) → AreFilled table.now ts order.now made.now → FillsAll ts (term_at table.now id)
         → IfOk result (λ n. IsPlaced table.now n × (node_term table.now n ≡ refilled ts (term_at table.now id))) }
 {

@@ -6,9 +6,9 @@ ghost use Rattle.spec_sorts.specs.Terms.{terms_of};
 ghost use Rattle.spec_sorts.specs.Values.{Interpretation};
 ghost use Rattle.spec_sorts.specs.BoundedValues.{bounded_head, bounded_value, bounded_values};
 ghost use Rattle.term_core.specs.Tables.{TableView, IsIn, term_at, clause_at, head_meant, HasHead};
-ghost use Rattle.term_walks.specs.Valuations.{values_meant, IsNamed, AreNamed, HasTable, HasTables, Stands, Tells, IsOutcome};
-ghost use Rattle.term_walks.specs.Orders.{number_term, Ascends, IsOrder, StandsBefore, IsReady};
-ghost use Rattle.term_walks.specs.KnownValues.{known_meant, taken_meant, IsKnownNamed, AreKnown};
+ghost use Rattle.term_walks.specs.Valuations.{values_meant, IsNamed, AreNamed, HasTable, HasTables, HasSymbolTables, Tells, IsOutcome};
+ghost use Rattle.term_walks.specs.Orders.{number_term, Ascends, IsOrder, StandsBefore, HasArgumentsBefore};
+ghost use Rattle.term_walks.specs.KnownValues.{known_meant, taken_meant, IsKnownNamed, AreKnownValues};
 
 use crate::heads::head_value;
 use crate::order::{order_of, place_among};
@@ -42,7 +42,7 @@ pub fn value(
 ) -> Result<Value, ValueStop>
     requires there { IsIn table.now id }
     requires interprets { HasTables table.now interp.now }
-    ensures exact { (i : Interpretation) → Stands table.now interp.now i
+    ensures exact { (i : Interpretation) → HasSymbolTables table.now interp.now i
         → IsOutcome table.now.sorts result (bounded_value i [] (term_at table.now id)) }
     ensures named { IfOk result (IsNamed table.now.sorts) }
 {
@@ -60,7 +60,7 @@ fn value_along(
 ) -> Result<Value, ValueStop>
     requires interprets { HasTables table.now interp.now }
     requires order { IsOrder table.now id.0 order.now }
-    ensures exact { (i : Interpretation) → Stands table.now interp.now i
+    ensures exact { (i : Interpretation) → HasSymbolTables table.now interp.now i
         → IsOutcome table.now.sorts result (bounded_value i [] (term_at table.now id)) }
     ensures named { IfOk result (IsNamed table.now.sorts) }
 {
@@ -90,9 +90,9 @@ fn known_next(
     requires there { IsIn table.now id }
     requires interprets { HasTables table.now interp.now }
     requires ascends { Ascends order.now }
-    requires ready { IsReady table.now order.now (length known.now) id.0 }
+    requires ready { HasArgumentsBefore table.now order.now (length known.now) id.0 }
     requires named { All (IsKnownNamed table.now.sorts) known.now }
-    ensures exact { (i : Interpretation) → Tells table.now interp.now i → AreKnown table.now i order.now known.now
+    ensures exact { (i : Interpretation) → Tells table.now interp.now i → AreKnownValues table.now i order.now known.now
         → IfOk result (λ k. known_meant table.now.sorts k ≡ bounded_value i [] (term_at table.now id)) }
     ensures named { IfOk result (IsKnownNamed table.now.sorts) }
 {
@@ -113,7 +113,7 @@ fn take_values(
 ) -> Result<Option<Wide>, NoMemory>
     requires ascends { Ascends order.now }
     requires there { All (λ id. StandsBefore order.now (length known.now) id.0) arguments.now }
-    ensures exact { (t : TableView) (i : Interpretation) → AreKnown t i order.now known.now
+    ensures exact { (t : TableView) (i : Interpretation) → AreKnownValues t i order.now known.now
         → IfOk result (λ w. taken_meant t.sorts w taken.new.items
         ≡ bounded_values i [] (terms_of (clause_at t arguments.now))) }
     ensures named { (sorts : List Name) → All (IsKnownNamed sorts) known.now
@@ -135,7 +135,7 @@ fn take_values(
 fn known_at(order: &[u64], known: &[Known], number: u64) -> Known
     requires ascends { Ascends order.now }
     requires there { StandsBefore order.now (length known.now) number }
-    ensures exact { (t : TableView) (i : Interpretation) → AreKnown t i order.now known.now
+    ensures exact { (t : TableView) (i : Interpretation) → AreKnownValues t i order.now known.now
         → known_meant t.sorts result ≡ bounded_value i [] (number_term t number) }
     ensures named { (sorts : List Name) → All (IsKnownNamed sorts) known.now → IsKnownNamed sorts result }
 {

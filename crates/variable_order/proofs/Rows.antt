@@ -14,7 +14,7 @@ use Rattle.std.proofs.lemmas.Option.{none-some, same_Some}
 use Rattle.term_core.specs.declared.ids.TermId.{TermId}
 use Rattle.variable_order.specs.Orders.{IsEmpty}
 use Rattle.variable_order.specs.Rows.{no_variable, IsAt}
-use Rattle.variable_order.specs.Kept.{view_of, ArePlaces}
+use Rattle.variable_order.specs.Kept.{order_view, ArePlaces}
 use Rattle.variable_order.specs.declared.places.Places.TheInside.{Inside}
 
 -- the number of the variable at a place
@@ -34,7 +34,7 @@ not_member places v e = go (get_or places v None) (sym (member_of places v) ∙ 
     go (Some k) f = absurd (true≢false f)
 
 -- what the place of a variable tells
-pub place_by : (p : Inside) (v : TermId) → ArePlaces p.row.items p.places.items → (o : Option ℕ) → get_or p.places.items v.0 None ≡ o → MatchOption o (get_or (map is_some p.places.items) v.0 false ≡ false) (IsAt (view_of p) v)
+pub place_by : (p : Inside) (v : TermId) → ArePlaces p.row.items p.places.items → (o : Option ℕ) → get_or p.places.items v.0 None ≡ o → MatchOption o (get_or (map is_some p.places.items) v.0 false ≡ false) (IsAt (order_view p) v)
 place_by p v h None e = member_of p.places.items v.0 ∙ ap is_some e
 place_by p v h (Some k) e = record { is_in = member_of p.places.items v.0 ∙ ap is_some e; within = (h.only v.0 k e).0 }
 

@@ -6,8 +6,8 @@ use Rattle.variable_order.specs.Rows.{RowView, no_variable}
 use Rattle.variable_order.specs.declared.places.Places.TheInside.{Inside}
 
 -- what the fields mean
-abbrev pub view_of : Inside → RowView
-view_of p = record { row = p.row.items; members = map is_some p.places.items }
+abbrev pub order_view : Inside → RowView
+order_view p = record { row = p.row.items; members = map is_some p.places.items }
 
 -- The places are those of the variables in the row.
 pub record ArePlaces (row : List TermId) (places : List (Option ℕ)) : Type 0 where
@@ -17,7 +17,7 @@ pub record ArePlaces (row : List TermId) (places : List (Option ℕ)) : Type 0 w
   pub only : (v k : ℕ) → get_or places v None ≡ Some k → (k < length row) × ((get_or row k no_variable).0 ≡ v)
 
 -- The fields fit, and there is room for each variable.
-pub record IsKept (p : Inside) : Type 0 where
+pub record OrderFits (p : Inside) : Type 0 where
   -- the places are those of the row
   pub placed : ArePlaces p.row.items p.places.items
   -- each variable has room in the row

@@ -11,7 +11,7 @@ abbrev pub IsEmpty : List Bool → Type 0
 IsEmpty members = (v : TermId) → IsIn members v → ⊥
 
 -- One variable is taken out, and no other.
-pub record IsTaken (old : List Bool) (v : TermId) (new : List Bool) : Type 0 where
+pub record IsRemoved (old : List Bool) (v : TermId) (new : List Bool) : Type 0 where
   -- it was in
   pub was_in : IsIn old v
   -- it is so no more

@@ -1,7 +1,7 @@
 //! The order of variables by activity.
 
 ghost use Rattle.std.specs.Prelude.{◌≡◌, ◌<◌, ◌++◌, ◌∷◌, [], true, false, length, set, OnOk, OnErr, MatchOption};
-ghost use Rattle.variable_order.specs.Orders.{IsEmpty, IsTaken};
+ghost use Rattle.variable_order.specs.Orders.{IsEmpty, IsRemoved};
 
 use crate::places::Places;
 use crate::score::{Score, scale};
@@ -101,7 +101,7 @@ impl VariableOrder {
 
     /// Takes a most active variable; `None` exactly where none is in the order. It takes no memory.
     pub fn pop(&mut self) -> Option<TermId>
-        ensures { MatchOption result (IsEmpty self.old × (self.new ≡ self.old)) (λ v. IsTaken self.old v self.new) }
+        ensures { MatchOption result (IsEmpty self.old × (self.new ≡ self.old)) (λ v. IsRemoved self.old v self.new) }
     {
         let len = self.places.len();
         if len > 1 {

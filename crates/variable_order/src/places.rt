@@ -1,7 +1,7 @@
 //! Variables in a row, each of which knows its place.
 
 ghost use Rattle.std.specs.Prelude.{◌≡◌, ◌<◌, ◌++◌, ◌∷◌, [], true, false, length, get_or, set, OnOk, OnErr, MatchOption};
-ghost use Rattle.variable_order.specs.Orders.{IsEmpty, IsTaken};
+ghost use Rattle.variable_order.specs.Orders.{IsEmpty, IsRemoved};
 ghost use Rattle.variable_order.specs.Rows.{nowhere, IsAt};
 
 use std::alloc::Global;
@@ -25,11 +25,11 @@ impl Model for Places {
 
     ghost Value = { RowView };
 
-    ghost use Rattle.variable_order.specs.Kept.{view_of, IsKept};
+    ghost use Rattle.variable_order.specs.Kept.{order_view, OrderFits};
 
-    ghost view = { view_of };
+    ghost view = { order_view };
 
-    ghost invariant = { IsKept };
+    ghost invariant = { OrderFits };
 }
 
 impl Places {
@@ -114,7 +114,7 @@ impl Places {
     /// Takes the last variable; nothing exactly where there is none.
     pub(crate) fn pop(&mut self) -> Option<TermId>
         ensures { MatchOption result (IsEmpty self.old.members × (self.new ≡ self.old))
-            (λ v. IsTaken self.old.members v self.new.members) }
+            (λ v. IsRemoved self.old.members v self.new.members) }
     {
         let Some(v) = self.row.pop() else {
             return None;

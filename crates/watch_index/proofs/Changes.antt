@@ -8,7 +8,7 @@ use Rattle.std.proofs.lemmas.List.{append-nil, append_assoc, length-append, repl
 use Rattle.clause_literals.specs.Literals.{lists}
 use Rattle.clause_literals.proofs.Noting.{list_at}
 use Rattle.term_core.specs.declared.ids.Lit.{Lit}
-use Rattle.watch_index.specs.Indexes.{code, list_of, below, HasGrown, IsPut, IsTakenOut}
+use Rattle.watch_index.specs.Indexes.{code, list_of, numbers_below, HasGrown, IsAppended, IsTakenOut}
 
 abbrev numbers : Vec ℕ Global → List ℕ
 numbers v = v.items
@@ -60,7 +60,7 @@ grown_same old new h k = ap (λ xs. get_or xs k []) h.is ∙ elim (cases_lt k (l
       | inr past ↦ get_or_past (replicate h.more []) i [] (omega (arith, past, length-replicate h.more none))
     ]
 
-pub put_grown : (old mid new : List (List ℕ)) (k n : ℕ) → HasGrown old mid → k < length mid → new ≡ set mid k (get_or mid k [] ++ n ∷ []) → IsPut old k n new
+pub put_grown : (old mid new : List (List ℕ)) (k n : ℕ) → HasGrown old mid → k < length mid → new ≡ set mid k (get_or mid k [] ++ n ∷ []) → IsAppended old k n new
 put_grown old mid new k n h lt e = record {
   list = ap (λ xs. get_or xs k []) e ∙ get_or-set_same mid k (get_or mid k [] ++ n ∷ []) [] lt ∙ ap (λ xs. xs ++ n ∷ []) (grown_same old mid h k);
   others = λ j o. ap (λ xs. get_or xs j []) e ∙ get_or-set_other mid k j (get_or mid k [] ++ n ∷ []) [] o ∙ grown_same old mid h j;
@@ -80,36 +80,36 @@ pub has_list : (index : List (List ℕ)) (l : Lit) (at : ℕ) → at < length (l
 has_list index l at lt past = omega (arith, lt, ap length (get_or_past index (code l) [] past))
 
 -- it has its entries also with one more in some list
-pub still_there : (old mid : List (List ℕ)) (to n k at : ℕ) → IsPut old to n mid → at < length (get_or old k []) → at < length (get_or mid k [])
+pub still_there : (old mid : List (List ℕ)) (to n k at : ℕ) → IsAppended old to n mid → at < length (get_or old k []) → at < length (get_or mid k [])
 still_there old mid to n k at p lt = elim (cases_eq k to) [
   | inl e ↦ subst (λ (xs : List ℕ). at < length xs) (sym (ap (λ j. get_or mid j []) e ∙ p.list)) (omega (arith, rw e at lt, length-append (get_or old to []) (n ∷ [])))
   | inr o ↦ subst (λ (xs : List ℕ). at < length xs) (sym (p.others k o)) lt
 ]
 
--- ---- the numbers below one
+-- ---- the numbers numbers_below one
 
 -- the first lists have only those, the others are as they were
 pub record AreCut (n place : ℕ) (old new : List (List ℕ)) : Type 0 where
   pub size : length new ≡ length old
-  pub first : (k : ℕ) → k < place → get_or new k [] ≡ below n (get_or old k [])
+  pub first : (k : ℕ) → k < place → get_or new k [] ≡ numbers_below n (get_or old k [])
   pub others : (k : ℕ) → place ≤ k → get_or new k [] ≡ get_or old k []
 
 pub cut_none : (n : ℕ) (old : List (List ℕ)) → AreCut n 0 old old
 cut_none n old = record { size = refl; first = λ k lt. absurd (omega (arith, lt)); others = λ k le. refl }
 
-pub cut_more : (n place : ℕ) (old mid new : List (List ℕ)) → AreCut n place old mid → place < length mid → new ≡ set mid place (below n (get_or mid place [])) → AreCut n (place + 1) old new
+pub cut_more : (n place : ℕ) (old mid new : List (List ℕ)) → AreCut n place old mid → place < length mid → new ≡ set mid place (numbers_below n (get_or mid place [])) → AreCut n (place + 1) old new
 cut_more n place old mid new h lt e = record {
-  size = ap length e ∙ length-set mid place (below n (get_or mid place [])) ∙ h.size;
+  size = ap length e ∙ length-set mid place (numbers_below n (get_or mid place [])) ∙ h.size;
   first = λ k le. ap (λ xs. get_or xs k []) e ∙ elim (cases_lt k place) [
-    | inl before ↦ get_or-set_other mid place k (below n (get_or mid place [])) [] (omega (arith, before)) ∙ h.first k before
+    | inl before ↦ get_or-set_other mid place k (numbers_below n (get_or mid place [])) [] (omega (arith, before)) ∙ h.first k before
     | inr from ↦
         let is : k ≡ place = omega (arith, le, from) in
-        ap (λ j. get_or (set mid place (below n (get_or mid place []))) j []) is ∙ get_or-set_same mid place (below n (get_or mid place [])) [] lt
-        ∙ ap (below n) (h.others place (omega arith)) ∙ ap (λ j. below n (get_or old j [])) (sym is)
+        ap (λ j. get_or (set mid place (numbers_below n (get_or mid place []))) j []) is ∙ get_or-set_same mid place (numbers_below n (get_or mid place [])) [] lt
+        ∙ ap (numbers_below n) (h.others place (omega arith)) ∙ ap (λ j. numbers_below n (get_or old j [])) (sym is)
   ];
-  others = λ k le. ap (λ xs. get_or xs k []) e ∙ get_or-set_other mid place k (below n (get_or mid place [])) [] (omega (arith, le)) ∙ h.others k (omega (arith, le));
+  others = λ k le. ap (λ xs. get_or xs k []) e ∙ get_or-set_other mid place k (numbers_below n (get_or mid place [])) [] (omega (arith, le)) ∙ h.others k (omega (arith, le));
 }
 
-pub cut_all : (n place : ℕ) (old new : List (List ℕ)) → AreCut n place old new → length new ≤ place → new ≡ map (below n) old
-cut_all n place old new h le = ext_get_or [] new (map (below n) old) (h.size ∙ sym (length-map old (below n)))
-    (λ i lt. h.first i (omega (arith, lt, le)) ∙ sym (get_or-map (below n) old i [] [] (omega (arith, lt, h.size))))
+pub cut_all : (n place : ℕ) (old new : List (List ℕ)) → AreCut n place old new → length new ≤ place → new ≡ map (numbers_below n) old
+cut_all n place old new h le = ext_get_or [] new (map (numbers_below n) old) (h.size ∙ sym (length-map old (numbers_below n)))
+    (λ i lt. h.first i (omega (arith, lt, le)) ∙ sym (get_or-map (numbers_below n) old i [] [] (omega (arith, lt, h.size))))

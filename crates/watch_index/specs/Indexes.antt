@@ -24,7 +24,7 @@ pub record HasGrown (old new : List (List ℕ)) : Type 0 where
   pub is : new ≡ old ++ replicate more []
 
 -- A number stands last in the list of a place, and the others are as they were.
-pub record IsPut (old : List (List ℕ)) (place number : ℕ) (new : List (List ℕ)) : Type 0 where
+pub record IsAppended (old : List (List ℕ)) (place number : ℕ) (new : List (List ℕ)) : Type 0 where
   -- the list has the number as its last
   pub list : get_or new place [] ≡ get_or old place [] ++ number ∷ []
   -- the others
@@ -42,7 +42,7 @@ pub record IsMoved (old : List (List ℕ)) (from : Lit) (at : ℕ) (to : Lit) (n
   -- the lists between
   pub middle : List (List ℕ)
   -- the number stands in the other list first
-  pub put : IsPut old (code to) (get_or (list_of old from) at 0) middle
+  pub put : IsAppended old (code to) (get_or (list_of old from) at 0) middle
   -- then it is taken out of the one
   pub taken : IsTakenOut middle (code from) at new
 
@@ -56,6 +56,6 @@ pub record IsMovedOf (old : List (List ℕ)) (from : Lit) (number : ℕ) (to : L
   -- the entry was moved
   pub moved : IsMoved old from at to new
 
--- the numbers below one
-abbrev pub below : ℕ → List ℕ → List ℕ
-below n ks = filter (λ k. nat_lt k n) ks
+-- the numbers numbers_below one
+abbrev pub numbers_below : ℕ → List ℕ → List ℕ
+numbers_below n ks = filter (λ k. nat_lt k n) ks

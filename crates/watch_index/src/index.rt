@@ -1,7 +1,7 @@
 //! Numbers by literals.
 
 ghost use Rattle.std.specs.Prelude.{◌≡◌, ◌<◌, [], OnOk, OnErr, MatchOption, length, map, get_or, Contains};
-ghost use Rattle.watch_index.specs.Indexes.{code, list_of, below, IsPut, IsTakenOut, IsMoved, IsMovedOf};
+ghost use Rattle.watch_index.specs.Indexes.{code, list_of, numbers_below, IsAppended, IsTakenOut, IsMoved, IsMovedOf};
 
 use crate::lists::{code_of, drop_all_from, place_of, put_at, take_out};
 use std::alloc::Global;
@@ -72,7 +72,7 @@ impl WatchIndex {
     ///
     /// `NoMemory` comes where the list, or the lists before it, find no memory; then the index is as it was.
     pub fn add(&mut self, lit: Lit, clause: u64) -> Result<(), NoMemory>
-        ensures ok { OnOk result (IsPut self.old (code lit) clause self.new) }
+        ensures ok { OnOk result (IsAppended self.old (code lit) clause self.new) }
         ensures err { OnErr result (self.new ≡ self.old) }
     {
         if lit.term.0 >= MOST {
@@ -134,7 +134,7 @@ impl WatchIndex {
 
     /// Takes out all entries of a number and of those above it, and keeps the order of the others. It takes no memory.
     pub fn drop_above(&mut self, clause: u64)
-        ensures { self.new ≡ map (below clause) self.old }
+        ensures { self.new ≡ map (numbers_below clause) self.old }
     {
         drop_all_from(&mut self.all, clause);
     }

@@ -2,7 +2,7 @@
 
 ghost use Rattle.std.specs.Prelude.{◌≡◌, ◌+◌, ◌*◌, ◌<◌, ◌≤◌, ◌++◌, ◌∷◌, [], ◌^◌, OnOk, OnErr, length, map, set, get_or, MatchOption};
 ghost use Rattle.clause_literals.specs.Literals.{lists};
-ghost use Rattle.watch_index.specs.Indexes.{code, below, HasGrown, IsPut, IsTakenOut};
+ghost use Rattle.watch_index.specs.Indexes.{code, numbers_below, HasGrown, IsAppended, IsTakenOut};
 
 use std::alloc::Global;
 use term_core::Lit;
@@ -60,7 +60,7 @@ pub(crate) fn put_at(
     place: usize,
     number: u64,
 ) -> Result<(), NoMemory>
-    ensures ok { OnOk result (IsPut (lists all.old.items) place number (lists all.new.items)) }
+    ensures ok { OnOk result (IsAppended (lists all.old.items) place number (lists all.new.items)) }
     ensures err { OnErr result (HasGrown (lists all.old.items) (lists all.new.items)) }
 {
     match grow(all, alloc, place) {
@@ -83,7 +83,7 @@ pub(crate) fn take_out(all: &mut Vec<Vec<u64>>, place: usize, at: usize)
 
 /// Keeps the numbers below one.
 fn keep_below(list: &mut Vec<u64>, number: u64)
-    ensures { list.new.items ≡ below number list.old.items }
+    ensures { list.new.items ≡ numbers_below number list.old.items }
 {
     list.retain(|k| *k < number);
 }
@@ -92,14 +92,14 @@ fn keep_below(list: &mut Vec<u64>, number: u64)
 fn drop_from(all: &mut Vec<Vec<u64>>, place: usize, number: u64)
     requires { place < length all.old.items }
     ensures { lists all.new.items ≡ set (lists all.old.items) place
-        (below number (get_or (lists all.old.items) place [])) }
+        (numbers_below number (get_or (lists all.old.items) place [])) }
 {
     keep_below(&mut all[place], number);
 }
 
 /// Takes the numbers from one on out of all lists.
 pub(crate) fn drop_all_from(all: &mut Vec<Vec<u64>>, number: u64)
-    ensures { lists all.new.items ≡ map (below number) (lists all.old.items) }
+    ensures { lists all.new.items ≡ map (numbers_below number) (lists all.old.items) }
 {
     let mut place = 0;
     'lists: while place < all.len() {

@@ -12,11 +12,11 @@ abbrev pub Text : Type 0
 Text = List ℕ × List ℕ
 
 -- a name and the text under it, as a shelf keeps them
-abbrev pub Entry : Type 0
-Entry = String Global × Bytes
+abbrev pub NamedText : Type 0
+NamedText = String Global × Bytes
 
 -- an entry's bytes
-abbrev pub text_of : Entry → Text
+abbrev pub text_of : NamedText → Text
 text_of entry = (string_bytes entry.0, entry.1)
 
 -- the first text of that name
@@ -85,14 +85,14 @@ abbrev pub sink_failed : SinkState → SinkState
 sink_failed s = record s { calls = next_number s.calls; faults = next_number s.faults }
 
 -- `begin` of a name, its answer, and the shelf after it
-abbrev pub Begins : ShelfState → List ℕ → Result (Unit {0}) Failed → ShelfState → Type 0
-Begins old name (Ok u) new = (Contains old.failing old.calls → ⊥) × (text_named old.texts name ≡ Some new.left) × (new ≡ record old { left = new.left; calls = next_number old.calls })
-Begins old name (Err e) new = (Contains old.failing old.calls ⊎ (text_named old.texts name ≡ None)) × Rose old.faults new.faults × (new ≡ shelf_failed old)
+abbrev pub BeginsText : ShelfState → List ℕ → Result (Unit {0}) Failed → ShelfState → Type 0
+BeginsText old name (Ok u) new = (Contains old.failing old.calls → ⊥) × (text_named old.texts name ≡ Some new.left) × (new ≡ record old { left = new.left; calls = next_number old.calls })
+BeginsText old name (Err e) new = (Contains old.failing old.calls ⊎ (text_named old.texts name ≡ None)) × Rose old.faults new.faults × (new ≡ shelf_failed old)
 
 -- `read` into a buffer of so many bytes, what the buffer then holds, the answer, and the shelf after it
-abbrev pub Reads : ShelfState → ℕ → List ℕ → Result ℕ Failed → ShelfState → Type 0
-Reads old size got (Ok n) new = (Contains old.failing old.calls → ⊥) × (0 < old.most) × (n ≡ min (min (length old.left) size) old.most) × (take n got ≡ take n old.left) × (new ≡ record old { left = drop n old.left; calls = next_number old.calls })
-Reads old size got (Err e) new = (Contains old.failing old.calls ⊎ (old.most ≡ 0)) × Rose old.faults new.faults × (new ≡ shelf_failed old)
+abbrev pub ReadsShelf : ShelfState → ℕ → List ℕ → Result ℕ Failed → ShelfState → Type 0
+ReadsShelf old size got (Ok n) new = (Contains old.failing old.calls → ⊥) × (0 < old.most) × (n ≡ min (min (length old.left) size) old.most) × (take n got ≡ take n old.left) × (new ≡ record old { left = drop n old.left; calls = next_number old.calls })
+ReadsShelf old size got (Err e) new = (Contains old.failing old.calls ⊎ (old.most ≡ 0)) × Rose old.faults new.faults × (new ≡ shelf_failed old)
 
 -- `write` of a piece, its answer, and the sink after it
 abbrev pub Writes : SinkState → List ℕ → Result ℕ Failed → SinkState → Type 0

@@ -58,9 +58,9 @@ pub record NotTaken (piece : List ℕ) (old new : SinkView) : Type 0 where
   pub room : HasRoom old (length piece) → ⊥
 
 -- what one write of a piece does to a sink, by its result
-abbrev pub Takes : List ℕ → Result ℕ Failed → SinkView → SinkView → Type 0
-Takes piece (Ok n) old new = Took piece n old new
-Takes piece (Err _) old new = NotTaken piece old new
+abbrev pub TakesPiece : List ℕ → Result ℕ Failed → SinkView → SinkView → Type 0
+TakesPiece piece (Ok n) old new = Took piece n old new
+TakesPiece piece (Err _) old new = NotTaken piece old new
 
 -- nothing waits in a buffer
 pub record Flushed (old new : SinkView) : Type 0 where

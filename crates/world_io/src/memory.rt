@@ -1,7 +1,7 @@
 //! A shelf and a sink in memory, which can be made to fail.
 
 ghost use Rattle.std.specs.Prelude.{◌≡◌, ◌+◌, ◌-◌, ◌≤◌, ◌<◌, ◌++◌, ◌⊎◌, [], length, map, min, take, drop, Some, None, MatchBool, MatchOption, Contains, IfOk, IsOk, vec_len, vec_capacity};
-ghost use Rattle.world_io.specs.Memory.{text_of, text_named, text_at, ShelfState, SinkState, next_number, seen_sink, Begins, Reads, Writes};
+ghost use Rattle.world_io.specs.Memory.{text_of, text_named, text_at, ShelfState, SinkState, next_number, seen_sink, BeginsText, ReadsShelf, Writes};
 
 use crate::fault::{counted, one_more};
 use crate::{Bytes, Failed, NoMemory, Shelf, Sink};
@@ -77,7 +77,7 @@ impl Shelf for MemShelf {
     ghost is_sound = { λ s. (s.failing ≡ []) × (0 < s.most) };
 
     fn begin(&mut self, name: &str) -> Result<(), Failed>
-        ensures exact { Begins self.old name.now result self.new }
+        ensures exact { BeginsText self.old name.now result self.new }
     {
         if is_to_fail(&self.failing, &mut self.calls) {
             return Err(counted(&mut self.faults));
@@ -92,7 +92,7 @@ impl Shelf for MemShelf {
 
     fn read(&mut self, buf: &mut [u8]) -> Result<usize, Failed>
         requires { 0 < length buf.old }
-        ensures exact { Reads self.old (length buf.old) buf.new result self.new }
+        ensures exact { ReadsShelf self.old (length buf.old) buf.new result self.new }
     {
         if is_to_fail(&self.failing, &mut self.calls) || self.most == 0 {
             return Err(counted(&mut self.faults));

@@ -1,7 +1,7 @@
 //! Where bytes go.
 
 ghost use Rattle.std.specs.Prelude.{flat_map};
-ghost use Rattle.world_io.specs.Writing.{SinkView, Sends, Takes, Flushes, WritesPrefix};
+ghost use Rattle.world_io.specs.Writing.{SinkView, Sends, TakesPiece, Flushes, WritesPrefix};
 
 use crate::Failed;
 
@@ -18,7 +18,7 @@ pub trait Sink {
     /// Of a piece that is not empty it takes at least 1 byte.
     /// `Failed` comes only where the count of faults rose in this call; nothing was then appended.
     fn write(&mut self, buf: &[u8]) -> Result<usize, Failed>
-        ensures { Takes buf.now result (state self.old) (state self.new) };
+        ensures { TakesPiece buf.now result (state self.old) (state self.new) };
 
     /// Passes on what waits in buffers, so that nothing waits. What was written stays the same.
     ///

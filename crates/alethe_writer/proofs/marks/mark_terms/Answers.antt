@@ -3,7 +3,7 @@ use Rattle.std.specs.List.{slice_set}
 use Rattle.std.proofs.Common.{take, true, ◌<◌, get_or, length, sym, subst, arith}
 use Rattle.std.proofs.lemmas.List.Elements.{All-get_or}
 use Rattle.term_core.specs.declared.ids.TermId.{TermId}
-use Rattle.alethe_writer.specs.Marks.{Marks, plain_numbers}
+use Rattle.alethe_writer.specs.Marks.{MarksNumbers, plain_numbers}
 use Rattle.alethe_writer.proofs.Closing.{marks_one}
 use Rattle.alethe_writer.proofs.Printed.{plain_more}
 use Rattle.alethe_writer.proofs.marks.mark_terms.Goals as goal
@@ -12,4 +12,4 @@ pub ids-preserved : goal.ids-preserved
 ids-preserved c =
     let n = (get_or c.args.ids.now c.ids.id-index (record { 0 = 0 })).0 in
     let within : n < length c.args.marks.now = All-get_or (λ (id : TermId). id.0 < length c.args.marks.now) c.args.ids.now c.ids.id-index (record { 0 = 0 }) c.ids-test.true c.requires in
-    record { so_far = subst (λ ns. Marks c.args.marks.now ns (slice_set c.ids.marks n true)) (sym (plain_more c.args.ids.now c.ids.id-index c.ids-test.true)) (marks_one c.args.marks.now c.ids.marks (plain_numbers (take c.ids.id-index c.args.ids.now)) n (omega (arith, within, c.ids.invariant.so_far.same_length)) c.ids.invariant.so_far) }
+    record { so_far = subst (λ ns. MarksNumbers c.args.marks.now ns (slice_set c.ids.marks n true)) (sym (plain_more c.args.ids.now c.ids.id-index c.ids-test.true)) (marks_one c.args.marks.now c.ids.marks (plain_numbers (take c.ids.id-index c.args.ids.now)) n (omega (arith, within, c.ids.invariant.so_far.same_length)) c.ids.invariant.so_far) }

@@ -5,7 +5,7 @@ use Rattle.proof_log.specs.Logs.{AreFormulasIn}
 use Rattle.assertion_stack.specs.Stacks.{standing}
 use Rattle.assertion_stack.proofs.Back.{table_back}
 use Rattle.search_loop.specs.Answered.{AreAnswered}
-use Rattle.solve_core.specs.Decisions.{IsDecided}
+use Rattle.solve_core.specs.Decisions.{HasDecision}
 use Rattle.check_evidence.specs.Evidence.{limits_meant, IsHeld}
 use Rattle.check_evidence.proofs.Asking.{formulas_asked, answered_asked}
 use Rattle.check_evidence.proofs.evidence.check.Goals as goal
@@ -34,7 +34,7 @@ returns-in-Ok-clause-checks c = λ s h.
     let l = c.args.limits.now in
     let d = c.in_ok-outcome.ensures in
     let terms = ap (clause_at t) c.as_slice.ensures ∙ h.stack.terms in
-    let decided = subst (λ us. IsDecided c.decide.new.table us l c.in_ok-outcome.outcome) terms d.decided in
+    let decided = subst (λ us. HasDecision c.decide.new.table us l c.in_ok-outcome.outcome) terms d.decided in
     record {
       outcome = c.in_ok-outcome.outcome;
       decided = decided;

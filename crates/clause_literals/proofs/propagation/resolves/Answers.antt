@@ -3,7 +3,7 @@ use Rattle.std.proofs.Common.{subst, List}
 use Rattle.spec_proofs.specs.Resolution.{both_ways, given}
 use Rattle.term_core.specs.declared.ids.Lit.{Lit}
 use Rattle.clause_literals.specs.Literals.{lit_complement}
-use Rattle.clause_literals.specs.Statuses.{IsSettled}
+use Rattle.clause_literals.specs.Statuses.{PropagatesNothing}
 use Rattle.clause_literals.proofs.Advancing.{held_on}
 use Rattle.clause_literals.proofs.Quiet.{no_conflict}
 use Rattle.clause_literals.proofs.propagation.resolves.Goals as goal
@@ -21,7 +21,7 @@ pub returns-in-Same : goal.returns-in-Same
 returns-in-Same c =
     let h = rw c.in-Some.is at c.in_ok-held.ensures in
     let p = rw c.in-Same.is at c.in_ok-pass_over.ensures in
-    no_conflict _ _ _ (λ l i. (h.0 l).1 i) h.1 (λ d i. subst (λ (x : List Lit). IsSettled x d) p.0 (p.1 d i))
+    no_conflict _ _ _ (λ l i. (h.0 l).1 i) h.1 (λ d i. subst (λ (x : List Lit). PropagatesNothing x d) p.0 (p.1 d i))
 
 pub refutes-requires : goal.refutes-requires
 refutes-requires c =

@@ -9,7 +9,7 @@ use Rattle.term_core.specs.Tables.{clause_at}
 use Rattle.proof_log.specs.declared.premises.StepId.{StepId}
 use Rattle.proof_log.specs.Logs.{Logged, stepped, inference_of, derivation_in}
 use Rattle.term_clauses.specs.Growth.{Grows}
-use Rattle.term_clauses.specs.Stating.{listed, Tells}
+use Rattle.term_clauses.specs.Stating.{listed_steps, Tells}
 use Rattle.term_clauses.proofs.Growing.{Grows-self, Grows-push, Tells-push}
 use Rattle.clausify.proofs.Following.{step_follows}
 use Rattle.clausify.proofs.judged.state_taken.Goals as goal
@@ -53,6 +53,6 @@ returns-clause-tells c =
     let t = c.args.table.now in
     let h = c.in_ok-number.ensures in
     let l = stepped LaGeneric c.from.result c.from-2.result c.from-3.result in
-    subst (λ (ids : List TermId). Tells (listed t c.args.log.now c.args.steps.now.items) (listed t c.add_right.new.self c.push.new.self.items) (clause_at t ids ∷ [])) c.from-3.ensures
+    subst (λ (ids : List TermId). Tells (listed_steps t c.args.log.now c.args.steps.now.items) (listed_steps t c.add_right.new.self c.push.new.self.items) (clause_at t ids ∷ [])) c.from-3.ensures
     (Tells-push [] t c.args.log.now c.add_right.new.self l c.in_ok-number.number c.args.steps.now.items c.push.new.self.items
     (grows (goal.at.returns-clause-tells c).In_ok-number) c.requires.log h.number h.last c.in_ok-push.ensures.items)

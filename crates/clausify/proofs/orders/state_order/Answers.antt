@@ -15,7 +15,7 @@ use Rattle.term_clauses.proofs.Arguments.{Widens-trans}
 use Rattle.term_clauses.proofs.Parts.{formula_kept, signed_in}
 use Rattle.term_clauses.proofs.Growing.{Grows-wider, Grows-made, Tells-made, Tells-same}
 use Rattle.clausify.specs.Orders.{order_at, order_clause, arguments_by}
-use Rattle.clausify.specs.Overflows.{OnWide}
+use Rattle.clausify.specs.Overflows.{OnClauseOverflow}
 use Rattle.clausify.proofs.Equalities.{number_kept, order_kept, order_in}
 use Rattle.clausify.proofs.orders.state_order.Goals as goal
 use Rattle.clausify.proofs.orders.state_order.Goals.{After-at_most, In_ok-clause}
@@ -107,5 +107,5 @@ returns-clause-tells c =
 
 pub returns-clause-wide : goal.returns-clause-wide
 returns-clause-wide c =
-    subst (λ (ls : Clause). IfErr c.state_judged.result (OnWide (λ o. la_generic ls (arguments_by c.args.weight) ≡ Err (wide o)))) (clause_is (goal.at.returns-clause-wide c).In_ok-clause)
+    subst (λ (ls : Clause). IfErr c.state_judged.result (OnClauseOverflow (λ o. la_generic ls (arguments_by c.args.weight) ≡ Err (wide o)))) (clause_is (goal.at.returns-clause-wide c).In_ok-clause)
     c.state_judged.ensures.wide

@@ -6,7 +6,7 @@ use Rattle.term_core.specs.declared.ids.TermId.{TermId}
 use Rattle.term_core.specs.Tables.{term_at, clause_at}
 use Rattle.proof_log.specs.Logs.{assumed}
 use Rattle.term_clauses.specs.Growth.{Grows}
-use Rattle.term_clauses.specs.Stating.{listed, Tells}
+use Rattle.term_clauses.specs.Stating.{listed_steps, Tells}
 use Rattle.term_clauses.proofs.Growing.{Grows-self, Grows-trans, Grows-push, Tells-push, Tells-none, Tells-trans, Tells-same}
 use Rattle.clausify.proofs.Bases.{alone, alone_more}
 use Rattle.term_clauses.proofs.Arguments.{no_number}
@@ -48,7 +48,7 @@ roots-preserved c =
     let grows = one_grows (goal.at.roots-preserved c).In_ok-assume in
     let told = alone (clause_at t (take k roots)) in
     let clause = term_at t root ∷ [] in
-    let one : Tells (listed t old steps) (listed t new all) (clause ∷ []) = Tells-push roots t old new (assumed root) c.in_ok-assume.field-0 steps all grows c.roots.invariant.grows.right h.number h.last c.in_ok-push.ensures.items in
+    let one : Tells (listed_steps t old steps) (listed_steps t new all) (clause ∷ []) = Tells-push roots t old new (assumed root) c.in_ok-assume.field-0 steps all grows c.roots.invariant.grows.right h.number h.last c.in_ok-push.ensures.items in
     record {
       grows = Grows-trans roots t t t c.args.log.now old new c.roots.invariant.grows grows;
       tells = Tells-same t t c.args.log.now new c.args.steps.now.items all (told ++ clause ∷ []) (alone (clause_at t (take (k + 1) roots))) (alone_more t roots k no_number c.roots-test.true)

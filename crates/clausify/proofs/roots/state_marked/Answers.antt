@@ -5,7 +5,7 @@ use Rattle.spec_derivations.specs.Orders.{whole_clauses_of}
 use Rattle.term_core.specs.declared.ids.TermId.{TermId}
 use Rattle.term_core.specs.Tables.{term_at}
 use Rattle.term_core.proofs.TermsExtend.{term_at-kept}
-use Rattle.term_clauses.specs.Stating.{listed, Tells}
+use Rattle.term_clauses.specs.Stating.{listed_steps, Tells}
 use Rattle.term_clauses.specs.Marks.{marked}
 use Rattle.term_clauses.proofs.Marked.{in_marked}
 use Rattle.term_clauses.proofs.Growing.{Grows-self, Grows-trans, Tells-none, Tells-trans, Tells-same}
@@ -64,7 +64,7 @@ marks-preserved c =
     let told = flat_marked whole_clauses_of (take n marks) t.terms in
     let lt : n < length t.terms = omega (arith, c.marks-test.true, c.requires.short) in
     let same : whole_clauses_of (term_at now id) ≡ whole_clauses_of term = ap whole_clauses_of (term_at-kept t now h.grows.table id lt) in
-    let one : Tells (listed now c.marks.log c.marks.steps.items) (listed new c.state_whole.new.log c.state_whole.new.steps.items) (whole_clauses_of term) = Tells-same now new c.marks.log c.state_whole.new.log c.marks.steps.items c.state_whole.new.steps.items (whole_clauses_of (term_at now id)) (whole_clauses_of term) same c.in_ok-state_whole.ensures.tells in
+    let one : Tells (listed_steps now c.marks.log c.marks.steps.items) (listed_steps new c.state_whole.new.log c.state_whole.new.steps.items) (whole_clauses_of term) = Tells-same now new c.marks.log c.state_whole.new.log c.marks.steps.items c.state_whole.new.steps.items (whole_clauses_of (term_at now id)) (whole_clauses_of term) same c.in_ok-state_whole.ensures.tells in
     record {
       grows = Grows-trans [] t now new c.args.log.now c.marks.log c.state_whole.new.log h.grows c.state_whole.ensures.grows;
       tells = Tells-same t new c.args.log.now c.state_whole.new.log c.args.steps.now.items c.state_whole.new.steps.items (told ++ whole_clauses_of term) (flat_marked whole_clauses_of (take (n + 1) marks) t.terms) (flat_marked_more whole_clauses_of marks t.terms n c.marks-test.true c.requires.short c.if-not-marks-number.false)

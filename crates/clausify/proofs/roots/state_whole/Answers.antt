@@ -9,7 +9,7 @@ use Rattle.term_core.specs.Tables.{term_at}
 use Rattle.term_core.proofs.TermsExtend.{term_at-kept}
 use Rattle.term_clauses.proofs.Choosing.{term_kept}
 use Rattle.term_clauses.proofs.Growing.{Grows-trans, Tells-trans, Tells-same}
-use Rattle.clausify.specs.Overflows.{OnWide}
+use Rattle.clausify.specs.Overflows.{OnClauseOverflow}
 use Rattle.spec_causes.specs.Checks.{IsOverflowAmong}
 use Rattle.clausify.proofs.roots.state_whole.Goals as goal
 
@@ -41,5 +41,5 @@ returns-clause-tells c =
 
 pub returns-clause-wide : goal.returns-clause-wide
 returns-clause-wide c =
-    subst (λ (e : Term). IfErr c.state_orders.result (OnWide (IsOverflowAmong (e ∷ []))))
+    subst (λ (e : Term). IfErr c.state_orders.result (OnClauseOverflow (IsOverflowAmong (e ∷ []))))
     (term_at-kept c.args.table.now c.define.new.table c.define.ensures.grows.table c.args.id c.requires.there.0) c.state_orders.ensures.wide

@@ -14,7 +14,7 @@ use Rattle.clausify.specs.HavingClauses.{HasClauses}
 use Rattle.spec_causes.specs.Checks.{IsOverflowAmong}
 use Rattle.clausify.proofs.Overflowing.{passed_on, among_more}
 use Rattle.term_clauses.specs.Growth.{Grows, AreAllMade}
-use Rattle.term_clauses.specs.Stating.{Says}
+use Rattle.term_clauses.specs.Stating.{StatesClauses}
 use Rattle.term_clauses.specs.Marks.{marked, AreMarksOf, AreMarked}
 use Rattle.term_clauses.specs.SpokenTerms.{problem_in}
 use Rattle.term_clauses.proofs.Growing.{Grows-wider, Grows-trans, Grows-weaker}
@@ -112,10 +112,10 @@ returns-clause-clauses c =
     let steps = c.state_marked.new.steps.items in
     let none = Says-none u c.args.log.now c.new-steps.result.items c.new-steps.ensures.items in
     let same : clause_at u roots ≡ terms = clause_at-kept t u c.ordered_of.ensures.wider.terms roots (λ k d lt. (c.requires.roots k d lt).0) in
-    let assumed : Says u c.assume_each.new.log c.assume_each.new.steps.items (alone terms) =
-    subst (λ (ts : List Term). Says u c.assume_each.new.log c.assume_each.new.steps.items (alone ts)) same (c.in_ok-assume_each.ensures.tells.says [] none) in
-    let stated : Says v log steps (alone terms ++ flat_marked whole_clauses_of marks u.terms) =
-    subst (λ (ms : List Bool). Says v log steps (alone terms ++ flat_marked whole_clauses_of ms u.terms)) c.deref-2.ensures.value (c.in_ok-state_marked.ensures.tells.says (alone terms) assumed) in
+    let assumed : StatesClauses u c.assume_each.new.log c.assume_each.new.steps.items (alone terms) =
+    subst (λ (ts : List Term). StatesClauses u c.assume_each.new.log c.assume_each.new.steps.items (alone ts)) same (c.in_ok-assume_each.ensures.tells.says [] none) in
+    let stated : StatesClauses v log steps (alone terms ++ flat_marked whole_clauses_of marks u.terms) =
+    subst (λ (ms : List Bool). StatesClauses v log steps (alone terms ++ flat_marked whole_clauses_of ms u.terms)) c.deref-2.ensures.value (c.in_ok-state_marked.ensures.tells.says (alone terms) assumed) in
     subst (λ (ss : List StepId). HasClauses v log p ss) (sym c.from.ensures)
     (has_clauses u v log p marks steps (search_marks (goal.at.returns-clause-clauses c).In_ok-marks) (c.subterms_are_least.ensures.once (ordered_terms p)) stated)
 

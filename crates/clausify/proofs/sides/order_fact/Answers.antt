@@ -5,7 +5,7 @@ use Rattle.spec_sorts.specs.Terms.{Or, Equal, of, pair, negated}
 use Rattle.spec_derivations.specs.Orders.{order_fact}
 use Rattle.term_core.specs.Tables.{term_at, IsIn, head_meant, clause_at, node_term}
 use Rattle.term_core.proofs.TermsExtend.{term_at-kept}
-use Rattle.term_clauses.specs.Stating.{Widens, Names}
+use Rattle.term_clauses.specs.Stating.{Widens, NamesTerm}
 use Rattle.term_clauses.proofs.Arguments.{Widens-trans}
 use Rattle.term_clauses.proofs.Parts.{formula_kept}
 use Rattle.clausify.specs.Orders.{order_at}
@@ -58,5 +58,5 @@ returns-clause-means c =
     let w = c.put.new.self in
     let x = c.args.sides in
     let means = node_is (goal.at.returns-clause-means c).In_ok-node in
-    IfOk-weaker c.put.result (λ id. IsIn w id × (term_at w id ≡ node_term c.not_at_most-2.new.table c.in_ok-node.node)) (Names w (order_fact (term_at t x.left) (term_at t x.right)))
+    IfOk-weaker c.put.result (λ id. IsIn w id × (term_at w id ≡ node_term c.not_at_most-2.new.table c.in_ok-node.node)) (NamesTerm w (order_fact (term_at t x.left) (term_at t x.right)))
     (λ id put. (put.0, put.1 ∙ means)) c.put.ensures.there

@@ -7,7 +7,7 @@ use Rattle.term_core.specs.Tables.{clause_at, literal_at}
 use Rattle.proof_log.specs.declared.premises.StepId.{StepId}
 use Rattle.sat_trail.specs.Trails.{no_lit}
 use Rattle.conflict_learn.specs.Conflicts.{Conflict}
-use Rattle.conflict_learn.specs.Analyses.{IsMarked, Marks, Sorting, Sorts, sorting_of, HasCome}
+use Rattle.conflict_learn.specs.Analyses.{IsVariableMarked, MarksVariables, Sorting, Sorts, sorting_of, HasCome}
 use Rattle.conflict_learn.proofs.Sorting.{sorts_none}
 use Rattle.conflict_learn.proofs.Following.{unmarked, clash_known, clash_before, begins}
 use Rattle.conflict_learn.proofs.analysis.begin.Goals as goal
@@ -27,8 +27,8 @@ returns-clause-begun c =
     let none = c.in_ok-marks.marks.items in
     let a = sorting_of c.meet_all.new.seen in
     let is = c.in_ok-marks.ensures.items_if_clones_equal (λ y same. same) in
-    let empty : (n : ℕ) → IsMarked none n → ⊥ = λ n m. unmarked c.vars.result n (subst (λ (ms : List Bool). IsMarked ms n) is m) in
-    let marks = subst (λ (ids : List TermId). Marks t (literals_of (clause_at t ids)) none a.marks) c.clause.ensures c.in_ok-meet_all.ensures.marks in
+    let empty : (n : ℕ) → IsVariableMarked none n → ⊥ = λ n m. unmarked c.vars.result n (subst (λ (ms : List Bool). IsVariableMarked ms n) is m) in
+    let marks = subst (λ (ids : List TermId). MarksVariables t (literals_of (clause_at t ids)) none a.marks) c.clause.ensures c.in_ok-meet_all.ensures.marks in
     let started = subst (λ (ms : List Bool). let b : Sorting = record { marks = ms; many = 0; lower = []; back = 0; fixed = false } in Sorts v c.args.level (length v.literals) b) (sym is)
     (sorts_none v c.args.level (length v.literals) c.vars.result (omega arith) (unmarked c.vars.result)) in
     let begun = subst (λ (ls : List Lit). let b : Sorting = record { marks = none; many = 0; lower = ls; back = 0; fixed = false } in Sorts v c.args.level (length v.literals) b) (sym c.new.ensures.items) started in

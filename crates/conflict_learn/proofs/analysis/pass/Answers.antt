@@ -7,7 +7,7 @@ use Rattle.term_core.specs.Tables.{clause_at, literal_at}
 use Rattle.proof_log.specs.declared.premises.StepId.{StepId}
 use Rattle.sat_trail.specs.Trails.{no_lit}
 use Rattle.conflict_learn.specs.Conflicts.{Conflict, step_of}
-use Rattle.conflict_learn.specs.Analyses.{IsMarkedAt, Marks, Sorting, sorting_of, HasCome}
+use Rattle.conflict_learn.specs.Analyses.{IsMarkedAt, MarksVariables, Sorting, sorting_of, HasCome}
 use Rattle.conflict_learn.proofs.Sorting.{sorts_past, sorts_less}
 use Rattle.conflict_learn.proofs.Following.{placed, no_reason, reason_known, reason_lit, passes_by, passes}
 use Rattle.conflict_learn.proofs.analysis.pass.Goals as goal
@@ -55,7 +55,7 @@ returns-clause-passed c clash is_clash r =
     let known : c.literal-l.result.term.0 < length a.marks = subst (λ (l : Lit). l.term.0 < length a.marks) (sym c.literal-l.ensures) (let k = c.is_sound.ensures.known c.args.at no_lit c.requires.at in omega (arith, k, c.requires.size)) in
     let is_marked : IsMarkedAt v a.marks c.args.at = placed v a.marks c.args.at c.literal-l.result c.index.result.now c.literal-l.ensures known c.index.ensures ∙ c.if-not-index.false in
     let reason : get_or v.reasons c.args.at None ≡ Some c.in-Some.number = sym c.reason.ensures ∙ c.in-Some.is in
-    let more = subst (λ (ids : List TermId). Marks t (literals_of (clause_at t ids)) a.marks b.marks) c.clause.ensures c.in_ok-meet_all.ensures.marks in
+    let more = subst (λ (ids : List TermId). MarksVariables t (literals_of (clause_at t ids)) a.marks b.marks) c.clause.ensures c.in_ok-meet_all.ensures.marks in
     let less = sorts_less v c.args.level c.args.at a (c.args.analysis.now.seen.many - 1) is_marked (c.requires.of_level is_marked) (omega (arith, c.requires.some)) r.sorted in
     let sorted = c.in_ok-meet_all.ensures.sorts c.args.at
     (λ m there i. reason_lit x once c.ids_are_unique.ensures c.is_sound.ensures.leveled is_clash c.requires.reasons c.args.at c.requires.at c.in-Some.number reason a.marks is_marked m

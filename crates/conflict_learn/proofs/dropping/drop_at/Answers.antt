@@ -7,7 +7,7 @@ use Rattle.term_core.specs.Tables.{clause_at, literal_at}
 use Rattle.proof_log.specs.declared.premises.StepId.{StepId}
 use Rattle.sat_trail.specs.Trails.{no_lit}
 use Rattle.conflict_learn.specs.Conflicts.{Conflict, step_of}
-use Rattle.conflict_learn.specs.Analyses.{IsMarkedAt, Marks, AreDropped}
+use Rattle.conflict_learn.specs.Analyses.{IsMarkedAt, MarksVariables, AreDropped}
 use Rattle.conflict_learn.proofs.Following.{placed, reason_known}
 use Rattle.conflict_learn.proofs.Dropped.{drops_past, drops_one}
 use Rattle.conflict_learn.proofs.dropping.drop_at.Goals as goal
@@ -41,6 +41,6 @@ returns-clause-dropped c clash from is_clash d =
     let known : c.literal-l.result.term.0 < length marks = subst (λ (l : Lit). l.term.0 < length marks) (sym c.literal-l.ensures) (let k = c.is_sound.ensures.known c.args.at no_lit c.requires.at in omega (arith, k, c.requires.size)) in
     let is_marked : IsMarkedAt v marks c.args.at = placed v marks c.args.at c.literal-l.result c.index.result.now c.literal-l.ensures known c.index.ensures ∙ c.if-not-index.false in
     let reason : get_or v.reasons c.args.at None ≡ Some c.in-Some.number = sym c.reason.ensures ∙ c.in-Some.is in
-    let more = subst (λ (ids : List TermId). Marks t (literals_of (clause_at t ids)) marks c.mark.new.marks.items) c.clause.ensures c.mark.ensures in
+    let more = subst (λ (ids : List TermId). MarksVariables t (literals_of (clause_at t ids)) marks c.mark.new.marks.items) c.clause.ensures c.mark.ensures in
     let h = drops_one x c.is_sound.ensures.once c.ids_are_unique.ensures c.is_sound.ensures.leveled is_clash c.requires.reasons from marks c.args.premises.now.items c.args.at c.requires.at c.requires.fixed c.in-Some.number is_marked reason c.mark.new.marks.items more d in
     subst (λ (ps : List StepId). AreDropped x from c.args.at c.mark.new.marks.items ps) (sym c.in_ok-push.ensures.items) h

@@ -3,7 +3,7 @@ use Rattle.std.proofs.Common.{List, map, All, sym, subst}
 use Rattle.term_core.specs.declared.ids.Lit.{Lit}
 use Rattle.term_core.specs.Tables.{literal_at, clause_at}
 use Rattle.term_core.proofs.TermsExtend.{Extends-self}
-use Rattle.clause_literals.specs.Literals.{Means}
+use Rattle.clause_literals.specs.Literals.{LiteralsMean}
 use Rattle.conflict_learn.specs.Conflicts.{Conflict}
 use Rattle.conflict_learn.specs.Points.{IsUip}
 use Rattle.conflict_learn.specs.Learned.{HasOneAt}
@@ -68,7 +68,7 @@ returns-clause-learned c =
         terms = c.in_ok-terms.terms.items;
         last = c.in_ok-step.ensures.last;
         right = c.in_ok-step.ensures.right;
-        means = subst (λ (ls : List Lit). Means u ls (clause_at u c.in_ok-terms.terms.items)) same means;
+        means = subst (λ (ls : List Lit). LiteralsMean u ls (clause_at u c.in_ok-terms.terms.items)) same means;
         no_others = λ s i. used_premise x once leveled c.requires.clash c.requires.reasons uip.from s ((uip.used s).0 i);
       };
       uip = subst (λ (ls : List Lit). IsUip x n ls f.premises.items) same uip;

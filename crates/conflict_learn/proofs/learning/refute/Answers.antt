@@ -5,7 +5,7 @@ use Rattle.term_core.specs.declared.ids.TermId.{TermId}
 use Rattle.term_core.specs.Tables.{clause_at}
 use Rattle.proof_log.specs.declared.premises.StepId.{StepId}
 use Rattle.conflict_learn.specs.Conflicts.{Conflict}
-use Rattle.conflict_learn.specs.Analyses.{IsMarked, Marks, AreDropped}
+use Rattle.conflict_learn.specs.Analyses.{IsVariableMarked, MarksVariables, AreDropped}
 use Rattle.conflict_learn.proofs.Uip.{met_within}
 use Rattle.conflict_learn.proofs.Following.{unmarked, begins}
 use Rattle.conflict_learn.proofs.Dropped.{drops_none, has_used}
@@ -23,8 +23,8 @@ log_step-requires-clause-follows c =
     let none = c.in_ok-marks.marks.items in
     let marks = c.mark.new.marks.items in
     let is = c.in_ok-marks.ensures.items_if_clones_equal (λ y same. same) in
-    let empty : (n : ℕ) → IsMarked none n → ⊥ = λ n m. unmarked c.vars.result n (subst (λ (ms : List Bool). IsMarked ms n) is m) in
-    let more = subst (λ (ids : List TermId). Marks t (literals_of (clause_at t ids)) none marks) c.clause.ensures c.mark.ensures in
+    let empty : (n : ℕ) → IsVariableMarked none n → ⊥ = λ n m. unmarked c.vars.result n (subst (λ (ms : List Bool). IsVariableMarked ms n) is m) in
+    let more = subst (λ (ids : List TermId). MarksVariables t (literals_of (clause_at t ids)) none marks) c.clause.ensures c.mark.ensures in
     let first = c.in_ok-push.ensures.items ∙ ap (λ (xs : List StepId). xs ++ c.args.clash ∷ []) c.new-premises.ensures.items in
     let start = drops_none x once c.ids_are_unique.ensures leveled c.requires.clash c.requires.reasons (length v.literals) marks (c.args.clash ∷ []) (begins x once c.ids_are_unique.ensures c.requires.clash none marks empty more) (λ p le lt e. omega (arith, le, lt)) in
     let d = c.in_ok-drop_fixed.ensures.dropped c.args.clash (length v.literals) c.requires.clash (subst (λ (xs : List StepId). AreDropped x (length v.literals) (length v.literals) marks xs) (sym first) start) in
@@ -44,8 +44,8 @@ returns c =
     let none = c.in_ok-marks.marks.items in
     let marks = c.mark.new.marks.items in
     let is = c.in_ok-marks.ensures.items_if_clones_equal (λ y same. same) in
-    let empty : (n : ℕ) → IsMarked none n → ⊥ = λ n m. unmarked c.vars.result n (subst (λ (ms : List Bool). IsMarked ms n) is m) in
-    let more = subst (λ (ids : List TermId). Marks t (literals_of (clause_at t ids)) none marks) c.clause.ensures c.mark.ensures in
+    let empty : (n : ℕ) → IsVariableMarked none n → ⊥ = λ n m. unmarked c.vars.result n (subst (λ (ms : List Bool). IsVariableMarked ms n) is m) in
+    let more = subst (λ (ids : List TermId). MarksVariables t (literals_of (clause_at t ids)) none marks) c.clause.ensures c.mark.ensures in
     let first = c.in_ok-push.ensures.items ∙ ap (λ (xs : List StepId). xs ++ c.args.clash ∷ []) c.new-premises.ensures.items in
     let start = drops_none x once c.ids_are_unique.ensures leveled c.requires.clash c.requires.reasons (length v.literals) marks (c.args.clash ∷ []) (begins x once c.ids_are_unique.ensures c.requires.clash none marks empty more) (λ p le lt e. omega (arith, le, lt)) in
     let d = c.in_ok-drop_fixed.ensures.dropped c.args.clash (length v.literals) c.requires.clash (subst (λ (xs : List StepId). AreDropped x (length v.literals) (length v.literals) marks xs) (sym first) start) in

@@ -4,17 +4,17 @@ use Rattle.std.proofs.lemmas.List.{get_or_default}
 use Rattle.term_core.specs.declared.ids.Lit.{Lit}
 use Rattle.clause_literals.specs.Literals.{lit_complement}
 use Rattle.sat_trail.specs.Trails.{TrailView, no_lit}
-use Rattle.conflict_learn.specs.Analyses.{IsMarked, Sorting, Sorts, sorting_of}
+use Rattle.conflict_learn.specs.Analyses.{IsVariableMarked, Sorting, Sorts, sorting_of}
 use Rattle.conflict_learn.proofs.Marking.{marks_more, marks_again}
 use Rattle.conflict_learn.proofs.Sorting.{sorts_level, sorts_fixed, sorts_lower}
 use Rattle.conflict_learn.proofs.meeting.meet.Goals as goal
 
 -- a mark that is there
-is_there : (marks : List Bool) (x : ℕ) (b : Bool) → x < length marks → b ≡ get_or marks x b → b ≡ true → IsMarked marks x
+is_there : (marks : List Bool) (x : ℕ) (b : Bool) → x < length marks → b ≡ get_or marks x b → b ≡ true → IsVariableMarked marks x
 is_there marks x b lt is e = get_or_default marks x false b lt ∙ sym is ∙ e
 
 -- and one that is not
-is_not_there : (marks : List Bool) (x : ℕ) (b : Bool) → x < length marks → b ≡ get_or marks x b → b ≢ true → IsMarked marks x → ⊥
+is_not_there : (marks : List Bool) (x : ℕ) (b : Bool) → x < length marks → b ≡ get_or marks x b → b ≢ true → IsVariableMarked marks x → ⊥
 is_not_there marks x b lt is other m = other (is ∙ sym (get_or_default marks x false b lt) ∙ m)
 
 -- the level of the place

@@ -4,12 +4,12 @@ use Rattle.spec_sorts.specs.Literals.{Literal, literals_of}
 use Rattle.term_core.specs.declared.ids.Lit.{Lit}
 use Rattle.term_core.specs.Tables.{TableView, clause_at}
 use Rattle.sat_trail.specs.Trails.{TrailView}
-use Rattle.conflict_learn.specs.Analyses.{Marks, IsBefore}
+use Rattle.conflict_learn.specs.Analyses.{MarksVariables, IsBefore}
 use Rattle.conflict_learn.proofs.Meanings.{literals_more, literal_in}
 use Rattle.conflict_learn.proofs.meeting.meet_all.Goals as goal
 
 -- what came up before does so after more marks
-before_still : (v : TrailView) (t : TableView) (ls : List Literal) (old new : List Bool) → Marks t ls old new → (k : ℕ) (m : Lit) → IsBefore v k old m → IsBefore v k new m
+before_still : (v : TrailView) (t : TableView) (ls : List Literal) (old new : List Bool) → MarksVariables t ls old new → (k : ℕ) (m : Lit) → IsBefore v k old m → IsBefore v k new m
 before_still v t ls old new h k m (inl was) = inl (h.kept m.term.0 was)
 before_still v t ls old new h k m (inr q) = inr q
 
@@ -32,8 +32,8 @@ loop-id-preserved c =
     record {
       size = c.meet.ensures.size;
       bound = omega (arith, c.meet.ensures.bound, c.loop-id.invariant.bound);
-      marks = subst (λ (ls : List Literal). Marks t ls old new) (sym (literals_more t ids c.loop-id.id-index _ c.loop-id-test.true))
-          (subst (λ (x : Literal). Marks t (literals_of (clause_at t (take c.loop-id.id-index ids)) ++ x ∷ []) old new) c.literal.ensures.means h);
+      marks = subst (λ (ls : List Literal). MarksVariables t ls old new) (sym (literals_more t ids c.loop-id.id-index _ c.loop-id-test.true))
+          (subst (λ (x : Literal). MarksVariables t (literals_of (clause_at t (take c.loop-id.id-index ids)) ++ x ∷ []) old new) c.literal.ensures.means h);
       sorts = λ k before s. c.in_ok-meet.ensures.sorts k
           (before_still c.args.trail.now t _ old c.loop-id.seen.marks.items c.loop-id.invariant.marks k c.literal.result (before c.literal.result c.literal.ensures.there meant))
           (c.loop-id.invariant.sorts k before s);

@@ -1,7 +1,7 @@
 -- That the edges of the forest stand for the facts.
 use Rattle.std.proofs.Common.{List, sym, subst}
 use Rattle.explain_forest.specs.declared.types.Edge.{Edge}
-use Rattle.congruence_relation.specs.Relation.{Facts, AreOf}
+use Rattle.congruence_relation.specs.Relation.{Facts, AreFactsOf}
 use Rattle.congruence_relation.specs.Edges.{IsConflict}
 use Rattle.congruence_explain.specs.Basis.{IsBasis}
 use Rattle.congruence.proofs.Checking.{basis}
@@ -13,7 +13,7 @@ explain-requires g c =
     let w = c.args.closure.now in
     let forest = c.forest.result.now.now in
     let facts = c.requires.0 in
-    let stands = basis t w c.is_right.ensures c.truths.result forest c.requires.1.0 (subst (AreOf t) facts c.requires.1.1.0) c.truths.ensures c.forest.ensures.edges c.forest.ensures.terms in (
+    let stands = basis t w c.is_right.ensures c.truths.result forest c.requires.1.0 (subst (AreFactsOf t) facts c.requires.1.1.0) c.truths.ensures c.forest.ensures.edges c.forest.ensures.terms in (
       c.requires.1.1.1.0,
       (
         subst (λ (f : Facts). IsBasis t c.truths.result forest f) (sym facts) stands,

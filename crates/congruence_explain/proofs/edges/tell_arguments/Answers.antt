@@ -5,7 +5,7 @@ use Rattle.spec_text.specs.Trees.{none}
 use Rattle.spec_rules.specs.Rules.{IsRight}
 use Rattle.congruence_explain.specs.declared.claims.Said.{Said}
 use Rattle.congruence_explain.specs.Rules.{arguments_rule}
-use Rattle.congruence_explain.specs.Claims.{IsClaimOf, term_said, literal_said, equal, all_unequal}
+use Rattle.congruence_explain.specs.Claims.{IsClaimOf, term_said, literal_said, equality_claim, all_unequal}
 use Rattle.congruence_explain.specs.Steps.{derived, spoken, steps_since}
 use Rattle.congruence_explain.proofs.Meeting.{meet_at, ends_in, arguments_same, as_many, each_linked, arguments_in, arguments_right, arguments_shown}
 use Rattle.congruence_explain.proofs.edges.tell_arguments.Goals as goal
@@ -80,14 +80,14 @@ put_alone-requires g c =
     let ys_are = c.deref-2.ensures.value ∙ arguments_same t ts v f b k lt label u more c.ids_are_unique.ensures m.other m.other_there c.edge-edge.result.b (m.other_is ∙ sym b_is) c.in_ok-ys.ys.items c.in_ok-ys.ensures.there c.in_ok-ys.ensures.means in
     let x = c.edge-edge.result.a in
     let y = c.edge-edge.result.b in
-    let whole : c.deref-4.result.now ≡ all_unequal xs ys ++ equal x y ∷ [] =
+    let whole : c.deref-4.result.now ≡ all_unequal xs ys ++ equality_claim x y ∷ [] =
     c.deref-4.ensures.value ∙ c.in_ok-push.ensures.items ∙ (λ i. c.in_ok-clause.ensures.clause i ++ c.equality.ensures i ∷ []) in
     let rule : c.rule_of_arguments.result ≡ arguments_rule xs = c.rule_of_arguments.ensures ∙ ap arguments_rule (c.deref-3.ensures.value ∙ sym c.deref.ensures.value) in (
       c.tell_pairs.ensures.derives,
       (
         subst (λ (ss : List Said). All (λ s. IsClaimOf (spoken g.start) t s.claim) ss) (sym whole) (arguments_in t ts v f b k lt label xs ys xs_are ys_are x y a_is b_is),
         subst (λ (ss : List Said). IsRight c.rule_of_arguments.result [] none (map (term_said t) ss)) (sym whole)
-            (subst (λ r. IsRight r [] none (map (term_said t) (all_unequal xs ys ++ equal x y ∷ []))) (sym rule) (arguments_right t ts v f b k lt label xs ys xs_are ys_are x y a_is b_is)),
+            (subst (λ r. IsRight r [] none (map (term_said t) (all_unequal xs ys ++ equality_claim x y ∷ []))) (sym rule) (arguments_right t ts v f b k lt label xs ys xs_are ys_are x y a_is b_is)),
       ),
     )
 
@@ -112,7 +112,7 @@ returns-clause-told g c =
     let ys_are = c.deref-2.ensures.value ∙ arguments_same t ts v f b k lt label u more c.ids_are_unique.ensures m.other m.other_there c.edge-edge.result.b (m.other_is ∙ sym b_is) c.in_ok-ys.ys.items c.in_ok-ys.ensures.there c.in_ok-ys.ensures.means in
     let x = c.edge-edge.result.a in
     let y = c.edge-edge.result.b in
-    let whole : c.deref-4.result.now ≡ all_unequal xs ys ++ equal x y ∷ [] =
+    let whole : c.deref-4.result.now ≡ all_unequal xs ys ++ equality_claim x y ∷ [] =
     c.deref-4.ensures.value ∙ c.in_ok-push.ensures.items ∙ (λ i. c.in_ok-clause.ensures.clause i ++ c.equality.ensures i ∷ []) in
     let old = steps_since g.start (derived c.args.table.now c.args.log.now) in
     let mid = steps_since g.start (derived c.tell_pairs.new.table c.tell_pairs.new.log) in

@@ -6,7 +6,7 @@ use Rattle.spec_sorts.specs.Literals.{Literal}
 use Rattle.spec_rules.specs.Rules.{IsRight}
 use Rattle.congruence_relation.specs.Relation.{truth_of}
 use Rattle.congruence_explain.specs.declared.claims.Said.{Said}
-use Rattle.congruence_explain.specs.Claims.{IsClaimOf, term_said, literal_said, equal, said_value}
+use Rattle.congruence_explain.specs.Claims.{IsClaimOf, term_said, literal_said, equality_claim, said_value}
 use Rattle.congruence_explain.specs.Steps.{derived, spoken, steps_since}
 use Rattle.congruence_explain.proofs.Decided.{value_in, value_right, decided_clause, decided_in, decided_right, two_more}
 use Rattle.congruence_explain.proofs.edges.tell_decided.Goals as goal
@@ -31,7 +31,7 @@ put_alone-requires-2 g c =
     let ts = c.args.truths in
     let l = c.args.l in
     let said : c.equality.result ∷ c.denial.result ∷ c.value_said-2.result ∷ [] ≡ decided_clause t ts c.requires.1.truths l =
-    (λ i. (c.equality.ensures ∙ ap (equal l.term) c.truth-value.ensures) i ∷ c.denial.ensures i ∷ (c.value_said-2.ensures ∙ ap (λ v. said_value v (not l.positive)) c.truth-value.ensures) i ∷ []) in (
+    (λ i. (c.equality.ensures ∙ ap (equality_claim l.term) c.truth-value.ensures) i ∷ c.denial.ensures i ∷ (c.value_said-2.ensures ∙ ap (λ v. said_value v (not l.positive)) c.truth-value.ensures) i ∷ []) in (
       c.put_alone.ensures.derives,
       (
         subst (λ (ss : List Said). All (λ s. IsClaimOf (spoken g.start) t s.claim) ss) (sym said) (decided_in t ts c.requires.1.truths (spoken g.start) l c.requires.1.atom c.requires.1.made),
@@ -48,7 +48,7 @@ returns-clause-steps g c =
     let first : map (literal_said t) (c.value_said.result ∷ []) ≡ map (literal_said t) (said_value (truth_of ts l.positive) l.positive ∷ []) =
     (λ i. literal_said t ((c.value_said.ensures ∙ ap (λ v. said_value v l.positive) c.truth-value.ensures) i) ∷ []) in
     let second : map (literal_said t) (c.equality.result ∷ c.denial.result ∷ c.value_said-2.result ∷ []) ≡ map (literal_said t) (decided_clause t ts c.requires.1.truths l) =
-    (λ i. literal_said t ((c.equality.ensures ∙ ap (equal l.term) c.truth-value.ensures) i) ∷ literal_said t (c.denial.ensures i) ∷ literal_said t ((c.value_said-2.ensures ∙ ap (λ v. said_value v (not l.positive)) c.truth-value.ensures) i) ∷ []) in
+    (λ i. literal_said t ((c.equality.ensures ∙ ap (equality_claim l.term) c.truth-value.ensures) i) ∷ literal_said t (c.denial.ensures i) ∷ literal_said t ((c.value_said-2.ensures ∙ ap (λ v. said_value v (not l.positive)) c.truth-value.ensures) i) ∷ []) in
     let old = steps_since g.start (derived c.args.table.now c.args.log.now) in
     let mid = steps_since g.start (derived c.put_alone.new.table c.put_alone.new.log) in
     let new = steps_since g.start (derived c.put_alone-2.new.table c.put_alone-2.new.log) in

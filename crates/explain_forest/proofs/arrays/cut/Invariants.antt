@@ -1,5 +1,5 @@
 use Rattle.std.proofs.Common.{◌≡◌, ◌≤◌, length, take, vec_len, vec_capacity}
-use Rattle.explain_forest.specs.Kept.{Shows}
+use Rattle.explain_forest.specs.Kept.{ArraysShow}
 use Rattle.explain_forest.proofs.arrays.cut.Given as goal
 
 abbrev pub invariant-edges : goal.invariant-edges
@@ -8,7 +8,7 @@ invariant-edges l = record {
   front : take l.floor l.edges.items ≡ take l.floor l.fn.edges.items;
   room : vec_capacity l.edges ≡ vec_capacity l.fn.edges;
   terms : length l.parents ≡ length l.fn.parents;
-  shows : Shows l.parents l.stamps l.edges.items;
+  shows : ArraysShow l.parents l.stamps l.edges.items;
 }
 
 abbrev pub decreases-edges : goal.decreases-edges

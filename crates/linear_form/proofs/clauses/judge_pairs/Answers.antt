@@ -3,7 +3,7 @@ use Rattle.std.proofs.Common.{List, Some, subst}
 use Rattle.spec_arithmetic.specs.Contradictions.{judged_pairs}
 use Rattle.ratio128.specs.declared.ratio.Ratio.{Ratio}
 use Rattle.linear_form.specs.declared.literals.Negation.{Negation}
-use Rattle.linear_form.specs.Sums.{Judges}
+use Rattle.linear_form.specs.Sums.{JudgesSum}
 use Rattle.linear_form.specs.Clauses.{pairs_meant, numbered_meant, judged_numbers}
 use Rattle.linear_form.proofs.SumSteps.{judges_failed}
 use Rattle.linear_form.proofs.ClauseSteps.{numbers_judged, numbers_fail}
@@ -19,4 +19,4 @@ pub returns : goal.returns
 returns c =
     let t = c.args.table.now in
     numbers_judged (pairs_meant t c.args.pairs.now) (numbered_meant t c.in_ok-numbers.numbers.items) c.judge_numbers.result (c.in_ok-numbers.ensures.comes t)
-    (subst (λ (ns : List (Negation × Ratio)). Judges (judged_numbers (numbered_meant t ns)) c.judge_numbers.result) c.as_slice.ensures.value c.judge_numbers.ensures)
+    (subst (λ (ns : List (Negation × Ratio)). JudgesSum (judged_numbers (numbered_meant t ns)) c.judge_numbers.result) c.as_slice.ensures.value c.judge_numbers.ensures)

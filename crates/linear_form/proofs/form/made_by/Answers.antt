@@ -4,7 +4,7 @@ use Rattle.spec_arithmetic.specs.Forms.{changed, each_number}
 use Rattle.ratio128.specs.Meant.{fraction, overflow}
 use Rattle.linear_form.specs.Meant.{FormView, form_meant}
 use Rattle.linear_form.specs.Entries.{live, variables_meant}
-use Rattle.linear_form.specs.Making.{change_meant, FailsBy, Makes}
+use Rattle.linear_form.specs.Making.{change_meant, FailsBy, ReturnsMade}
 use Rattle.linear_form.proofs.Joining.{makes_err}
 use Rattle.linear_form.proofs.FormSteps.{view_of, changed_err, changed_fails, changed_makes}
 use Rattle.linear_form.proofs.form.made_by.Goals as goal
@@ -13,7 +13,7 @@ pub returns-in_err-constant-clause-comes : goal.returns-in_err-constant-clause-c
 returns-in_err-constant-clause-comes c t =
     let change = change_meant c.args.change in
     let f = view_of (fraction c.f.inside.constant) c.f.inside.entries.items in
-    subst (λ (v : FormView). Makes (changed change (form_meant t v)) c.from_residual.result (form_meant t)) c.f.view_is
+    subst (λ (v : FormView). ReturnsMade (changed change (form_meant t v)) c.from_residual.result (form_meant t)) c.f.view_is
     (makes_err _ c.from_residual.result _ _ (changed_err change (form_meant t f) (overflow c.in_err-constant.field-0.0) (sym c.in_err-constant.ensures)) c.from_residual.ensures.1)
 
 pub returns-in_err-change_all-clause-comes : goal.returns-in_err-change_all-clause-comes
@@ -21,7 +21,7 @@ returns-in_err-change_all-clause-comes c t =
     let change = change_meant c.args.change in
     let f = view_of (fraction c.f.inside.constant) c.f.inside.entries.items in
     let s = c.in_err-change_all.field-0.0 in
-    subst (λ (v : FormView). Makes (changed change (form_meant t v)) c.from_residual-in_err-change_all.result (form_meant t)) c.f.view_is
+    subst (λ (v : FormView). ReturnsMade (changed change (form_meant t v)) c.from_residual-in_err-change_all.result (form_meant t)) c.f.view_is
     (makes_err _ c.from_residual-in_err-change_all.result s _ (changed_fails change (form_meant t f) (fraction c.in_ok-constant.constant) s (sym c.in_ok-constant.ensures)
     (subst (λ l. FailsBy (each_number change (variables_meant t (live l))) s) c.as_slice.ensures.value (c.in_err-change_all.ensures.comes t))) c.from_residual-in_err-change_all.ensures.1)
 

@@ -4,7 +4,7 @@ use Rattle.spec_sorts.specs.Terms.{Divide}
 use Rattle.spec_arithmetic.specs.Forms.{form_by}
 use Rattle.term_core.specs.Tables.{term_at}
 use Rattle.linear_form.specs.Meant.{form_meant}
-use Rattle.linear_form.specs.Making.{Makes}
+use Rattle.linear_form.specs.Making.{ReturnsMade}
 use Rattle.linear_form.proofs.HeadSteps.{variable_made, divide_other, one_form}
 use Rattle.linear_form.proofs.heads.by_divide.Goals as goal
 
@@ -14,4 +14,4 @@ returns-then-others-ne1-clause-comes c t d n m =
 
 pub returns-clause-comes : goal.returns-clause-comes
 returns-clause-comes c t d n m =
-    subst (λ gs. Makes (form_by (term_at t c.args.id) Divide (form_meant t c.args.first ∷ gs)) c.divide.result (form_meant t)) (sym (one_form t c.args.others.now c.index-others-0.result c.if-others-ne1.false c.index-others-0.is)) (c.divide.ensures.comes t)
+    subst (λ gs. ReturnsMade (form_by (term_at t c.args.id) Divide (form_meant t c.args.first ∷ gs)) c.divide.result (form_meant t)) (sym (one_form t c.args.others.now c.index-others-0.result c.if-others-ne1.false c.index-others-0.is)) (c.divide.ensures.comes t)

@@ -1,6 +1,6 @@
 -- One more is fetched.
 use Rattle.std.proofs.Common.{◌≡◌, ◌+◌, ◌<◌, length, subst, ◌∙◌, arith}
-use Rattle.linear_form.specs.Walks.{IsReady}
+use Rattle.linear_form.specs.Walks.{HoldsUsed}
 use Rattle.linear_form.proofs.ReadyForms.{known_more}
 use Rattle.linear_form.proofs.slots.fetch_all.Goals as goal
 
@@ -13,7 +13,7 @@ uses-preserved c =
     let next : tick + 1 ≡ c.args.first + (c.uses.done + 1) = omega arith in
     record {
       len = c.fetch.ensures.len ∙ c.uses.invariant.len;
-      ready = λ t h. subst (IsReady t order c.args.plan.now.last.items c.fetch.new.slots.items) next (c.in_ok-known.ensures.ready t (c.uses.invariant.ready t h));
+      ready = λ t h. subst (HoldsUsed t order c.args.plan.now.last.items c.fetch.new.slots.items) next (c.in_ok-known.ensures.ready t (c.uses.invariant.ready t h));
       known = λ t h. known_more t order uses c.args.first c.uses.done tick c.uses.found.items c.push.new.self.items c.in_ok-known.known (omega arith) lt c.in_ok-push.ensures.items (c.in_ok-known.ensures.known t (c.uses.invariant.ready t h)) (c.uses.invariant.known t h);
     }
 

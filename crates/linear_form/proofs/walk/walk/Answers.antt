@@ -1,7 +1,7 @@
 -- One term after the other becomes known.
 use Rattle.std.proofs.Common.{rules, ◌≡◌, ◌+◌, ◌<◌, ◌≤◌, IfOk, length, get_or, sym, subst, ap, ◌∙◌, arith}
 use Rattle.std.proofs.lemmas.List.{get_or_default}
-use Rattle.linear_form.specs.Walks.{needed_at, IsKnown, AreKnown}
+use Rattle.linear_form.specs.Walks.{needed_at, IsKnown, AreKnownForms}
 use Rattle.term_walks.proofs.Among.{at_in}
 use Rattle.term_walks.proofs.Named.{numbers_length}
 use Rattle.linear_form.proofs.ReadyForms.{left_known, left_next, left_before, end_fits, end_root, ready_more}
@@ -47,7 +47,7 @@ known_of-requires-clause-known c =
     let k = c.index.result.now in
     let is : k ≡ get_or order c.terms.at 0 = c.index.ensures ∙ get_or_default order c.terms.at k 0 lt in
     let count = sym (numbers_length c.needed-count.result.now) ∙ ap length c.needed-count.ensures.same in
-    subst (λ l. AreKnown c.args.table.now l c.in_ok-arguments.arguments.items)
+    subst (λ l. AreKnownForms c.args.table.now l c.in_ok-arguments.arguments.items)
     (left_known needed order c.in_ok-plan.plan.uses.items c.args.id.0 c.terms.at c.terms.tick k lt is c.terms.invariant.left _ count) (c.in_ok-arguments.ensures.known c.args.table.now c.terms.invariant.ready)
 
 pub terms-preserved : goal.terms-preserved

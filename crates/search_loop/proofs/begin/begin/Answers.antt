@@ -4,7 +4,7 @@ use Rattle.std.proofs.lemmas.List.Elements.{All-nil}
 use Rattle.term_core.specs.declared.ids.TermId.{TermId}
 use Rattle.term_core.specs.declared.ids.Lit.{Lit}
 use Rattle.term_core.specs.Tables.{clause_at}
-use Rattle.clause_literals.specs.Literals.{AreOf}
+use Rattle.clause_literals.specs.Literals.{AreLiteralsIn}
 use Rattle.proof_log.specs.declared.premises.StepId.{StepId}
 use Rattle.sat_trail.specs.Trails.{empty}
 use Rattle.conflict_learn.proofs.Stating.{extends_back}
@@ -54,7 +54,7 @@ returns-clause-begins c =
         covered = covered t u c.ids_are_unique.ensures c.args.roots.now c.args.beside.now c.requires.roots c.requires.beside answered log c.new-log.result c.new-log.ensures steps made.grown made.clauses made.made store stored terms atoms made.terms chosen;
         waiting = subst (λ (ls : List Lit). AreWaiting atoms ls c.in_ok-decider.decider) (sym begun.same.literals) waits;
         sized = c.in_ok-decider.ensures.1 ∙ c.vars.ensures;
-        learned = subst (AreAllOf u) (sym none) (All-nil (AreOf u));
+        learned = subst (AreAllOf u) (sym none) (All-nil (AreLiteralsIn u));
       };
       empty = begun.same.literals;
       level = begun.same.level;

@@ -2,7 +2,7 @@
 use Rattle.std.proofs.Common.{refl, sym, subst, List}
 use Rattle.tableau.specs.declared.entries.Entry.{Entry}
 use Rattle.simplex_atoms.specs.Atoms.{ground_of}
-use Rattle.simplex_atoms.specs.Watching.{AreNumbered}
+use Rattle.simplex_atoms.specs.Watching.{EntriesAreNumbered}
 use Rattle.simplex_atoms.proofs.Fitting.{sums_on}
 use Rattle.simplex_atoms.proofs.Growth.{grows_same}
 use Rattle.simplex_atoms.proofs.Numbered.{are_in, numbered_over, variables_as}
@@ -29,7 +29,7 @@ place_by-requires-clause-sums c =
 pub place_by-requires-clause-over : goal.place_by-requires-clause-over
 place_by-requires-clause-over c =
     numbered_over c.entries_of.new.owners.list c.entries_of.new.board.tableau.variables c.deref-2.result.now c.deref.result.now c.entries_of.ensures.counted
-    (subst (λ (es : List Entry). AreNumbered c.entries_of.new.owners.list es c.deref.result.now) (sym c.deref-2.ensures.value) c.in_ok-entries.ensures.ok)
+    (subst (λ (es : List Entry). EntriesAreNumbered c.entries_of.new.owners.list es c.deref.result.now) (sym c.deref-2.ensures.value) c.in_ok-entries.ensures.ok)
 
 pub returns-clause-there : goal.returns-clause-there
 returns-clause-there c t all h =
@@ -41,7 +41,7 @@ returns-clause-is c =
     result_formed c.entries_of.new.owners.list c.entries_of.new.board (ground_of c.place_by.new.owners.list c.place_by.new.board) c.args.form.now c.deref.result.now c.deref-2.result.now
     c.args.kind c.constant.result c.place_by.result
     (variables_as c.deref.result.now c.in_ok-variables.variables.items c.args.form.now c.deref.ensures.value c.in_ok-variables.ensures) c.constant.ensures
-    (subst (λ (es : List Entry). AreNumbered c.entries_of.new.owners.list es c.deref.result.now) (sym c.deref-2.ensures.value) c.in_ok-entries.ensures.ok)
+    (subst (λ (es : List Entry). EntriesAreNumbered c.entries_of.new.owners.list es c.deref.result.now) (sym c.deref-2.ensures.value) c.in_ok-entries.ensures.ok)
     c.place_by.ensures.grows c.place_by.ensures.made c.place_by.ensures.covers c.place_by.ensures.on
 
 pub returns-clause-wide : goal.returns-clause-wide
@@ -49,7 +49,7 @@ returns-clause-wide c =
     result_strains c.entries_of.new.owners.list c.entries_of.new.board (ground_of c.place_by.new.owners.list c.place_by.new.board) c.args.form.now c.deref.result.now c.deref-2.result.now
     c.constant.result c.place_by.result
     (variables_as c.deref.result.now c.in_ok-variables.variables.items c.args.form.now c.deref.ensures.value c.in_ok-variables.ensures) c.constant.ensures
-    (subst (λ (es : List Entry). AreNumbered c.entries_of.new.owners.list es c.deref.result.now) (sym c.deref-2.ensures.value) c.in_ok-entries.ensures.ok)
+    (subst (λ (es : List Entry). EntriesAreNumbered c.entries_of.new.owners.list es c.deref.result.now) (sym c.deref-2.ensures.value) c.in_ok-entries.ensures.ok)
     c.place_by.ensures.grows c.place_by.ensures.wide
 
 pub returns-clause-came : goal.returns-clause-came
@@ -57,5 +57,5 @@ returns-clause-came c =
     place_comes c.args.form.now c.args.owners.now.list c.entries_of.new.owners.list c.place_by.new.owners.list c.args.board.now c.entries_of.new.board c.place_by.new.board
     c.deref.result.now c.deref-2.result.now
     (variables_as c.deref.result.now c.in_ok-variables.variables.items c.args.form.now c.deref.ensures.value c.in_ok-variables.ensures)
-    (subst (λ (es : List Entry). AreNumbered c.entries_of.new.owners.list es c.deref.result.now) (sym c.deref-2.ensures.value) c.in_ok-entries.ensures.ok)
+    (subst (λ (es : List Entry). EntriesAreNumbered c.entries_of.new.owners.list es c.deref.result.now) (sym c.deref-2.ensures.value) c.in_ok-entries.ensures.ok)
     c.in_ok-entries.ensures.came c.place_by.result c.place_by.ensures.came

@@ -13,5 +13,5 @@ unfolding delta_minus
 returns-clause-exact c =
     let a = c.args.a in
     let b = c.args.b in
-    exact c.sub.result (delta_subtracted (delta a) (delta b)) (delta_minus (delta a) (delta b)) (spaces.minus deltas (pair_of a) (pair_of b)) c.sub.ensures (difference_exact (delta a) (delta b))
+    exact c.sub.result (delta_subtracted (delta a) (delta b)) (delta_minus (delta a) (delta b)) (spaces.space_difference deltas (pair_of a) (pair_of b)) c.sub.ensures (difference_exact (delta a) (delta b))
     (λ i. record { base = minus_is (number_of a.base) (number_of b.base) i; tilt = minus_is (number_of a.tilt) (number_of b.tilt) i })

@@ -2,7 +2,7 @@ use Rattle.std.proofs.Common.{◌≡◌, ◌∷◌, ◌<◌, length, map, slice_
 use Rattle.std.proofs.lemmas.List.{length-set, nil_from_length}
 use Rattle.simplex_bounds.specs.Deltas.{pair_of}
 use Rattle.spec_strains.specs.Points.{point_in}
-use Rattle.simplex_check.specs.Changes.{AreKnown, written}
+use Rattle.simplex_check.specs.Changes.{ChangesAreBelow, written}
 use Rattle.simplex_check.proofs.Writing.{known_first, written_step}
 use Rattle.simplex_check.proofs.changes.write.Goals as goal
 
@@ -18,7 +18,7 @@ loop-change-preserved c =
     let k = known_first (length c.loop-change.values.items) c.in-Some.change.now c.loop-change.rest.now c.in-Some.more.now some c.loop-change.invariant.known in
     let l : length (slice_set c.loop-change.values.items c.in-Some.change.now.variable c.in-Some.change.now.value) ≡ length c.loop-change.values.items = length-set c.loop-change.values.items c.in-Some.change.now.variable c.in-Some.change.now.value in
     record {
-      known = subst (λ n. AreKnown n c.in-Some.more.now) (sym l) k.1;
+      known = subst (λ n. ChangesAreBelow n c.in-Some.more.now) (sym l) k.1;
       lengths = l ∙ c.loop-change.invariant.lengths;
       point = written_step c.loop-change.values.items c.in-Some.change.now c.loop-change.rest.now c.in-Some.more.now (λ y. written c.args.changes.now (point_in (map pair_of c.args.values.now.items)) y) some k.0 c.loop-change.invariant.point;
     }

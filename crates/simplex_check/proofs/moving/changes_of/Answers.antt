@@ -4,7 +4,7 @@ use Rattle.spec_tableaux.specs.LeastVariable.{moved}
 use Rattle.tableau.specs.Views.{row_at}
 use Rattle.simplex_bounds.specs.Deltas.{pair_of}
 use Rattle.spec_strains.specs.Points.{deltas, point_in}
-use Rattle.simplex_check.specs.Changes.{AreKnown, ComeTo, is_changed}
+use Rattle.simplex_check.specs.Changes.{ChangesAreBelow, ComeTo, is_changed}
 use Rattle.simplex_check.proofs.Writing.{known_push, come_push, changed_push, changed_last}
 use Rattle.simplex_check.proofs.Following.{first_comes, others_stay}
 use Rattle.simplex_check.proofs.moving.changes_of.Goals as goal
@@ -14,7 +14,7 @@ loop-row-init c =
     let w = moved deltas c.args.tableau.now.rows c.args.first.variable (pair_of c.args.d) (point_in (map pair_of c.args.values.now)) in
     let one : c.push.new.self.items ≡ c.args.first ∷ [] = c.in_ok-push.ensures.items ∙ ap (λ z. z ++ c.args.first ∷ []) c.new-changes.ensures.items in
     record {
-      known = subst (AreKnown c.args.tableau.now.variables) (sym one) (c.requires.known, tt);
+      known = subst (ChangesAreBelow c.args.tableau.now.variables) (sym one) (c.requires.known, tt);
       come = subst (ComeTo w) (sym one) (first_comes c.args.tableau.now.rows c.args.first.variable (pair_of c.args.d) (point_in (map pair_of c.args.values.now)) (pair_of c.args.first.value) c.requires.nonbasic c.requires.start, tt);
       first = ap (is_changed c.args.first.variable) one ∙ changed_last c.args.first.variable [] c.args.first refl;
       passed = λ j h. absurd (omega arith);
@@ -29,7 +29,7 @@ loop-row-preserved c =
     let w = moved deltas c.args.tableau.now.rows c.args.first.variable (pair_of c.args.d) (point_in (map pair_of c.args.values.now)) in
     let more = c.in_ok-push-2.ensures.items in
     record {
-      known = subst (AreKnown c.args.tableau.now.variables) (sym more) (known_push c.args.tableau.now.variables c.loop-row.changes.items c.in_ok-change.change i.known c.in_ok-change.ensures.known);
+      known = subst (ChangesAreBelow c.args.tableau.now.variables) (sym more) (known_push c.args.tableau.now.variables c.loop-row.changes.items c.in_ok-change.change i.known c.in_ok-change.ensures.known);
       come = subst (ComeTo w) (sym more) (come_push w c.loop-row.changes.items c.in_ok-change.change i.come c.in_ok-change.ensures.value);
       first = ap (is_changed c.args.first.variable) more ∙ changed_push c.args.first.variable c.loop-row.changes.items c.in_ok-change.change i.first;
       passed = below_more (λ j. is_changed (row_at c.args.tableau.now.rows (slice_index_or c.column-column.result.now j 0)).basic c.push-in-loop-row.new.self.items ≡ true) c.loop-row.row-index

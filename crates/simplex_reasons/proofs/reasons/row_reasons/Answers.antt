@@ -8,7 +8,7 @@ use Rattle.spec_strains.specs.Points.{deltas}
 use Rattle.simplex_bounds.specs.Held.{ranges_in}
 use Rattle.simplex_check.specs.Boards.{state_of}
 use Rattle.spec_causes.specs.Reasons.{with_basic}
-use Rattle.simplex_reasons.specs.Reasons.{footing, StrainsReasons, OnWide}
+use Rattle.simplex_reasons.specs.Reasons.{footing, StrainsReasons, OnReasonOverflow}
 use Rattle.simplex_reasons.proofs.Distances.{stuck_contradicts}
 use Rattle.simplex_reasons.proofs.Pieces.{LimitLaws}
 use Rattle.simplex_reasons.proofs.Refuting.{refutes}
@@ -21,7 +21,7 @@ pub returns-in_err-reasons-clause-wide : goal.returns-in_err-reasons-clause-wide
 returns-in_err-reasons-clause-wide g c =
     let board = c.args.board.now in
     let up = goes_up deltas (ranges_in c.args.bounds.now.held) (state_of board) c.args.b in
-    told (OnWide (StrainsReasons (footing c.args.atoms.now c.args.bounds.now) up (with_basic c.args.b (row_of c.args.b board.tableau.rows).entries))) c.from_residual.result c.in_err-reasons.field-0.0
+    told (OnReasonOverflow (StrainsReasons (footing c.args.atoms.now c.args.bounds.now) up (with_basic c.args.b (row_of c.args.b board.tableau.rows).entries))) c.from_residual.result c.in_err-reasons.field-0.0
     c.from_residual.ensures.1 c.in_err-reasons.ensures.wide
 
 pub returns-clause-refutes : goal.returns-clause-refutes

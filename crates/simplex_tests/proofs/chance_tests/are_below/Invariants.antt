@@ -1,10 +1,10 @@
 use Rattle.std.proofs.Common.{◌<◌, length}
-use Rattle.spec_tableaux.specs.SolvedForms.{IsOver}
+use Rattle.spec_tableaux.specs.SolvedForms.{AllVariables}
 use Rattle.tableau.specs.Entries.{entries_of}
 use Rattle.simplex_tests.proofs.chance_tests.are_below.Given as goal
 
 abbrev pub invariant-loop-e : goal.invariant-loop-e
-invariant-loop-e l = IsOver (λ y. y < l.fn.number) (entries_of l.rest) → IsOver (λ y. y < l.fn.number) (entries_of l.fn.entries)
+invariant-loop-e l = AllVariables (λ y. y < l.fn.number) (entries_of l.rest) → AllVariables (λ y. y < l.fn.number) (entries_of l.fn.entries)
 
 abbrev pub decreases-loop-e : goal.decreases-loop-e
 decreases-loop-e l = length l.rest

@@ -4,7 +4,7 @@ use Rattle.std.specs.Prelude.{Ok}
 use Rattle.spec_text.specs.Places.{IsPlaceOf}
 use Rattle.spec_text.specs.Lexemes.{lexemes_from}
 use Rattle.spec_text.specs.Readings.{kept}
-use Rattle.smt_sexpr.specs.Reads.{Reads}
+use Rattle.smt_sexpr.specs.Reads.{ReadsSexpr}
 use Rattle.smt_sexpr.specs.Limited.{IsStopped, ReadsOneOf}
 use Rattle.check_evidence.specs.Evidence.{limits_meant}
 use Rattle.smt_session.specs.Sessions.{mode_meant}
@@ -42,7 +42,7 @@ returns-in-Err-Memory-step g c =
 pub returns-in-Err-Sink : goal.returns-in-Err-Sink
 returns-in-Err-Sink g c =
     let i = c.commands.invariant.going in
-    let r = subst (λ (b : List ℕ). Reads (kept b) c.commands.place 0 c.in-Ok-Some.read.0 c.in-Ok-Some.read.1) c.new-text.ensures (rw c.in-Ok-Some.field-0-is at c.in-Ok-Some.ensures) in
+    let r = subst (λ (b : List ℕ). ReadsSexpr (kept b) c.commands.place 0 c.in-Ok-Some.read.0 c.in-Ok-Some.read.1) c.new-text.ensures (rw c.in-Ok-Some.field-0-is at c.in-Ok-Some.ensures) in
     let k = (rw c.in-Err-Sink.field-0-is at c.in-Err-Sink.ensures.stepped) i.stack i.stands in
     write_failed (limits_meant c.args.session.now.limits) (mode_meant c.args.session.now.mode) c.args.bytes.now _ c.commands.session c.commands.place c.commands.refused _ i
     c.in-Ok-Some.read.0 c.in-Ok-Some.read.1 r _ _ k.0 k.1 c.in-Err-Sink.ensures.same (c.each_text_is_read.ensures (kept c.args.bytes.now) c.in-Ok-Some.read.1.offset 0 (omega arith)) k.2
@@ -50,7 +50,7 @@ returns-in-Err-Sink g c =
 pub returns-then-is_last : goal.returns-then-is_last
 returns-then-is_last g c =
     let i = c.commands.invariant.going in
-    let r = subst (λ (b : List ℕ). Reads (kept b) c.commands.place 0 c.in-Ok-Some.read.0 c.in-Ok-Some.read.1) c.new-text.ensures (rw c.in-Ok-Some.field-0-is at c.in-Ok-Some.ensures) in
+    let r = subst (λ (b : List ℕ). ReadsSexpr (kept b) c.commands.place 0 c.in-Ok-Some.read.0 c.in-Ok-Some.read.1) c.new-text.ensures (rw c.in-Ok-Some.field-0-is at c.in-Ok-Some.ensures) in
     let k = c.in-Ok.ensures.stepped i.stack i.stands in
     let last = sym c.is_last.ensures ∙ c.if-is_last.true in
     rw c.ended_by-then-is_last.ensures (ended_here (limits_meant c.args.session.now.limits) (mode_meant c.args.session.now.mode) c.args.bytes.now _ c.commands.session c.commands.place c.commands.refused _ i
@@ -60,7 +60,7 @@ returns-then-is_last g c =
 pub commands-preserved : goal.commands-preserved
 commands-preserved g c =
     let i = c.commands.invariant.going in
-    let r = subst (λ (b : List ℕ). Reads (kept b) c.commands.place 0 c.in-Ok-Some.read.0 c.in-Ok-Some.read.1) c.new-text.ensures (rw c.in-Ok-Some.field-0-is at c.in-Ok-Some.ensures) in
+    let r = subst (λ (b : List ℕ). ReadsSexpr (kept b) c.commands.place 0 c.in-Ok-Some.read.0 c.in-Ok-Some.read.1) c.new-text.ensures (rw c.in-Ok-Some.field-0-is at c.in-Ok-Some.ensures) in
     let k = c.in-Ok.ensures.stepped i.stack i.stands in
     record {
       place = r.is.place;

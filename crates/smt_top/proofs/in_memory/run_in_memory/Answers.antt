@@ -2,7 +2,7 @@
 use Rattle.std.proofs.Common.{refl, subst}
 use Rattle.world_io.specs.Memory.{text_named, seen_sink}
 use Rattle.smt_top.specs.Arguments.{asked}
-use Rattle.smt_top.specs.Ends.{Ends}
+use Rattle.smt_top.specs.Ends.{RunMeans}
 use Rattle.smt_top.proofs.InMemory.{ends_in_memory, fault_counted}
 use Rattle.smt_top.proofs.in_memory.run_in_memory.Goals as goal
 
@@ -12,4 +12,4 @@ returns-clause-ends c = ends_in_memory c.args.shelf.now.texts c.args.out.now c.r
 pub returns-clause-write_fault : goal.returns-clause-write_fault
 returns-clause-write_fault c = λ e.
     fault_counted (asked c.args.arguments.now) (text_named c.args.shelf.now.texts) (seen_sink c.args.out.now) (seen_sink c.run.new.out)
-    (subst (λ s. Ends s (asked c.args.arguments.now) (text_named c.args.shelf.now.texts) (seen_sink c.args.out.now) (seen_sink c.run.new.out)) e c.run.ensures.ends)
+    (subst (λ s. RunMeans s (asked c.args.arguments.now) (text_named c.args.shelf.now.texts) (seen_sink c.args.out.now) (seen_sink c.run.new.out)) e c.run.ensures.ends)

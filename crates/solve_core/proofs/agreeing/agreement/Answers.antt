@@ -7,9 +7,9 @@ use Rattle.ratio128.specs.Meant.{fraction}
 use Rattle.term_core.specs.declared.ids.TermId.{TermId}
 use Rattle.term_core.specs.Symbols.{SymbolsView, AreDeclared}
 use Rattle.term_core.specs.Tables.{AreIn, term_at, clause_at}
-use Rattle.proof_log.specs.Theories.{IsOver, terms_watched}
+use Rattle.proof_log.specs.Theories.{IsTheoryOver, terms_watched}
 use Rattle.congruence_closure.specs.Closure.{ClosureView, TellClasses}
-use Rattle.congruence_relation.specs.Relation.{AreOf}
+use Rattle.congruence_relation.specs.Relation.{AreFactsOf}
 use Rattle.agreement.specs.declared.agreeing.Shared.{Shared}
 use Rattle.agreement.specs.Agreeing.{Agree, ArePairs}
 use Rattle.solve_core.specs.Agreeing.{AreSaid}
@@ -29,8 +29,8 @@ pub numbers-requires-clause-over : goal.numbers-requires-clause-over
 numbers-requires-clause-over c =
     let t = c.args.table.now in
     let theory = c.args.theory.now in
-    subst (λ (v : SimplexView). IsOver t v.theory) (sym c.simplex.ensures)
-    (subst (IsOver t) c.parts_hold_the_same.ensures (over_rested t c.args.search.now (theory_of theory.congruence) _ c.requires.rested))
+    subst (λ (v : SimplexView). IsTheoryOver t v.theory) (sym c.simplex.ensures)
+    (subst (IsTheoryOver t) c.parts_hold_the_same.ensures (over_rested t c.args.search.now (theory_of theory.congruence) _ c.requires.rested))
 
 pub numbers-requires-clause-terms : goal.numbers-requires-clause-terms
 numbers-requires-clause-terms c =
@@ -97,7 +97,7 @@ all_told c =
     let declared = subst (λ (d : SymbolsView). AreDeclared d.sorts d.symbols) c.symbols.ensures c.are_declared.ensures in
     let there = subst (AreIn t) (sym all) (all_there t c.ids_are_unique.ensures x v _ c.requires.rested ids c.requires.asked.0 c.requires.asked.1) in
     let told = c.in_ok-classes.ensures.exact t c.ids_are_unique.ensures declared
-    (subst (λ (k : ClosureView). AreOf t k.now.facts) (sym c.congruence.ensures) c.requires.congruence) there (subst (λ (k : ClosureView). k.now.settled ≡ true) (sym c.congruence.ensures) c.requires.rested.agrees.0.1) in
+    (subst (λ (k : ClosureView). AreFactsOf t k.now.facts) (sym c.congruence.ensures) c.requires.congruence) there (subst (λ (k : ClosureView). k.now.settled ≡ true) (sym c.congruence.ensures) c.requires.rested.agrees.0.1) in
     subst (λ (is : List TermId). TellClasses (AreEqualBy t v) is ns) all (subst (λ (k : ClosureView). TellClasses (AreEqualBy t (theory_of k)) c.deref-3.result.now ns) c.congruence.ensures told)
 
 all_counted : (c : In_ok-xs) → length c.in_ok-classes.classes.items ≡ length (c.args.search.now.terms.items ++ c.args.shared.now)

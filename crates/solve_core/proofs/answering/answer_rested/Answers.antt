@@ -3,7 +3,7 @@ use Rattle.sat_budget.specs.declared.limits.Reason.TheVariants.{Overflow}
 use Rattle.sat_budget.specs.Budgets.{StopsBy}
 use Rattle.congruence.specs.Views.{theory_of}
 use Rattle.search_loop.specs.declared.cdcl.Answer.TheVariants.{Unknown}
-use Rattle.search_loop.specs.Rounds.{Shows}
+use Rattle.search_loop.specs.Rounds.{ShowsAnswer}
 use Rattle.search_loop.proofs.SearchSpends.{handed_on}
 use Rattle.solve_core.proofs.SearchStops.{model_stops, rests_with}
 use Rattle.solve_core.proofs.answering.answer_rested.Goals as goal
@@ -21,5 +21,5 @@ returns-in_err-pairs-clause-strained c =
     let x = c.args.search.now in
     let theory = c.args.theory.now in
     let stop = c.in_err-pairs.field-0.0 in
-    handed_on (StopsBy (λ s. Shows t t x x (Unknown (Overflow s))) (λ _. ⊥)) c.from_residual.result stop c.from_residual.ensures.1
+    handed_on (StopsBy (λ s. ShowsAnswer t t x x (Unknown (Overflow s))) (λ _. ⊥)) c.from_residual.result stop c.from_residual.ensures.1
     (model_stops t x (theory_of theory.congruence) theory.simplex c.parts_hold_the_same.ensures c.requires.rested.terms c.ids_are_unique.ensures c.requires.rested.ready c.requires.came stop c.in_err-pairs.ensures.stops)

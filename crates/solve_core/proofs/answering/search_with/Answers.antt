@@ -9,12 +9,12 @@ use Rattle.term_core.specs.Tables.{clause_at}
 use Rattle.term_core.proofs.TermsExtend.{Extends-self}
 use Rattle.sat_budget.specs.declared.limits.Reason.TheVariants.{Overflow}
 use Rattle.sat_budget.specs.Budgets.{StopsBy}
-use Rattle.congruence_relation.specs.Relation.{AreOf}
+use Rattle.congruence_relation.specs.Relation.{AreFactsOf}
 use Rattle.congruence.specs.Views.{theory_of}
 use Rattle.simplex.specs.Checks.{Suits}
 use Rattle.simplex.specs.Coming.{CameBy, IsStrainAt}
 use Rattle.search_loop.specs.declared.cdcl.Answer.TheVariants.{Unknown}
-use Rattle.search_loop.specs.Rounds.{Shows}
+use Rattle.search_loop.specs.Rounds.{ShowsAnswer}
 use Rattle.search_loop.specs.Asking.{state}
 use Rattle.search_loop.specs.Paying.{counted_among, atoms_of, most}
 use Rattle.solve_core.specs.Answering.{IsStoppedBy}
@@ -89,7 +89,7 @@ returns-in-Ok-Rests-clause-stopped c =
     let y = c.run-ended.new.self in
     let theory = c.run-ended.new.theory in
     let ends = rw c.in-Ok-Rests.field-0-is at c.in-Ok-Rests.ensures.ends in
-    IfErr-weaker c.answer_rested.result (StopsBy (λ s. Shows w w y y (Unknown (Overflow s))) (λ _. ⊥)) (IsStoppedBy (state t x) (state w y))
+    IfErr-weaker c.answer_rested.result (StopsBy (λ s. ShowsAnswer w w y y (Unknown (Overflow s))) (λ _. ⊥)) (IsStoppedBy (state t x) (state w y))
     (λ stop h. numbers_stop t w x y ends.1 c.in-Ok-Rests.ensures.right stop h) c.answer_rested.ensures.strained
 
 -- and where its rounds stop
@@ -101,7 +101,7 @@ returns-in-Err-ended-clause-stopped c =
     let y = c.run-ended.new.self in
     let theory = c.run-ended.new.theory in
     let begun = c.requires.begins.2 in
-    rounds_stop t w x y c.ids_are_unique.ensures begun.ready (theory_of theory.congruence) theory.simplex (AreOf w theory.congruence.now.facts × Suits theory.simplex w) c.in-Err-ended.stop
+    rounds_stop t w x y c.ids_are_unique.ensures begun.ready (theory_of theory.congruence) theory.simplex (AreFactsOf w theory.congruence.now.facts × Suits theory.simplex w) c.in-Err-ended.stop
     (λ ts among. let came = c.in_default.ensures.came ts x.budget.exchanges (subst (λ (ids : List TermId). AreAmong (clause_at t ids) ts) (sym c.deref.ensures.value) among)
     (subst (λ made. CameBy t ts 0 made c.args.theory.now.simplex) (sym begun.unspent) (c.requires.came ts)) in
     rounds_paid _ w ts theory.simplex y.budget.exchanges (most t x y) c.in-Err-ended.stop

@@ -14,7 +14,7 @@ use Rattle.term_core.specs.Tables.{term_at, clause_at, literal_at}
 use Rattle.term_clauses.specs.SpokenTerms.{AreRising}
 use Rattle.search_model.specs.Models.{IsModelOf}
 use Rattle.search_loop.specs.declared.cdcl.Answer.TheVariants.{Sat}
-use Rattle.search_loop.specs.Rounds.{Shows}
+use Rattle.search_loop.specs.Rounds.{ShowsAnswer}
 use Rattle.search_loop.proofs.SearchReady.{held_in}
 use Rattle.search_loop.proofs.SearchShows.{learning_shows}
 use Rattle.solve_core.proofs.SearchModelled.{given, taken, rests, nothing_assumed, has_model}
@@ -67,7 +67,7 @@ returns c =
     let consistent = c.is_sound.ensures.consistent in
     let tell = k.values.tell in
     let of_numbers = map fraction c.deref-3.result.now in
-    IfOk-weaker c.model_of.result (IsModelOf t ls c.deref.result.now c.deref-2.result.now of_numbers) (λ interp. Shows t t x x (Sat interp)) (λ interp m problem s.
+    IfOk-weaker c.model_of.result (IsModelOf t ls c.deref.result.now c.deref-2.result.now of_numbers) (λ interp. ShowsAnswer t t x x (Sat interp)) (λ interp m problem s.
     let one : IsModelOf t ls ids c.deref-2.result.now of_numbers interp = subst (λ (is : List TermId). IsModelOf t ls is c.deref-2.result.now of_numbers interp) c.deref.ensures.value m in
     let two : IsModelOf t ls ids ns of_numbers interp = subst (λ (is : List ℕ). IsModelOf t ls ids is of_numbers interp) c.deref-2.ensures.value one in
     let good : IsModelOf t ls ids ns (map number terms) interp = subst (λ (qs : List Fraction). IsModelOf t ls ids ns qs interp) (ap (map fraction) c.deref-3.ensures.value ∙ k.values.are) two in

@@ -13,7 +13,7 @@ use Rattle.spec_derivations.specs.Problems.{subterms_in}
 use Rattle.spec_derivations.specs.Examples.{asserting}
 use Rattle.term_core.specs.Tables.{clause_at}
 use Rattle.term_core.proofs.TermsExtend.{Extends-self, Extends-trans, clause_at-kept}
-use Rattle.solve_core.specs.Decisions.{IsDecided, IsStrainedBy}
+use Rattle.solve_core.specs.Decisions.{HasDecision, IsStrainedBy}
 use Rattle.solve_core.proofs.SearchStrained.{strained_justified}
 use Rattle.solve_core.proofs.SearchRounds.{open_first}
 use Rattle.solve_core.proofs.outcome.decided.Goals as goal
@@ -27,7 +27,7 @@ returns-in-Some-clause-decided c =
     let ts = clause_at t c.args.roots.now in
     let limits = c.args.limits.now in
     let found = rw c.in-Some.is at c.in_ok-wide.ensures in
-    IfOk-weaker c.strained.result (IsStrainedBy limits c.in-Some.wide) (IsDecided t ts limits) (λ d by. record {
+    IfOk-weaker c.strained.result (IsStrainedBy limits c.in-Some.wide) (HasDecision t ts limits) (λ d by. record {
       beside = [];
       equalities = All-nil (IsSharedEquality (subterms_in (asserting ts)));
       justified = strained_justified t (asserting ts) limits (c.empty_logs_are_right.ensures t) c.in-Some.wide d by (inl found);
@@ -61,4 +61,4 @@ returns-in-Some-2-clause-decided c =
     let d = c.in-Some-2.outcome in
     let limits = c.args.limits.now in
     let same = clause_at-kept t u (Extends-trans t c.rounds.table u c.rounds.invariant.grown c.round.ensures.grown) roots (λ k e lt. (c.requires.roots k e lt).0) in
-    subst (λ ts. IsDecided u ts limits d) same (rw c.in-Some-2.is at c.in_ok-outcome.ensures.round)
+    subst (λ ts. HasDecision u ts limits d) same (rw c.in-Some-2.is at c.in_ok-outcome.ensures.round)

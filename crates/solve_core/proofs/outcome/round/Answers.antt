@@ -11,7 +11,7 @@ use Rattle.term_clauses.specs.SpokenTerms.{problem_in, HasMore}
 use Rattle.term_clauses.specs.Stating.{Widens}
 use Rattle.term_clauses.proofs.Arguments.{Widens-trans}
 use Rattle.search_loop.specs.Answered.{AreAnswered}
-use Rattle.search_loop.specs.Rounds.{Begins, IsSearch}
+use Rattle.search_loop.specs.Rounds.{BeginsSearch, IsSearch}
 use Rattle.solve_core.specs.Rounds.{IsComparable, equality_in, IsOpenFor}
 use Rattle.solve_core.proofs.SearchStrained.{strained_justified}
 use Rattle.solve_core.proofs.SearchRounds.{beside_linear, asked_at, decided_for, open_same, open_comparable, more_beside}
@@ -28,8 +28,8 @@ begin-requires-clause-answered_beside c =
     (beside_linear c.args.roots.now c.args.shared.now c.args.table.now c.args.passed.now.beside.items c.requires.ready)
 
 -- the search begins
-begun : (c : In-Ok) → Begins c.begin.new.table (problem_in c.args.table.now c.args.roots.now c.args.passed.now.beside.items) c.args.limits.now c.in-Ok.search
-begun c = subst (λ (ids : List TermId). Begins c.begin.new.table (problem_in c.args.table.now c.args.roots.now ids) c.args.limits.now c.in-Ok.search) c.deref.ensures.value c.in-Ok.ensures.begins
+begun : (c : In-Ok) → BeginsSearch c.begin.new.table (problem_in c.args.table.now c.args.roots.now c.args.passed.now.beside.items) c.args.limits.now c.in-Ok.search
+begun c = subst (λ (ids : List TermId). BeginsSearch c.begin.new.table (problem_in c.args.table.now c.args.roots.now ids) c.args.limits.now c.in-Ok.search) c.deref.ensures.value c.in-Ok.ensures.begins
 
 -- and is asked a problem with equalities of shared terms beside
 asked : (c : In-Ok) → IsAskedOf c.begin.new.table c.args.shared.now (problem_in c.args.table.now c.args.roots.now c.args.passed.now.beside.items) c.in-Ok.search
@@ -44,7 +44,7 @@ answer-requires-clause-begins c =
     let p = problem_in c.args.table.now c.args.roots.now c.args.passed.now.beside.items in
     let limits = c.args.limits.now in
     let d = (goal.at.answer-requires-clause-begins c).In-Ok in
-    (p, limits, subst (λ y. Begins c.begin.new.table p limits (record c.in-Ok.search { decider = y })) (sym c.recall.ensures) (begun d))
+    (p, limits, subst (λ y. BeginsSearch c.begin.new.table p limits (record c.in-Ok.search { decider = y })) (sym c.recall.ensures) (begun d))
 
 pub answer-requires-clause-asked : goal.answer-requires-clause-asked
 answer-requires-clause-asked c =
@@ -74,7 +74,7 @@ opened c =
     let roots = c.args.roots.now in
     let beside = c.args.passed.now.beside.items in
     let p = problem_in t roots beside in
-    let b = subst (λ (ids : List TermId). Begins u (problem_in t roots ids) c.args.limits.now c.in-Ok.search) c.deref.ensures.value c.in-Ok.ensures.begins in
+    let b = subst (λ (ids : List TermId). BeginsSearch u (problem_in t roots ids) c.args.limits.now c.in-Ok.search) c.deref.ensures.value c.in-Ok.ensures.begins in
     let asks = asked_at roots c.args.shared.now t beside c.requires.ready u c.in-Ok.ensures.grown c.in-Ok.search b.search in
     (rw c.in-Differ.is at c.in_ok-pairs.ensures.ends) p (subst (λ y. IsAskedOf u c.args.shared.now p (record c.in-Ok.search { decider = y })) (sym c.recall.ensures) asks)
 

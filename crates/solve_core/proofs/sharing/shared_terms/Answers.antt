@@ -6,12 +6,12 @@ use Rattle.term_core.specs.Tables.{clause_at, term_at}
 use Rattle.spec_sorts.specs.Subterms.{subterms_of}
 use Rattle.term_clauses.specs.Marks.{marked}
 use Rattle.term_clauses.proofs.Bases.{flat_marked, flat_marked_more, flat_marked_same}
-use Rattle.solve_core.specs.Sharing.{shared_by, Adds}
+use Rattle.solve_core.specs.Sharing.{shared_by, AddsSharedTerms}
 use Rattle.solve_core.proofs.SharedTerms.{adds_none, adds_trans, adds_same, are_shared}
 use Rattle.solve_core.proofs.sharing.shared_terms.Goals as goal
 
 pub marks-init : goal.marks-init
-marks-init c = subst (λ (is : List TermId). Adds c.args.table.now [] is []) (sym c.new-ids.ensures.items) (adds_none c.args.table.now [])
+marks-init c = subst (λ (is : List TermId). AddsSharedTerms c.args.table.now [] is []) (sym c.new-ids.ensures.items) (adds_none c.args.table.now [])
 
 pub marks-preserved-then-not-index : goal.marks-preserved-then-not-index
 marks-preserved-then-not-index c =

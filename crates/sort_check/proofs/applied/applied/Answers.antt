@@ -5,7 +5,7 @@ use Rattle.spec_sorts.specs.Signatures.{known_as}
 use Rattle.spec_sorts.specs.Theory.{look_up, theory}
 use Rattle.spec_reading.specs.Reading.{applied_as}
 use Rattle.term_core.specs.Tables.{term_at, clause_at}
-use Rattle.term_reader.specs.Heads.{Answers, EndsReading}
+use Rattle.term_reader.specs.Heads.{ReturnsTerm, EndsReading}
 use Rattle.term_reader.proofs.Tables.{keeps_same}
 use Rattle.sort_check.proofs.Bound.{bound_found, bound_none, bound_in}
 use Rattle.sort_check.proofs.applied.applied.Goals as goal
@@ -29,7 +29,7 @@ returns-in-Some-named c =
     let b = c.args.bound.now in
     let n = c.args.called.name.now in
     let ts = clause_at t c.args.ids.now in
-    λ s h. subst (λ a. Answers t c.by_rule.new.table a c.by_rule.result)
+    λ s h. subst (λ a. ReturnsTerm t c.by_rule.new.table a c.by_rule.result)
     (λ i. applied_as (sym (bound_none t b n (sym c.in_default.ensures)) i) (c.in-Some-named.ensures i) (known_as s n) c.args.called.place c.args.called.at ts) c.by_rule.ensures
 
 pub returns : goal.returns
@@ -38,5 +38,5 @@ returns c =
     let b = c.args.bound.now in
     let n = c.args.called.name.now in
     let ts = clause_at t c.args.ids.now in
-    λ s h. subst (λ a. Answers t c.by_function.new.table a c.by_function.result)
+    λ s h. subst (λ a. ReturnsTerm t c.by_function.new.table a c.by_function.result)
     (λ i. applied_as (sym (bound_none t b n (sym c.in_default.ensures)) i) (c.in_default-named.ensures i) (known_as s n) c.args.called.place c.args.called.at ts) (c.by_function.ensures s h)

@@ -8,7 +8,7 @@ use Rattle.spec_reading.specs.Definitions.{bound_parameters}
 use Rattle.term_core.specs.Symbols.{HaveSortsIn, sort_meant}
 use Rattle.term_reader.specs.declared.faults.ReadError.TheVariants.{Fault}
 use Rattle.term_reader.specs.Names.{setting_meant}
-use Rattle.term_reader.specs.Scopes.{ScopeView, Stands}
+use Rattle.term_reader.specs.Scopes.{ScopeView, ScopeMeans}
 use Rattle.sort_check.specs.Defining.{parameters_at}
 use Rattle.sort_check.specs.Reads.{parts_meant, store, HasFault}
 use Rattle.sort_check.specs.Rows.{HasOne}
@@ -112,7 +112,7 @@ returns-clause-ends c =
     record {
       definitions = made ++ it ∷ [];
       read = whole_read w s d n fresh params ps.read result q.1 r.reading r.read;
-      stands = subst (λ (x : ScopeView). Stands u x (with_definitions s (made ++ it ∷ []))) (sym c.in_default.ensures.added)
+      stands = subst (λ (x : ScopeView). ScopeMeans u x (with_definitions s (made ++ it ∷ []))) (sym c.in_default.ensures.added)
           (whole_stands w s d n fresh params ps.read result q.1 r.reading r.read u v r.stands h.sorted (record { parameters = p.1; result = sort; body = id }) macro c.each_name_stands_for_something.ensures.functions);
       terms = subst (λ ids. AllMean u ids (terms_of_definitions (made ++ it ∷ []))) (sym c.in_default-push.ensures.items)
           (subst (AllMean u (c.in-Ok-read_body.named.items ++ id ∷ [])) (sym (map-append (λ (x : Definition). x.term) made (it ∷ [])))

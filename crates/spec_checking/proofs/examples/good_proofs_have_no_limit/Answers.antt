@@ -7,7 +7,7 @@ use Rattle.spec_commands.specs.Checks.{term_limit}
 use Rattle.spec_proofs.specs.declared.ProofKind.TheVariants.{Term}
 use Rattle.spec_proofs.specs.Faults.{fault_at}
 use Rattle.spec_checking.specs.Examples.{contradiction, known}
-use Rattle.spec_checking.specs.ProofTexts.{refutation, refutation_has_no_room, listed}
+use Rattle.spec_checking.specs.ProofTexts.{refutation, refutation_has_no_room, listed_proof}
 use Rattle.spec_checking.proofs.Good.{good}
 use Rattle.spec_checking.proofs.Limits.{good_loose}
 use Rattle.spec_checking.proofs.Verdicts.{refutation_fault}
@@ -22,4 +22,4 @@ returns-clause-limited c = λ g.
     cc
 
 pub returns-clause-whole : goal.returns-clause-whole
-returns-clause-whole c = c.accepted_proofs_are_good.ensures.whole contradiction listed 1 c.refutation_is_accepted.ensures.accepted
+returns-clause-whole c = c.accepted_proofs_are_good.ensures.whole contradiction listed_proof 1 c.refutation_is_accepted.ensures.accepted

@@ -5,7 +5,7 @@ use Rattle.spec_text.specs.Trees.{Trees}
 use Rattle.spec_sorts.specs.Values.{is_true, Interprets}
 use Rattle.spec_sorts.specs.Signatures.{symbols_in}
 use Rattle.spec_commands.specs.Stack.{Assertion, signature_of}
-use Rattle.spec_commands.specs.Checks.{Check, asked, IsCurrent, IsTrueUnder, HasNoModel}
+use Rattle.spec_commands.specs.Checks.{Check, asked, IsCurrent, IsTrueAssertion, HasNoModel}
 use Rattle.spec_checking.specs.Commands.{known_at}
 use Rattle.spec_checking.specs.Good.{AreGood}
 use Rattle.spec_checking.proofs.Good.{no_fault}
@@ -21,7 +21,7 @@ returns c = record {
     refutes : (limit : ℕ) (script : List ℕ) (k : ℕ) (here : Check) (ts : Trees) → IsCurrent limit script k here → AreGood None (known_at here) ts → HasNoModel limit script k
     refutes limit script k here ts current good i model =
         let same = c.texts_have_one_check_of_a_number.ensures.one limit script k model.here here model.current current in
-        let texts = subst (λ (x : Check). All (IsTrueUnder i (signature_of x.stack)) (asked x)) same model.each in
+        let texts = subst (λ (x : Check). All (IsTrueAssertion i (signature_of x.stack)) (asked x)) same model.each in
         let values = c.what_is_asked_has_its_texts_value.ensures.value limit script k here current i in
         let kept = c.assertions_have_their_texts_value.ensures.kept limit script k here current in
         let all : IsTruly i (known_at here) = record {

@@ -5,7 +5,7 @@ use Rattle.spec_sorts.specs.Terms.{Term, same_term, same_terms}
 use Rattle.spec_sorts.specs.Literals.{Literal}
 use Rattle.spec_equality.specs.Reasons.{equal}
 use Rattle.spec_equality.specs.Examples.{a, b}
-use Rattle.spec_congruence.specs.Congruence.{truth_term, signed, equated}
+use Rattle.spec_congruence.specs.Congruence.{truth_term, signed_literal, equated}
 use Rattle.spec_congruence.specs.Examples.{f, same, apart}
 use Rattle.spec_congruence.proofs.Apart.{left_of, right_of, head_in, one_class, member, kept_by, by_one}
 use Rattle.spec_congruence.proofs.examples.joined_sides_are_refuted.Goals as goal
@@ -23,7 +23,7 @@ returns c = record {
         | inl e ↦ true≢false (one_class listed held truth (kept_by truth listed held (λ _. false) (refl, (refl, tt)) ((refl, λ _. refl), ((refl, λ _. refl), tt))) (truth_term true) (truth_term false) e)
         | inr (t, u, there, e) ↦
             member side (λ (l : Literal). l.positive ≡ false → side (left_of l.atom) ≡ side (right_of l.atom) → ⊥) held
-            ((λ _ s. true≢false s), ((λ p _. true≢false p), tt)) (signed (equal t u) false) there refl
+            ((λ _ s. true≢false s), ((λ p _. true≢false p), tt)) (signed_literal (equal t u) false) there refl
             (one_class listed held side (kept_by side listed held (λ _. false) (refl, (refl, tt)) ((refl, λ p. absurd (false≢true p)), ((refl, λ _. refl), tt))) t u e)
       ];
 }

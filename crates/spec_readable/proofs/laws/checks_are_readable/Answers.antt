@@ -4,7 +4,7 @@ use Rattle.std.proofs.lemmas.List.Elements.{All-from_recursion}
 use Rattle.spec_commands.specs.Stack.{Assertion, empty_stack, signature_of}
 use Rattle.spec_commands.specs.Checks.{Check, asked, IsCurrent}
 use Rattle.spec_commands.proofs.Asked.{current_bare, all_asked}
-use Rattle.spec_commands.specs.Kept.{IsKept}
+use Rattle.spec_commands.specs.Kept.{IsSoundStack}
 use Rattle.spec_derivations.proofs.Asked.{terms_have}
 use Rattle.spec_readable.specs.Readable.{IsReadableWhole, IsReadableDeclaration}
 use Rattle.spec_readable.proofs.Readings.{ReadDecimals}
@@ -14,7 +14,7 @@ use Rattle.spec_readable.proofs.laws.checks_are_readable.Goals as goal
 good_here : ReadDecimals → (limit : ℕ) (text : List ℕ) (k : ℕ) (here : Check) → IsCurrent limit text k here → GoodStack here.stack
 good_here decimal limit text k here is = current_good decimal limit empty_stack k is.commands here is.here tt
 
-each_asked : ReadDecimals → (limit : ℕ) (text : List ℕ) (k : ℕ) (here : Check) → IsCurrent limit text k here → IsKept limit here.stack → All (λ (a : Assertion). IsReadableWhole a.term) (asked here)
+each_asked : ReadDecimals → (limit : ℕ) (text : List ℕ) (k : ℕ) (here : Check) → IsCurrent limit text k here → IsSoundStack limit here.stack → All (λ (a : Assertion). IsReadableWhole a.term) (asked here)
 each_asked decimal limit text k here is kept =
     all_asked (λ (a : Assertion). IsReadableWhole a.term) here (current_bare limit empty_stack k is.commands here is.here)
     (kept_readable decimal limit here.stack kept (good_here decimal limit text k here is))

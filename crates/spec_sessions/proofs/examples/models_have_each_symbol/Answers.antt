@@ -8,7 +8,7 @@ use Rattle.spec_sorts.specs.Values.{truth, IsTableOf}
 use Rattle.spec_sorts.specs.Signatures.{symbols_in}
 use Rattle.spec_sorts.specs.Meaning.{value_of}
 use Rattle.spec_commands.specs.Stack.{empty_stack, signature_of}
-use Rattle.spec_commands.specs.Checks.{asked, IsTrueUnder}
+use Rattle.spec_commands.specs.Checks.{asked, IsTrueAssertion}
 use Rattle.spec_commands.specs.OnLiterals.{commands_on_literals}
 use Rattle.spec_models.specs.Values.{numeral}
 use Rattle.spec_sessions.specs.Evidence.{Checked, model, IsModelOf}
@@ -30,7 +30,7 @@ model_here : IsModelOf here.check tables
 unfolding commands_on_literals answers_of value_of
 model_here = record {
   interprets = All-from_recursion (λ s. IsTableOf s (tables.table s.name)) (symbols_in (signature_of here.check.stack)) (bare zero-reduced, (bare tt, (bare refl, (bare tt, tt))));
-  each = All-from_recursion (IsTrueUnder tables (signature_of here.check.stack)) (asked here.check) (refl {a = truth true}, (refl {a = truth true}, tt));
+  each = All-from_recursion (IsTrueAssertion tables (signature_of here.check.stack)) (asked here.check) (refl {a = truth true}, (refl {a = truth true}, tt));
 }
 
 justified : All (IsJustified limits) (checks_in (answers_of limits empty_stack (trees_in functions) (model tables ∷ [])))

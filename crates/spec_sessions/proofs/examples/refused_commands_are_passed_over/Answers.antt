@@ -10,7 +10,7 @@ use Rattle.spec_sorts.specs.Values.{truth, IsTableOf}
 use Rattle.spec_sorts.specs.Signatures.{symbols_in}
 use Rattle.spec_sorts.specs.Meaning.{value_of}
 use Rattle.spec_commands.specs.Stack.{empty_stack, signature_of}
-use Rattle.spec_commands.specs.Checks.{asked, IsTrueUnder}
+use Rattle.spec_commands.specs.Checks.{asked, IsTrueAssertion}
 use Rattle.spec_commands.specs.OnLiterals.{commands_on_literals}
 use Rattle.spec_sessions.specs.Evidence.{Found, Checked, model, IsModelOf}
 use Rattle.spec_sessions.specs.Responses.{solve}
@@ -69,7 +69,7 @@ second_model : IsModelOf numbers_second.check tables
 unfolding commands_on_literals answers_of value_of gcd times inverse opposite compare
 second_model = record {
   interprets = All-from_recursion (λ s. IsTableOf s (tables.table s.name)) (symbols_in (signature_of numbers_second.check.stack)) (bare zero-reduced, tt);
-  each = All-from_recursion (IsTrueUnder tables (signature_of numbers_second.check.stack)) (asked numbers_second.check) (refl {a = truth true}, tt);
+  each = All-from_recursion (IsTrueAssertion tables (signature_of numbers_second.check.stack)) (asked numbers_second.check) (refl {a = truth true}, tt);
 }
 
 -- at the third a function gives one
@@ -80,7 +80,7 @@ third_model : IsModelOf numbers_third.check tables
 unfolding commands_on_literals answers_of value_of gcd times inverse opposite compare
 third_model = record {
   interprets = All-from_recursion (λ s. IsTableOf s (tables.table s.name)) (symbols_in (signature_of numbers_third.check.stack)) (bare zero-reduced, (bare zero-reduced, tt));
-  each = All-from_recursion (IsTrueUnder tables (signature_of numbers_third.check.stack)) (asked numbers_third.check) (refl {a = truth true}, (refl {a = truth true}, tt));
+  each = All-from_recursion (IsTrueAssertion tables (signature_of numbers_third.check.stack)) (asked numbers_third.check) (refl {a = truth true}, (refl {a = truth true}, tt));
 }
 
 numbers_justified : All (IsJustified limits) numbers_checks
@@ -103,7 +103,7 @@ large_model : IsModelOf large_check.check tables
 unfolding commands_on_literals answers_of value_of
 large_model = record {
   interprets = All-from_recursion (λ s. IsTableOf s (tables.table s.name)) (symbols_in (signature_of large_check.check.stack)) (bare tt, (bare tt, tt));
-  each = All-from_recursion (IsTrueUnder tables (signature_of large_check.check.stack)) (asked large_check.check) (refl {a = truth true}, tt);
+  each = All-from_recursion (IsTrueAssertion tables (signature_of large_check.check.stack)) (asked large_check.check) (refl {a = truth true}, tt);
 }
 
 large_justified : All (IsJustified four) (checks_in (answers_of four empty_stack (trees_in large) (model tables ∷ [])))

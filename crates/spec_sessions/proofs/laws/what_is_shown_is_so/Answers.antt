@@ -10,7 +10,7 @@ use Rattle.spec_sorts.specs.Meaning.{value_under}
 use Rattle.spec_reading.specs.WellSorted.{AreWellSorted}
 use Rattle.spec_text.specs.Readings.{is_long}
 use Rattle.spec_commands.specs.Stack.{Assertion, Stack, terms_asserted, signature_of, joined, assertions_of}
-use Rattle.spec_commands.specs.Kept.{IsAsserted, IsKept}
+use Rattle.spec_commands.specs.Kept.{IsAsserted, IsSoundStack}
 use Rattle.spec_commands.specs.Checks.{Check, asked, IsCurrent, MakesTrue}
 use Rattle.spec_checking.specs.Commands.{known_at}
 use Rattle.spec_checking.specs.Good.{IsGood}
@@ -26,7 +26,7 @@ use Rattle.spec_proof_texts.specs.Meaning.{AreRightLines}
 use Rattle.spec_proof_texts.specs.ReadBack.{AreScriptNames, numbers_in}
 use Rattle.spec_sessions.specs.Evidence.{Limits, Found, model, proof, spent, strained, out_of_pivots, IsModelOf, Justifies}
 use Rattle.spec_sessions.specs.Refutations.{IsProofOf, lines_in}
-use Rattle.spec_sessions.specs.Meaning.{IsKeptCheck, ModelMeans, MeansAt, HasFewNumerals, ProofMeans, Means}
+use Rattle.spec_sessions.specs.Meaning.{IsKeptCheck, ModelMeans, MeansAt, HasFewNumerals, ProofMeans, FindingMeans}
 use Rattle.spec_sessions.proofs.laws.what_is_shown_is_so.Goals as goal
 
 -- the assertions of one level more
@@ -51,7 +51,7 @@ module _ (c : goal.After-printed_proofs_are_accepted) where
   abbrev assuming : Check → Stack
   assuming x = record x.stack { levels = x.stack.levels ++ x.assumptions ∷ [] }
 
-  kept_assuming : (limit : ℕ) (x : Check) → IsKeptCheck limit x → IsKept limit (assuming x)
+  kept_assuming : (limit : ℕ) (x : Check) → IsKeptCheck limit x → IsSoundStack limit (assuming x)
   kept_assuming limit x h = record {
     names = h.stack.names;
     sorts = h.stack.sorts;
@@ -143,7 +143,7 @@ module _ (c : goal.After-printed_proofs_are_accepted) where
         each = λ j tables defined. makes_true j (m.each j tables defined);
       }
 
-      means_so : (limits : Limits) → limits.terms ≡ limit → (f : Found) → Justifies limits x f → Means limits text k x f
+      means_so : (limits : Limits) → limits.terms ≡ limit → (f : Found) → Justifies limits x f → FindingMeans limits text k x f
       means_so limits e (model i) h = subst (λ n. ModelMeans (λ j. MakesTrue n j text k) g i) (sym e) (of_model i (model_at i h))
       means_so limits e (proof p) h = subst (λ n. ProofMeans n text k p) (sym e) (of_proof p h)
       means_so limits e (spent n d learned) h = tt

@@ -1,7 +1,7 @@
 use Rattle.std.proofs.Common.{rules, ◌≡◌, ◌<◌, ◌∷◌, length, get_or, ap, sym, ◌∙◌, subst}
 use Rattle.spec_tableaux.specs.Rows.{Row as Equation}
 use Rattle.spec_tableaux.specs.Numbers.{Number}
-use Rattle.spec_tableaux.specs.SolvedForms.{IsOver}
+use Rattle.spec_tableaux.specs.SolvedForms.{AllVariables}
 use Rattle.tableau.specs.Entries.{entries_of, row_meant, rows_of}
 use Rattle.tableau.specs.Views.{row_at}
 use Rattle.tableau.specs.Pivots.{change_meant, changes_meant}
@@ -13,7 +13,7 @@ use Rattle.tableau.proofs.columns.note_changes.Goals as goal
 pub note_row-requires-clause-over : goal.note_row-requires-clause-over
 note_row-requires-clause-over c =
     let some : c.loop-change.rest.now ≡ c.in-Some.change.now ∷ c.in-Some.more.now = search rules in
-    subst (IsOver (λ y. y < length c.loop-change.columns.items)) (sym (ap entries_of c.deref-in-Some.ensures.value))
+    subst (AllVariables (λ y. y < length c.loop-change.columns.items)) (sym (ap entries_of c.deref-in-Some.ensures.value))
     (columns_first (length c.loop-change.columns.items) (changes_meant c.loop-change.rest.now) (changes_meant c.in-Some.more.now) (change_meant c.in-Some.change.now) (ap changes_meant some) c.loop-change.invariant.low).0
 
 pub returns-in_err-note_row-clause-grown : goal.returns-in_err-note_row-clause-grown

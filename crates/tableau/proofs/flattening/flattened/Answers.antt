@@ -1,6 +1,6 @@
 use Rattle.std.proofs.Common.{rules, ◌≡◌, ◌<◌, ◌∷◌, length, ap, sym, subst, ◌∙◌}
 use Rattle.spec_tableaux.specs.Rows as definitions
-use Rattle.spec_tableaux.specs.SolvedForms.{IsTidy, IsOver}
+use Rattle.spec_tableaux.specs.SolvedForms.{IsTidy, AllVariables}
 use Rattle.spec_tableaux.specs.Strains.{StrainsSum}
 use Rattle.spec_tableaux.specs.Numbers.{numbers}
 use Rattle.tableau.specs.Entries.{entry_of, entries_of, rows_of}
@@ -24,7 +24,7 @@ returns-in_err-total-clause-wide c =
 pub loop-g-preserved : goal.loop-g-preserved
 loop-g-preserved c =
     let some : c.loop-g.rest.now ≡ c.in-Some.g.now ∷ c.in-Some.more.now = search rules in
-    let low : IsOver (λ y. y < length c.args.places.now) (entry_of c.in-Some.g.now ∷ entries_of c.in-Some.more.now) = subst (IsOver (λ y. y < length c.args.places.now)) (ap entries_of some) c.loop-g.invariant.low in
+    let low : AllVariables (λ y. y < length c.args.places.now) (entry_of c.in-Some.g.now ∷ entries_of c.in-Some.more.now) = subst (AllVariables (λ y. y < length c.args.places.now)) (ap entries_of some) c.loop-g.invariant.low in
     record {
       low = low.1;
       so_far = sum_one (rows_of c.args.rows.now) (entries_of c.args.entries.now) (entries_of c.loop-g.total.items) (entries_of c.loop-g.rest.now) (entries_of c.in-Some.more.now) (entries_of c.in_ok-total.total.items) (entry_of c.in-Some.g.now)

@@ -11,7 +11,7 @@ use Rattle.term_core.specs.Tables.{term_at}
 use Rattle.term_core.proofs.TermsExtend.{term_at-kept}
 use Rattle.proof_log.specs.Logs.{IsLogOf}
 use Rattle.term_clauses.specs.Stating.{Widens}
-use Rattle.term_clauses.specs.Choices.{equality_at, IsChoice}
+use Rattle.term_clauses.specs.Choices.{equality_at, IsIteTerm}
 use Rattle.term_clauses.proofs.Parts.{signed_in}
 use Rattle.term_clauses.proofs.Arguments.{Widens-trans}
 use Rattle.term_clauses.proofs.Choosing.{clauses_are, then_right, else_right, equality_kept, choice_kept}
@@ -24,7 +24,7 @@ still : (c : After-signed) → IsLogOf c.signed.new.table c.args.log.now
 still c = c.logs_stand_in_grown_tables.ensures.right c.args.table.now c.signed.new.table c.args.log.now c.requires.log c.signed.ensures.wider.terms
 
 -- the choice is one there
-there : (c : After-signed) → IsChoice c.signed.new.table c.args.id c.in-Some.choice
+there : (c : After-signed) → IsIteTerm c.signed.new.table c.args.id c.in-Some.choice
 there c = choice_kept c.args.table.now c.signed.new.table c.signed.ensures.wider c.args.id c.in-Some.choice c.in-Some.ensures
 
 pub returns-in_default-clause-grows : goal.returns-in_default-clause-grows

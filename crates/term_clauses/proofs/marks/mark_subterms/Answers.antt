@@ -3,7 +3,7 @@ use Rattle.std.proofs.Common.{◌≡◌, suc, ◌-◌, List, subst, sym, ◌∙�
 use Rattle.std.proofs.lemmas.Bool.{false≢true}
 use Rattle.term_core.specs.declared.ids.TermId.{TermId}
 use Rattle.term_core.specs.Tables.{clause_at, shape_of}
-use Rattle.term_clauses.specs.Marks.{Marks}
+use Rattle.term_clauses.specs.Marks.{MarksTerms}
 use Rattle.term_clauses.proofs.Marking.{IsMarkedFrom, marks_start, marks_more, marks_skip, marks_end}
 use Rattle.term_clauses.proofs.marks.mark_subterms.Goals as goal
 
@@ -23,7 +23,7 @@ terms-preserved-then-marks-number c =
     let s = shape_of c.node.result.now in
     let next : c.terms.number ≡ suc n = omega (arith, c.terms-test.true) in
     let before : IsMarkedFrom t roots (suc n) c.terms.marks = subst (λ k. IsMarkedFrom t roots k c.terms.marks) next c.terms.invariant.so_far in
-    let marks : Marks c.terms.marks s.arguments c.mark_each-then-marks-number.new.marks = subst (λ (ids : List TermId). Marks c.terms.marks ids c.mark_each-then-marks-number.new.marks) c.as_slice.ensures c.mark_each-then-marks-number.ensures in
+    let marks : MarksTerms c.terms.marks s.arguments c.mark_each-then-marks-number.new.marks = subst (λ (ids : List TermId). MarksTerms c.terms.marks ids c.mark_each-then-marks-number.new.marks) c.as_slice.ensures c.mark_each-then-marks-number.ensures in
     record {
       so_far = marks_more t roots (c.subterms_are_least.ensures.there (clause_at t roots)) (c.subterms_are_least.ensures.closed (clause_at t roots)) n c.terms.marks c.mark_each-then-marks-number.new.marks s before c.if-marks-number.true c.node.ensures.means c.node.ensures.before marks;
     }

@@ -3,7 +3,7 @@ use Rattle.std.proofs.Common.{◌≡◌, ◌<◌, [], ◌∷◌, ◌++◌, List,
 use Rattle.spec_sorts.specs.Terms.{Term, no_term}
 use Rattle.spec_sorts.specs.WellSorted.{IsFormulaOver}
 use Rattle.spec_sorts.specs.Subsets.{arguments_of}
-use Rattle.spec_rules.specs.Schemes.{signed}
+use Rattle.spec_rules.specs.Schemes.{signed_term}
 use Rattle.term_core.specs.declared.ids.TermId.{TermId}
 use Rattle.term_core.specs.Tables.{term_at, AreIn}
 use Rattle.term_core.proofs.TermsExtend.{term_at-kept}
@@ -40,11 +40,11 @@ places-preserved c =
     let items = c.in_ok-push-2.ensures.items in
     let lt : k < length args = omega (arith, c.places-test.true, c.argument_count-count.ensures) in
     let here : term_at now c.args.id ≡ term_at t c.args.id = term_at-kept t now h.wider.terms c.args.id c.requires.there in
-    let means : term_at new n ≡ signed p (get_or args k no_term) = made.means.1 ∙ ap (signed p) (c.argument-term.ensures.means ∙ ap (λ (u : Term). get_or (arguments_of u) k no_term) here) in
+    let means : term_at new n ≡ signed_term p (get_or args k no_term) = made.means.1 ∙ ap (signed_term p) (c.argument-term.ensures.means ∙ ap (λ (u : Term). get_or (arguments_of u) k no_term) here) in
     record {
       wider = Widens-trans t now new h.wider made.wider;
       there = literal_there now new made.wider c.places.clause.items c.push-in-places.new.self.items n items h.there made.means.0;
-      same = literal_more now new made.wider c.places.clause.items c.push-in-places.new.self.items n items h.there made.means.0 (front ∷ map (signed p) (take k args)) (signed p (get_or args k no_term)) h.same means ∙ literals_more (signed p) front args k no_term lt;
+      same = literal_more now new made.wider c.places.clause.items c.push-in-places.new.self.items n items h.there made.means.0 (front ∷ map (signed_term p) (take k args)) (signed_term p (get_or args k no_term)) h.same means ∙ literals_more (signed_term p) front args k no_term lt;
     }
 
 pub signed-requires : goal.signed-requires

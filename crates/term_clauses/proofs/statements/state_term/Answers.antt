@@ -11,7 +11,7 @@ use Rattle.term_core.specs.Tables.{term_at, shape_of}
 use Rattle.term_core.proofs.TermsExtend.{term_at-kept}
 use Rattle.spec_proofs.specs.declared.Rule.{Rule}
 use Rattle.rule_bool.specs.Schemes.{HasPlaces}
-use Rattle.term_clauses.specs.Stating.{listed, Tells, head_of, scheme_by, IsRuleOf, clauses_in}
+use Rattle.term_clauses.specs.Stating.{listed_steps, Tells, head_of, scheme_by, IsRuleOf, clauses_in}
 use Rattle.term_clauses.proofs.Growing.{Grows-self, Grows-trans, Tells-none, Tells-trans, Tells-same}
 use Rattle.term_clauses.proofs.Parts.{JoinsFormulas-kept}
 use Rattle.term_clauses.proofs.Formulas.{arguments_sorts, no_clauses, rule_at, places_at, all_clauses, rules_more}
@@ -79,7 +79,7 @@ rules-preserved c =
     let f : Term → List Clause = λ u. clauses_by (scheme_by rule) u in
     let told = clauses_in term (take k list) in
     let same : f (term_at now c.args.id) ≡ f term = ap f (term_at-kept t now h.grows.table c.args.id c.requires.there) in
-    let one : Tells (listed now c.rules.log c.rules.steps.items) (listed new c.state_scheme.new.log c.state_scheme.new.steps.items) (f term) = Tells-same now new c.rules.log c.state_scheme.new.log c.rules.steps.items c.state_scheme.new.steps.items (f (term_at now c.args.id)) (f term) same c.in_ok-state_scheme.ensures.tells in
+    let one : Tells (listed_steps now c.rules.log c.rules.steps.items) (listed_steps new c.state_scheme.new.log c.state_scheme.new.steps.items) (f term) = Tells-same now new c.rules.log c.state_scheme.new.log c.rules.steps.items c.state_scheme.new.steps.items (f (term_at now c.args.id)) (f term) same c.in_ok-state_scheme.ensures.tells in
     record {
       grows = Grows-trans [] t now new c.args.log.now c.rules.log c.state_scheme.new.log h.grows c.state_scheme.ensures.grows;
       tells = Tells-same t new c.args.log.now c.state_scheme.new.log c.args.steps.now.items c.state_scheme.new.steps.items (told ++ f term) (clauses_in term (take (k + 1) list)) (rules_more term list k no_rule c.rules-test.true)

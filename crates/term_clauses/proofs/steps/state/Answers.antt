@@ -4,7 +4,7 @@ use Rattle.term_core.specs.declared.ids.TermId.{TermId}
 use Rattle.term_core.specs.Tables.{clause_at}
 use Rattle.proof_log.specs.Logs.{Logged, stepped}
 use Rattle.term_clauses.specs.Growth.{Grows}
-use Rattle.term_clauses.specs.Stating.{listed, Tells}
+use Rattle.term_clauses.specs.Stating.{listed_steps, Tells}
 use Rattle.term_clauses.proofs.Growing.{Grows-self, Grows-push, Tells-push}
 use Rattle.term_clauses.proofs.steps.state.Goals as goal
 use Rattle.term_clauses.proofs.steps.state.Goals.{In-Ok}
@@ -24,7 +24,7 @@ returns-in_ok-push-in-Ok-clause-tells c =
     let t = c.args.table.now in
     let h = c.in-Ok.ensures in
     let l = stepped c.args.rule c.from.result c.from-2.result c.from-3.result in
-    subst (λ (ids : List TermId). Tells (listed t c.args.log.now c.args.steps.now.items) (listed t c.add.new.self c.push.new.self.items) (clause_at t ids ∷ [])) c.from-3.ensures
+    subst (λ (ids : List TermId). Tells (listed_steps t c.args.log.now c.args.steps.now.items) (listed_steps t c.add.new.self c.push.new.self.items) (clause_at t ids ∷ [])) c.from-3.ensures
     (Tells-push [] t c.args.log.now c.add.new.self l c.in-Ok.number c.args.steps.now.items c.push.new.self.items
     (grows (goal.at.returns-in_ok-push-in-Ok-clause-tells c).In-Ok) c.requires.log h.number h.last c.in_ok-push-in-Ok.ensures.items)
 

@@ -5,7 +5,7 @@ use Rattle.term_core.specs.Tables.{clause_at}
 use Rattle.term_core.proofs.TermsExtend.{Extends-self, Extends-trans, IsIn-kept, clause_at-kept}
 use Rattle.term_walks.specs.Filling.{FillsAll}
 use Rattle.term_walks.specs.FilledTerms.{AreFilled}
-use Rattle.term_walks.specs.Orders.{number_term, IsReady}
+use Rattle.term_walks.specs.Orders.{number_term, HasArgumentsBefore}
 use Rattle.term_walks.proofs.Among.{at_in}
 use Rattle.term_walks.proofs.Taking.{ready, root_stands}
 use Rattle.term_walks.proofs.Filled.{ready_kept, number_kept, filled_push}
@@ -39,7 +39,7 @@ fill_next-requires-clause-ready c =
     let now = c.terms.table in
     let order = c.args.order.now in
     let k = get_or order c.terms.at 0 in
-    subst (λ n. IsReady now order n k) (sym (ap length c.as_slice.ensures.value ∙ c.terms.invariant.long))
+    subst (λ n. HasArgumentsBefore now order n k) (sym (ap length c.as_slice.ensures.value ∙ c.terms.invariant.long))
     (ready_kept old now c.terms.invariant.kept order c.terms.at k (c.requires.order.there k (at_in order c.terms.at c.terms-test.true)) (ready old c.args.body.0 order c.terms.at c.requires.order c.terms-test.true))
 
 pub fill_next-requires-clause-made : goal.fill_next-requires-clause-made

@@ -6,7 +6,7 @@ use Rattle.std.proofs.lemmas.List.{length-append}
 use Rattle.clause_store.specs.declared.entry.Entry.{Entry}
 use Rattle.clause_store.specs.declared.watched.Watched.{Watched}
 use Rattle.clause_store.specs.Entries.{clauses_of, bare}
-use Rattle.clause_store.specs.Propagating.{IsQuiet}
+use Rattle.clause_store.specs.Propagating.{IsPropagated}
 use Rattle.clause_store.specs.Watching.{AreResting}
 use Rattle.clause_store.specs.Resting.{last_of}
 use Rattle.clause_store.proofs.Atwork.{adds_after, adds_marked, kept_by, quiet_by, rested_still, works_on}
@@ -84,6 +84,6 @@ returns-clause-adds c = adds_marked (bare c.args.self.now.watched.entries.items)
 pub returns-clause-ends : goal.returns-clause-ends
 returns-clause-ends c =
     let es : c.walk_from.new.self.watched.entries.items ≡ c.args.self.now.watched.entries.items = c.walk_from.ensures.goes.entries ∙ c.settle_all.ensures.goes.entries ∙ ap (λ (w : Watched). w.entries.items) c.begin.ensures.watched in
-    subst (λ (xs : List Entry). IsQuiet (clauses_of xs) c.finish.new.trail.literals) es
-    (subst (IsQuiet (clauses_of c.walk_from.new.self.watched.entries.items)) (sym c.finish.ensures.same.same.literals)
+    subst (λ (xs : List Entry). IsPropagated (clauses_of xs) c.finish.new.trail.literals) es
+    (subst (IsPropagated (clauses_of c.walk_from.new.self.watched.entries.items)) (sym c.finish.ensures.same.same.literals)
     (quiet_by c.walk_from.new.self c.walk_from.new.trail c.walk_from.ensures.work c.walk_from.ensures.all (rw c.in_default-3.is at c.in_ok-n-2.ensures.ends)))

@@ -2,7 +2,7 @@
 use Rattle.std.proofs.Common.{arith, ◌<◌, ◌∙◌, length, get_or, subst, ap, refl}
 use Rattle.watch_index.specs.Indexes.{list_of}
 use Rattle.clause_store.specs.Entries.{bare}
-use Rattle.clause_store.specs.Watching.{Goes}
+use Rattle.clause_store.specs.Watching.{PropagatesPart}
 use Rattle.clause_store.proofs.Adding.{holds_on}
 use Rattle.clause_store.proofs.Resting.{goes_none, goes_on}
 use Rattle.clause_store.proofs.Walking.{passed_none, passed_stays, passed_moved, passed_all}
@@ -21,22 +21,22 @@ places-init c = record {
 pub returns-in_err-take_up-clause-goes : goal.returns-in_err-take_up-clause-goes
 returns-in_err-take_up-clause-goes c =
     let g = c.take_up.ensures.goes in
-    let goes = goes_on _ _ _ _ _ _ _ _ c.places.invariant.goes (subst (λ xs. Goes (bare xs) (length c.args.self.now.pairs.items) c.places.self.pairs.items c.take_up.new.self.pairs.items c.places.trail c.take_up.new.trail) c.places.invariant.entries
-    (subst (λ n. Goes (bare c.places.self.entries.items) n c.places.self.pairs.items c.take_up.new.self.pairs.items c.places.trail c.take_up.new.trail) c.places.invariant.goes.paired g)) in
+    let goes = goes_on _ _ _ _ _ _ _ _ c.places.invariant.goes (subst (λ xs. PropagatesPart (bare xs) (length c.args.self.now.pairs.items) c.places.self.pairs.items c.take_up.new.self.pairs.items c.places.trail c.take_up.new.trail) c.places.invariant.entries
+    (subst (λ n. PropagatesPart (bare c.places.self.entries.items) n c.places.self.pairs.items c.take_up.new.self.pairs.items c.places.trail c.take_up.new.trail) c.places.invariant.goes.paired g)) in
     goes
 
 pub returns-in-Clash-clause-goes : goal.returns-in-Clash-clause-goes
 returns-in-Clash-clause-goes c =
     let g = c.take_up.ensures.goes in
-    let goes = goes_on _ _ _ _ _ _ _ _ c.places.invariant.goes (subst (λ xs. Goes (bare xs) (length c.args.self.now.pairs.items) c.places.self.pairs.items c.take_up.new.self.pairs.items c.places.trail c.take_up.new.trail) c.places.invariant.entries
-    (subst (λ n. Goes (bare c.places.self.entries.items) n c.places.self.pairs.items c.take_up.new.self.pairs.items c.places.trail c.take_up.new.trail) c.places.invariant.goes.paired g)) in
+    let goes = goes_on _ _ _ _ _ _ _ _ c.places.invariant.goes (subst (λ xs. PropagatesPart (bare xs) (length c.args.self.now.pairs.items) c.places.self.pairs.items c.take_up.new.self.pairs.items c.places.trail c.take_up.new.trail) c.places.invariant.entries
+    (subst (λ n. PropagatesPart (bare c.places.self.entries.items) n c.places.self.pairs.items c.take_up.new.self.pairs.items c.places.trail c.take_up.new.trail) c.places.invariant.goes.paired g)) in
     goes
 
 pub places-preserved-in-Moved : goal.places-preserved-in-Moved
 places-preserved-in-Moved c =
     let g = c.take_up.ensures.goes in
-    let goes = goes_on _ _ _ _ _ _ _ _ c.places.invariant.goes (subst (λ xs. Goes (bare xs) (length c.args.self.now.pairs.items) c.places.self.pairs.items c.take_up.new.self.pairs.items c.places.trail c.take_up.new.trail) c.places.invariant.entries
-    (subst (λ n. Goes (bare c.places.self.entries.items) n c.places.self.pairs.items c.take_up.new.self.pairs.items c.places.trail c.take_up.new.trail) c.places.invariant.goes.paired g)) in
+    let goes = goes_on _ _ _ _ _ _ _ _ c.places.invariant.goes (subst (λ xs. PropagatesPart (bare xs) (length c.args.self.now.pairs.items) c.places.self.pairs.items c.take_up.new.self.pairs.items c.places.trail c.take_up.new.trail) c.places.invariant.entries
+    (subst (λ n. PropagatesPart (bare c.places.self.entries.items) n c.places.self.pairs.items c.take_up.new.self.pairs.items c.places.trail c.take_up.new.trail) c.places.invariant.goes.paired g)) in
     let lt : c.places.at < length (list_of c.places.self.index c.args.f) = omega (arith, c.places-test.true, ap length c.list.ensures) in
     record {
       watched = c.take_up.ensures.watched;
@@ -51,8 +51,8 @@ places-preserved-in-Moved c =
 pub places-preserved : goal.places-preserved
 places-preserved c =
     let g = c.take_up.ensures.goes in
-    let goes = goes_on _ _ _ _ _ _ _ _ c.places.invariant.goes (subst (λ xs. Goes (bare xs) (length c.args.self.now.pairs.items) c.places.self.pairs.items c.take_up.new.self.pairs.items c.places.trail c.take_up.new.trail) c.places.invariant.entries
-    (subst (λ n. Goes (bare c.places.self.entries.items) n c.places.self.pairs.items c.take_up.new.self.pairs.items c.places.trail c.take_up.new.trail) c.places.invariant.goes.paired g)) in
+    let goes = goes_on _ _ _ _ _ _ _ _ c.places.invariant.goes (subst (λ xs. PropagatesPart (bare xs) (length c.args.self.now.pairs.items) c.places.self.pairs.items c.take_up.new.self.pairs.items c.places.trail c.take_up.new.trail) c.places.invariant.entries
+    (subst (λ n. PropagatesPart (bare c.places.self.entries.items) n c.places.self.pairs.items c.take_up.new.self.pairs.items c.places.trail c.take_up.new.trail) c.places.invariant.goes.paired g)) in
     let looks = rw c.in-Stays.is at c.in_ok-take_up.ensures.looks in
     let lt : c.places.at < length (list_of c.places.self.index c.args.f) = omega (arith, c.places-test.true, ap length c.list.ensures) in
     record {

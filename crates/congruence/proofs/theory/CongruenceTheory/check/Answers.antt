@@ -1,11 +1,11 @@
 -- What a check shows.
 use Rattle.std.proofs.Common.{◌≡◌, refl, sym, ◌∙◌, ap, subst}
 use Rattle.term_core.specs.Symbols.{SymbolsView, AreDeclared}
-use Rattle.congruence_relation.specs.Relation.{Facts, AreOf, terms_listed}
+use Rattle.congruence_relation.specs.Relation.{Facts, AreFactsOf, terms_listed}
 use Rattle.congruence_closure.specs.Closure.{ClosureView}
 use Rattle.congruence_explain.proofs.Concluding.{derives_none}
 use Rattle.proof_log.specs.Clashes.{IsClash}
-use Rattle.proof_log.specs.Theories.{IsOver, terms_watched, Derived, Derives}
+use Rattle.proof_log.specs.Theories.{IsTheoryOver, terms_watched, Derived, DerivesLemmas}
 use Rattle.congruence.specs.Views.{theory_of}
 use Rattle.congruence.proofs.Terms.{watched_are_listed}
 use Rattle.congruence.proofs.Views.{same_view}
@@ -33,15 +33,15 @@ explain_conflict-requires c =
     let view = same_view v w facts (c.settle.ensures.marks ∙ ap (λ (x : ClosureView). x.marks) c.self.view_is) in (
       refl,
       (
-        subst (IsOver t) (sym view) c.requires.over,
-        (subst (AreOf t) (sym facts) c.requires.with, (c.requires.log, c.in_ok-found.ensures.conflict c.in-Some.conflict c.in-Some.is)),
+        subst (IsTheoryOver t) (sym view) c.requires.over,
+        (subst (AreFactsOf t) (sym facts) c.requires.with, (c.requires.log, c.in_ok-found.ensures.conflict c.in-Some.conflict c.in-Some.is)),
       ),
     )
 
 pub returns-clause-with : goal.returns-clause-with
 returns-clause-with c =
     let facts = c.settle.ensures.facts ∙ ap (λ (x : ClosureView). x.now.facts) c.self.view_is in
-    subst (AreOf c.explain_conflict.new.table) (sym facts) (c.facts_stay_over_more_terms.ensures.of c.args.table.now c.explain_conflict.new.table c.args.self.now.now.facts c.in_ok-step.ensures.derives.table c.requires.with)
+    subst (AreFactsOf c.explain_conflict.new.table) (sym facts) (c.facts_stay_over_more_terms.ensures.of c.args.table.now c.explain_conflict.new.table c.args.self.now.now.facts c.in_ok-step.ensures.derives.table c.requires.with)
 
 pub returns-clause-checks : goal.returns-clause-checks
 returns-clause-checks c =
@@ -53,6 +53,6 @@ returns-clause-checks c =
     let new : Derived = record { table = c.explain_conflict.new.table; log = c.explain_conflict.new.log } in
     let found = c.in_ok-found.ensures.conflict c.in-Some.conflict c.in-Some.is in (
       conflict_is_refuted t v w facts c.is_right.ensures (c.refutations_agree.ensures t v.now.facts c.ids_are_unique.ensures (subst (λ (d : SymbolsView). AreDeclared d.sorts d.symbols) c.symbols.ensures c.are_declared.ensures) c.requires.with) c.in-Some.conflict found,
-      subst (λ ts. Derives ts old new) (ap (terms_listed t) facts ∙ sym (watched_are_listed t v)) c.in_ok-step.ensures.derives,
+      subst (λ ts. DerivesLemmas ts old new) (ap (terms_listed t) facts ∙ sym (watched_are_listed t v)) c.in_ok-step.ensures.derives,
       subst (λ (f : Facts). IsClash new.table new.log f.held c.in_ok-step.step) facts c.in_ok-step.ensures.clash,
     )

@@ -3,7 +3,7 @@ use Rattle.std.proofs.Common.{◌≡◌, ◌<◌, ◌≤◌, ◌+◌, ◌-◌, l
 use Rattle.std.proofs.lemmas.List.{length-map}
 use Rattle.congruence_closure.specs.Closure.{ClosureView}
 use Rattle.congruence_closure.specs.State.{PartsView}
-use Rattle.congruence_closure.specs.Whole.{marked, IsWhole}
+use Rattle.congruence_closure.specs.Whole.{marked, ClosureFits}
 use Rattle.congruence_closure.proofs.Marks.{found_mark, back_kept, whole_back, now_back, marks_back}
 use Rattle.congruence_closure.proofs.closure.Closure.back.Goals as goal
 
@@ -21,8 +21,8 @@ invariant_of-self c =
     let some : 0 < c.args.marks = omega arith in
     let few : c.args.marks ≤ length c.self.inside.marks.items = omega (arith, size, c.requires, ap (λ (v : ClosureView). length v.marks) c.self.view_is, length-map c.self.inside.marks.items (marked c.self.inside.parts.now.facts)) in
     let is = found_mark c.self.inside.marks.items c.truncate.new.self.items c.pop.new.self.items c.args.marks c.in-Some.mark some few (c.truncate.ensures.items ∙ ap (λ k. take (k - c.args.marks + 1) c.self.inside.marks.items) size) c.in-Some.ensures.items in
-    subst (λ (p : PartsView). IsWhole p c.in-Some.mark.settled c.pop.new.self.items) (sym c.back.ensures)
-    (subst (IsWhole _ c.in-Some.mark.settled) (sym is.1)
+    subst (λ (p : PartsView). ClosureFits p c.in-Some.mark.settled c.pop.new.self.items) (sym c.back.ensures)
+    (subst (ClosureFits _ c.in-Some.mark.settled) (sym is.1)
     (whole_back c.self.inside.parts c.self.inside.settled c.self.inside.marks.items c.args.marks c.in-Some.mark c.self.invariant some few is.0))
 
 pub returns-in-Some-clause-now : goal.returns-in-Some-clause-now

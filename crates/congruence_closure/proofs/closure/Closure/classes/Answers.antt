@@ -3,7 +3,7 @@ use Rattle.std.proofs.Common.{◌≡◌, ◌∙◌, ℕ, ◌<◌, ap, get_or, le
 use Rattle.std.specs.Prelude.{Vec, IfOk}
 use Rattle.std.specs.declared.alloc.Global.{Global}
 use Rattle.std.proofs.lemmas.Result.{IfOk-weaker}
-use Rattle.congruence_relation.specs.Relation.{IsCongruent}
+use Rattle.congruence_relation.specs.Relation.{IsCongruentIn}
 use Rattle.congruence_closure.specs.Closure.{ClosureView, TellClasses}
 use Rattle.congruence_closure.specs.Listed.{no_term_id}
 use Rattle.congruence_closure.specs.Whole.{closure_of}
@@ -18,7 +18,7 @@ returns-clause-sound c =
     let s = c.self.inside.parts.now in
     let kept = c.are_kept.ensures.kept in
     let are : Vec ℕ Global → Type 0 = λ v. v.items ≡ map (class_number s.numbers) terms in
-    let sound : ClosureView → Vec ℕ Global → Type 0 = λ w v. (i j : ℕ) → i < length terms → j < length terms → get_or v.items i 0 ≡ get_or v.items j 0 → IsCongruent w.now.facts (get_or terms i no_term_id) (get_or terms j no_term_id) in
+    let sound : ClosureView → Vec ℕ Global → Type 0 = λ w v. (i j : ℕ) → i < length terms → j < length terms → get_or v.items i 0 ≡ get_or v.items j 0 → IsCongruentIn w.now.facts (get_or terms i no_term_id) (get_or terms j no_term_id) in
     subst (λ (w : ClosureView). IfOk c.classes.result (sound w)) c.self.view_is
     (IfOk-weaker c.classes.result are (sound (closure_of c.self.inside)) (λ v is. numbers_sound s.facts s.numbers s.edges kept.joint kept.reasons terms v.items is) c.classes.ensures)
 
@@ -29,6 +29,6 @@ returns-clause-exact c settled =
     let kept = c.are_kept.ensures.kept in
     let done = c.self.invariant.done (ap (λ (w : ClosureView). w.now.settled) c.self.view_is ∙ settled) in
     let are : Vec ℕ Global → Type 0 = λ v. v.items ≡ map (class_number s.numbers) terms in
-    let exact : ClosureView → Vec ℕ Global → Type 0 = λ w v. TellClasses (IsCongruent w.now.facts) terms v.items in
+    let exact : ClosureView → Vec ℕ Global → Type 0 = λ w v. TellClasses (IsCongruentIn w.now.facts) terms v.items in
     subst (λ (w : ClosureView). IfOk c.classes.result (exact w)) c.self.view_is
     (IfOk-weaker c.classes.result are (exact (closure_of c.self.inside)) (λ v is. numbers_exact s.facts s.numbers s.edges kept.joint kept.reasons terms v.items is (settled_closed s kept done)) c.classes.ensures)

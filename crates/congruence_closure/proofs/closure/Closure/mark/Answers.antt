@@ -1,8 +1,8 @@
 -- The mark has what there is now.
 use Rattle.std.proofs.Common.{◌≡◌, ◌++◌, ◌∷◌, [], refl, sym, ap, ◌∙◌, subst}
 use Rattle.congruence_closure.specs.declared.closure.Mark.{Mark}
-use Rattle.congruence_closure.specs.State.{State, extent_of}
-use Rattle.congruence_closure.specs.Whole.{IsWhole}
+use Rattle.congruence_closure.specs.State.{PartsState, extent_of}
+use Rattle.congruence_closure.specs.Whole.{ClosureFits}
 use Rattle.congruence_closure.proofs.Marks.{whole_marked}
 use Rattle.congruence_closure.proofs.closure.Closure.mark.Goals as goal
 
@@ -11,6 +11,6 @@ invariant_of-self-2 c =
     let m : Mark = record { extent = c.extent.result; pending = c.in_ok-pending.pending; settled = c.self.inside.settled } in
     let is : c.push_reserved.new.self.items ≡ c.self.inside.marks.items ++ record { extent = c.extent.result; pending = c.in_ok-pending.pending; settled = c.self.inside.settled } ∷ []
     = c.push_reserved.ensures.items ∙ ap (λ ms. ms ++ record { extent = c.extent.result; pending = c.in_ok-pending.pending; settled = c.self.inside.settled } ∷ []) c.in_ok-reserve.ensures.items in
-    subst (IsWhole c.mark.new.self c.self.inside.settled) (sym is)
+    subst (ClosureFits c.mark.new.self c.self.inside.settled) (sym is)
     (whole_marked c.self.inside.parts c.mark.new.self c.self.inside.settled c.self.inside.marks.items (record { extent = c.extent.result; pending = c.in_ok-pending.pending; settled = c.self.inside.settled }) c.self.invariant
-    c.are_kept.ensures.kept c.are_kept.ensures.terms c.in_ok-mark.ensures.ok (c.extent.ensures ∙ ap (λ (s : State). extent_of s) c.in_ok-mark.ensures.ok.now) c.in_ok-pending.ensures refl)
+    c.are_kept.ensures.kept c.are_kept.ensures.terms c.in_ok-mark.ensures.ok (c.extent.ensures ∙ ap (λ (s : PartsState). extent_of s) c.in_ok-mark.ensures.ok.now) c.in_ok-pending.ensures refl)

@@ -2,7 +2,7 @@
 use Rattle.std.proofs.Common.{◌<◌, length, true≢false, inl, refl, sym, ap, ◌∙◌, subst}
 use Rattle.term_core.specs.declared.ids.TermId.{TermId}
 use Rattle.explain_forest.specs.Forest.{Linked}
-use Rattle.congruence_relation.specs.Relation.{truth_of, decides, States}
+use Rattle.congruence_relation.specs.Relation.{truth_of, decides, StatesEqual}
 use Rattle.congruence_closure.specs.Listed.{HasPlace, IsListed}
 use Rattle.congruence_closure.specs.State.{PartsView}
 use Rattle.congruence_closure.proofs.Terms.{listed_low, held_listed, truth_low}
@@ -22,7 +22,7 @@ join-requires-clause-apart c =
 pub join-requires-clause-why : goal.join-requires-clause-why
 join-requires-clause-why c =
     let truth = c.truth_term-truth.ensures ∙ ap (λ (v : PartsView). truth_of v.now.facts.truths c.args.lit.positive) c.self.view_is in
-    (c.requires, inl (subst (λ (t : TermId). States c.args.self.now.now.facts c.args.lit c.args.lit.term t) (sym truth) decides))
+    (c.requires, inl (subst (λ (t : TermId). StatesEqual c.args.self.now.now.facts c.args.lit c.args.lit.term t) (sym truth) decides))
 
 pub returns-in_default-clause-ok : goal.returns-in_default-clause-ok
 returns-in_default-clause-ok c =

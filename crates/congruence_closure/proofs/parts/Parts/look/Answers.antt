@@ -3,7 +3,7 @@ use Rattle.std.proofs.Common.{◌≡◌, ◌<◌, length, sym, ap, ◌∙◌, su
 use Rattle.term_core.specs.Tables.{Shape, shape_of}
 use Rattle.congruence_closure.specs.Listed.{nth}
 use Rattle.congruence_closure.specs.Keys.{Keys, key_of, with_key, IsAbsent}
-use Rattle.congruence_closure.specs.State.{PartsView, IsKept, HasKey, IsApart}
+use Rattle.congruence_closure.specs.State.{PartsView, PartsFit, HasKey, IsApart}
 use Rattle.congruence_closure.specs.Kept.{state_of}
 use Rattle.congruence_closure.proofs.Steps.{with_keys, kept_key, has_new_key}
 use Rattle.congruence_closure.proofs.parts.Parts.look.Goals as goal
@@ -17,7 +17,7 @@ invariant_of-self-in-None c =
     let is : c.look_up.new.self ≡ with_key c.self.inside.keys (key_of c.self.inside.classes.numbers (nth c.self.inside.listing c.args.place).shape) c.args.place
     = told.1 ∙ ap (λ (x : Shape). with_key c.self.inside.keys x c.args.place) key in
     record {
-      kept = subst (λ (k : Keys). IsKept (with_keys (state_of c.self.inside) k)) (sym is) (kept_key (state_of c.self.inside) c.args.place c.self.invariant.kept low absent);
+      kept = subst (λ (k : Keys). PartsFit (with_keys (state_of c.self.inside) k)) (sym is) (kept_key (state_of c.self.inside) c.args.place c.self.invariant.kept low absent);
       terms = c.self.invariant.terms;
       room = c.self.invariant.room;
       next = c.self.invariant.next;

@@ -3,7 +3,7 @@ use Rattle.std.proofs.Common.{◌≡◌, ◌≤◌, [], length, drop, sym, ap, �
 use Rattle.class_table.specs.Classes.{with_terms}
 use Rattle.class_table.proofs.Joined.{length-with_terms}
 use Rattle.explain_forest.specs.Forest.{ForestState}
-use Rattle.congruence_closure.specs.State.{State, AreJoint, IsKept}
+use Rattle.congruence_closure.specs.State.{PartsState, AreJoint, PartsFit}
 use Rattle.congruence_closure.proofs.Growing.{joint_none, joint_grown, kept_start}
 use Rattle.congruence_closure.proofs.parts.Parts.new.Goals as goal
 
@@ -17,7 +17,7 @@ invariant_of-result c =
     = omega (arith, ap length second.classes.numbers, length-with_terms c.add_term.new.classes.numbers second.classes.count) in
     let edges : c.add_term-2.new.forest.now.edges ≡ [] = second.forest.edges ∙ first.forest.edges ∙ ap (λ (f : ForestState). f.edges) c.new-forest.ensures.now in
     let none : length c.new-classes.result.numbers ≡ 0 = ap length c.new-classes.ensures.numbers in
-    let state : State = record {
+    let state : PartsState = record {
       facts = record { listed = c.new.result; truths = c.args.truths; held = c.add_term-2.new.holding.held };
       numbers = c.add_term-2.new.classes.numbers;
       edges = c.add_term-2.new.forest.now.edges;
@@ -25,7 +25,7 @@ invariant_of-result c =
       left = record { looked = 0; given = 0; pending = drop 0 c.new-3.result.items };
     } in
     record {
-      kept = subst IsKept (λ i. record {
+      kept = subst PartsFit (λ i. record {
         facts = record { listed = sym c.new.ensures i; truths = c.args.truths; held = sym (second.holding.held ∙ first.holding.held ∙ c.new-holding.ensures.held) i };
         numbers = c.add_term-2.new.classes.numbers;
         edges = sym edges i;

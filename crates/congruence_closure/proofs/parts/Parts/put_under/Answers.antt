@@ -5,8 +5,8 @@ use Rattle.class_table.specs.Classes.{AreSame}
 use Rattle.class_table.proofs.Joined.{length-joined}
 use Rattle.explain_forest.specs.declared.types.Label.{Label}
 use Rattle.explain_forest.specs.Forest.{ForestState}
-use Rattle.congruence_relation.specs.Edges.{IsReason}
-use Rattle.congruence_closure.specs.State.{PartsView, IsKept}
+use Rattle.congruence_relation.specs.Edges.{IsEdgeReason}
+use Rattle.congruence_closure.specs.State.{PartsView, PartsFit}
 use Rattle.congruence_closure.specs.Changes.{ClassAtMost, IsWhy}
 use Rattle.congruence_closure.specs.Kept.{state_of}
 use Rattle.congruence_closure.proofs.Joining.{kept_joined, why_reason}
@@ -37,10 +37,10 @@ invariant_of-self-2 c =
     let apart = subst (λ (v : PartsView). AreSame v.now.numbers c.args.a c.args.b → ⊥) (sym c.self.view_is) c.requires.apart in
     let smaller = subst (λ (v : PartsView). ClassAtMost v.now.numbers c.args.a c.args.b) (sym c.self.view_is) c.requires.smaller in
     let why = subst (λ (v : PartsView). IsWhy v.now.facts v.now.edges c.args.why c.args.a c.args.b) (sym c.self.view_is) c.requires.why in
-    let reason = subst (λ (l : Label). IsReason (state_of c.self.inside).facts c.self.inside.forest.now.edges (record { a = c.args.a; b = c.args.b; label = l }) l) (sym c.label_of.ensures)
+    let reason = subst (λ (l : Label). IsEdgeReason (state_of c.self.inside).facts c.self.inside.forest.now.edges (record { a = c.args.a; b = c.args.b; label = l }) l) (sym c.label_of.ensures)
     (why_reason (state_of c.self.inside).facts c.self.inside.forest.now.edges c.args.why c.args.a c.args.b why) in
     record {
-      kept = subst IsKept (λ i. record {
+      kept = subst PartsFit (λ i. record {
         facts = (state_of c.self.inside).facts;
         numbers = sym c.relabel.ensures.numbers i;
         edges = sym (ap (λ (f : ForestState). f.edges) c.link.ensures.now) i;

@@ -4,7 +4,7 @@ use Rattle.class_table.specs.Classes.{with_terms}
 use Rattle.term_core.specs.Tables.{shape_of}
 use Rattle.congruence_relation.specs.Relation.{Application}
 use Rattle.congruence_closure.specs.Listed.{IsListed}
-use Rattle.congruence_closure.specs.State.{PartsView, IsKept}
+use Rattle.congruence_closure.specs.State.{PartsView, PartsFit}
 use Rattle.congruence_closure.specs.Kept.{state_of}
 use Rattle.congruence_closure.proofs.Growing.{with_numbers, kept_grown, kept_listed}
 use Rattle.congruence_closure.proofs.parts.Parts.watch.Goals as goal
@@ -13,7 +13,7 @@ pub invariant_of-self : goal.invariant_of-self
 invariant_of-self c =
     let added = c.in_err-add_term.ensures in
     record {
-      kept = subst IsKept (λ i. record {
+      kept = subst PartsFit (λ i. record {
         facts = record { listed = c.self.inside.listing; truths = c.self.inside.truths; held = sym added.holding.held i };
         numbers = sym added.classes.numbers i;
         edges = sym added.forest.edges i;
@@ -29,7 +29,7 @@ pub invariant_of-self-in_err-add : goal.invariant_of-self-in_err-add
 invariant_of-self-in_err-add c =
     let added = c.in_ok-add_term.ensures in
     record {
-      kept = subst IsKept (λ i. record {
+      kept = subst PartsFit (λ i. record {
         facts = record { listed = sym c.in_err-add.ensures.err i; truths = c.self.inside.truths; held = sym added.holding.held i };
         numbers = sym added.classes.numbers i;
         edges = sym added.forest.edges i;
@@ -49,7 +49,7 @@ invariant_of-self-2 c =
     let low = subst (λ n. c.args.id.0 < n) (ap length added.classes.numbers) added.ok in
     let grown = with_numbers (state_of c.self.inside) (with_terms added.classes.count c.self.inside.classes.numbers) in
     record {
-      kept = subst IsKept (λ i. record {
+      kept = subst PartsFit (λ i. record {
         facts = record { listed = sym c.in_ok-add.ensures.ok i; truths = c.self.inside.truths; held = sym added.holding.held i };
         numbers = sym added.classes.numbers i;
         edges = sym added.forest.edges i;

@@ -1,7 +1,7 @@
 -- The oldest of the marks is there, and older ones stay as they were.
 use Rattle.std.proofs.Common.{◌≡◌, ◌-◌, ◌≤◌, List, length, map, take, reverse, sym, subst, ap, ◌∙◌, arith}
 use Rattle.std.proofs.lemmas.List.{length-map}
-use Rattle.explain_forest.specs.Kept.{Shows, state_at, AreApart}
+use Rattle.explain_forest.specs.Kept.{ArraysShow, state_at, EdgesAreApart}
 use Rattle.explain_forest.specs.declared.types.Edge.{Edge}
 use Rattle.explain_forest.proofs.Climbing.{length-stamps_shown}
 use Rattle.explain_forest.proofs.Marks.{states-back}
@@ -36,7 +36,7 @@ invariant_of-self c =
     let terms = c.cut.ensures.terms ∙ ap length c.deref_mut.ensures.value in
     let whole = lent c.cut.new.parents f.parents.items f.parents.len (omega (arith, f.parents.ok.0)) terms in
     let whole_stamps = lent c.cut.new.stamps f.stamps.items f.stamps.len (omega (arith, f.stamps.ok.0)) (omega (arith, before, after, terms)) in
-    let fewer : (es : List Edge) → AreApart m.terms (reverse es) → Shows c.cut.new.parents c.cut.new.stamps es → Shows c.shrink.new.parents.items c.shrink.new.stamps.items es =
+    let fewer : (es : List Edge) → EdgesAreApart m.terms (reverse es) → ArraysShow c.cut.new.parents c.cut.new.stamps es → ArraysShow c.shrink.new.parents.items c.shrink.new.stamps.items es =
     λ es apart s. c.shrink.ensures.shows es apart (shows-lent _ _ _ _ es whole whole_stamps s) in
     kept-back f.parents.items f.stamps.items f.edges.items f.marks.items _ c.self.invariant m (c.len.result - c.args.marks) there c.cut.new.parents c.cut.new.stamps c.shrink.new.parents.items c.shrink.new.stamps.items
     c.cut.new.edges.items c.truncate.new.self.items _ c.cut.ensures.edges c.truncate.ensures.items c.cut.ensures.room c.cut.ensures.shows fewer c.shrink.ensures.terms

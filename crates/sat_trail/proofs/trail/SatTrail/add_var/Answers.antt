@@ -1,7 +1,7 @@
 -- That a variable more changes no literal, and has room for its own.
 use Rattle.std.proofs.Common.{arith, ◌∙◌, ◌++◌, ◌∷◌, [], ap, None, refl, subst}
 use Rattle.sat_trail.specs.Trails.{TrailView, HasSame}
-use Rattle.sat_trail.specs.Kept.{view_of}
+use Rattle.sat_trail.specs.Kept.{trail_view}
 use Rattle.sat_trail.specs.declared.trail.SatTrail.TheInside.{Inside}
 use Rattle.sat_trail.proofs.Fields.{is_same, kept_grown}
 use Rattle.sat_trail.proofs.trail.SatTrail.add_var.Goals as goal
@@ -20,7 +20,7 @@ pub returns-clause-same : goal.returns-clause-same
 returns-clause-same c =
     let h = c.self.inside in
     let u : Inside = record { literals = c.reserve.new.self; starts = c.reserve-2.new.self; values = c.push.new.self; levels = c.push_reserved.new.self; reasons = c.push_reserved-2.new.self; propagated = h.propagated } in
-    subst (λ (v : TrailView). HasSame v (view_of u)) c.self.view_is
+    subst (λ (v : TrailView). HasSame v (trail_view u)) c.self.view_is
     (is_same h c.self.invariant u c.reserve.ensures.items c.reserve-2.ensures.items
     (c.push_reserved.ensures.items ∙ ap (λ xs. xs ++ 0 ∷ []) c.reserve-3.ensures.items)
     (c.push_reserved-2.ensures.items ∙ ap (λ xs. xs ++ None ∷ []) c.reserve-4.ensures.items)

@@ -3,7 +3,7 @@ use Rattle.std.proofs.Common.{rules, arith, ◌≡◌, ◌∙◌, ◌<◌, ◌+�
 use Rattle.std.proofs.lemmas.List.{length_push}
 use Rattle.sat_trail.specs.Trails.{TrailView, IsUnassigned, IsPushed}
 use Rattle.std.specs.Vec.{with_item}
-use Rattle.sat_trail.specs.Kept.{view_of}
+use Rattle.sat_trail.specs.Kept.{trail_view}
 use Rattle.sat_trail.specs.declared.trail.SatTrail.TheInside.{Inside}
 use Rattle.sat_trail.proofs.Fields.{literal_fits, level_fits, is_pushed, kept_decided}
 use Rattle.sat_trail.proofs.trail.SatTrail.decide.Goals as goal
@@ -40,6 +40,6 @@ returns c =
     let level : c.len-2.result ≡ length h.starts.items + 1 = omega (arith, c.len-2.ensures, ap length c.push_reserved.ensures.items, length_push h.starts.items c.len.result) in
     let count : length c.push_reserved.new.self.items ≡ c.len-2.result = omega (arith, c.len-2.ensures) in
     let u : Inside = record { literals = c.push_reserved-2.new.self; starts = c.push_reserved.new.self; values = with_item h.values c.args.lit.term.0 (Some c.args.lit.positive); levels = with_item h.levels c.args.lit.term.0 c.len-2.result; reasons = with_item h.reasons c.args.lit.term.0 None; propagated = h.propagated } in
-    subst (λ (v : TrailView). IsPushed v c.args.lit None (v.level + 1) (view_of u)) c.self.view_is
-    (subst (λ n. IsPushed (view_of h) c.args.lit None n (view_of u)) level
+    subst (λ (v : TrailView). IsPushed v c.args.lit None (v.level + 1) (trail_view u)) c.self.view_is
+    (subst (λ n. IsPushed (trail_view h) c.args.lit None n (trail_view u)) level
     (is_pushed h c.self.invariant c.args.lit known none u c.len-2.result None c.push_reserved-2.ensures.items refl refl refl refl count))

@@ -2,7 +2,7 @@
 use Rattle.std.proofs.Common.{[], List, sym, subst}
 use Rattle.spec_proofs.specs.declared.Rule.TheVariants.{Resolution}
 use Rattle.proof_log.specs.Logs.{Logged, stepped, IsLogOf}
-use Rattle.search_loop.specs.Rounds.{Shows}
+use Rattle.search_loop.specs.Rounds.{ShowsAnswer}
 use Rattle.search_loop.proofs.SearchReasons.{reasons_are}
 use Rattle.sat_budget.specs.declared.limits.Reason.TheVariants.{Conflicts}
 use Rattle.search_loop.specs.declared.cdcl.Answer.TheVariants.{Unknown}
@@ -29,6 +29,6 @@ returns-clause-shows c n full carries =
     let l = c.in_ok-learn.ensures.learned in
     let kept = c.logs_stand_in_grown_tables.ensures.right t u x.log c.requires.ready.right c.learn.ensures.grown in
     let back = log_back x.log c.learn.new.log (stepped Resolution l.logged.premises [] l.logged.terms) c.len-len.result l.logged.last c.len-len.ensures c.cut.new.self c.cut.ensures.clauses in
-    subst (λ (log : List Logged). Shows t u x (record x { log = log }) (Unknown (Conflicts n))) (sym back)
+    subst (λ (log : List Logged). ShowsAnswer t u x (record x { log = log }) (Unknown (Conflicts n))) (sym back)
     (forgone_shows t u c.learn.ensures.grown c.ids_are_unique.ensures c.learn.ensures.declared x c.requires.ready c.is_sound.ensures.once c.is_sound.ensures.leveled c.is_sound.ensures.consistent
     (c.logs_stand_in_grown_tables.ensures.same t u x.log c.requires.ready.right c.learn.ensures.grown) c.args.clash c.learn.new.log c.in_ok-learn.field-0 l kept n full carries)

@@ -9,7 +9,7 @@ use Rattle.term_core.proofs.TermsExtend.{Extends-self}
 use Rattle.sat_budget.specs.declared.limits.Stop.{Stop}
 use Rattle.sat_budget.specs.declared.limits.Strain.{Strain}
 use Rattle.sat_budget.specs.Budgets.{BudgetView, StopsBy, AreSpent}
-use Rattle.proof_log.specs.Theories.{TheoryView, Derived, IsOver, terms_watched, literals_held, Checks, paid_after}
+use Rattle.proof_log.specs.Theories.{TheoryView, Derived, IsTheoryOver, terms_watched, literals_held, Checks, paid_after}
 use Rattle.search_loop.proofs.SearchReasons.{clash_is}
 use Rattle.search_loop.proofs.SearchTheories.{fed}
 use Rattle.search_loop.specs.Asking.{HasStopped, OnStop, state}
@@ -66,7 +66,7 @@ pub check-requires-clause-over : goal.check-requires-clause-over
 check-requires-clause-over g c =
     let x = c.args.self.now in
     let p = c.propagate.ensures in
-    subst (IsOver c.args.table.now) (sym c.feed.ensures.holds)
+    subst (IsTheoryOver c.args.table.now) (sym c.feed.ensures.holds)
     (is_over c.args.table.now x c.requires.ready (g.T.Theory.view c.args.theory.now) c.requires.asked c.is_sound.ensures.leveled.levels_paired c.propagate.new.self c.propagate.new.trail p.same p.seen
     (c.reasons_stay_right.ensures.propagated x.store x.trail c.propagate.new.trail c.requires.ready.implied p.adds) p.adds)
 

@@ -2,7 +2,7 @@
 -- paid for, and the search is still one for the same terms. Each round learns a clause, or assigns an atom more.
 use Rattle.std.proofs.Common.{◌+◌, ◌-◌, ◌*◌, List, length}
 use Rattle.spec_sorts.specs.Terms.{Term}
-use Rattle.search_loop.specs.Search.{IsReady}
+use Rattle.search_loop.specs.Search.{SearchFits}
 use Rattle.search_loop.specs.Rounds.{Continues}
 use Rattle.search_loop.specs.Asking.{IsAsked}
 use Rattle.search_loop.specs.Paying.{counted_held, atoms_of, paid, IsPaid}
@@ -10,7 +10,7 @@ use Rattle.search_loop.proofs.search.Search.run.Given as goal
 
 abbrev pub invariant-rounds : goal.invariant-rounds
 invariant-rounds g l = record {
-  ready : IsReady l.table l.self;
+  ready : SearchFits l.table l.self;
   asked : IsAsked (g.T.Theory.view l.theory) l.self;
   with : g.T.Theory.goes_with l.theory l.table;
   came : (ts : List Term) → g.T.Theory.came_by l.fn.theory l.fn.table ts (atoms_of l.fn.table l.fn.self) l.fn.self.budget.exchanges

@@ -8,7 +8,7 @@ use Rattle.simplex_check.proofs.KeptFirst.{keeps_more}
 use Rattle.simplex_atoms.specs.declared.place.Place.{Place}
 use Rattle.simplex_atoms.specs.Places.{place_in}
 use Rattle.simplex_held.specs.Stated.{stated_at, stated_by}
-use Rattle.simplex.specs.Views.{SimplexView, Fits, IsOf, placed_count}
+use Rattle.simplex.specs.Views.{SimplexView, SimplexFits, IsOf, placed_count}
 use Rattle.simplex.proofs.Fitting.{HoldsStated, room_for, fits_held, of_kept, no_place, nothing_stated}
 use Rattle.simplex.proofs.simplex.Simplex.assume_lit.Goals as goal
 
@@ -43,7 +43,7 @@ invariant_of-self c =
     let stated : HoldsStated s.bounds c.hold_by.new.bounds (stated_by s.atoms.placed l) =
     subst (λ (o : Option Place). HoldsStated s.bounds c.hold_by.new.bounds (stated_at o l)) c.in-Some.ensures
     (record { held = c.hold_by.ensures.held; variables = c.hold_by.ensures.variables; room = c.hold_by.ensures.room }) in (
-      subst (λ (x : TheoryView). Fits (record { theory = x; atoms = s.atoms; board = s.board; bounds = c.hold_by.new.bounds; starts = s.starts.items }))
+      subst (λ (x : TheoryView). SimplexFits (record { theory = x; atoms = s.atoms; board = s.board; bounds = c.hold_by.new.bounds; starts = s.starts.items }))
           (sym c.hold.ensures) (fits_held v c.self.invariant.0 c.marks_are_prefixes.ensures l c.hold_by.new.bounds stated),
       c.self.invariant.1 ∙ ap (λ (x : TheoryView). placed_count s.atoms.placed x.watched) (sym c.hold.ensures),
       keeps_more s.kept s.bounds.held c.hold_by.new.bounds.held s.board.values c.hold_by.ensures.more c.self.invariant.2,
@@ -63,7 +63,7 @@ invariant_of-self-in_default c =
     let none = no_place c.place.result (place_in s.atoms.placed l.term) c.place.ensures c.in_default.not-Some in
     let stated : HoldsStated s.bounds s.bounds (stated_by s.atoms.placed l) =
     subst (λ (o : Option Place). HoldsStated s.bounds s.bounds (stated_at o l)) (sym none) (nothing_stated s.bounds) in (
-      subst (λ (x : TheoryView). Fits (record { theory = x; atoms = s.atoms; board = s.board; bounds = s.bounds; starts = s.starts.items }))
+      subst (λ (x : TheoryView). SimplexFits (record { theory = x; atoms = s.atoms; board = s.board; bounds = s.bounds; starts = s.starts.items }))
           (sym c.hold.ensures) (fits_held v c.self.invariant.0 c.marks_are_prefixes.ensures l s.bounds stated),
       c.self.invariant.1 ∙ ap (λ (x : TheoryView). placed_count s.atoms.placed x.watched) (sym c.hold.ensures),
       c.self.invariant.2,

@@ -4,7 +4,7 @@ use Rattle.std.proofs.Math.Seq.{take-length}
 use Rattle.proof_log.specs.Theories.{TheoryView, no_mark, at_mark}
 use Rattle.simplex_check.proofs.KeptFirst.{keeps_back}
 use Rattle.simplex.specs.declared.starts.Start.{Start}
-use Rattle.simplex.specs.Views.{SimplexView, Fits, IsOf, start_of, placed_count}
+use Rattle.simplex.specs.Views.{SimplexView, SimplexFits, IsOf, start_of, placed_count}
 use Rattle.simplex.proofs.Fitting.{start_there, within, fits_back, of_fewer, gone_is, as_many}
 use Rattle.simplex.proofs.simplex.Simplex.back.Goals as goal
 
@@ -18,7 +18,7 @@ back-requires c =
       bounds = s.bounds;
       starts = s.starts.items;
     } in
-    let f : Fits v = c.self.invariant.0 in
+    let f : SimplexFits v = c.self.invariant.0 in
     let m = c.marks_are_prefixes.ensures in
     let there : c.args.marks ≤ length s.literals.marks = subst (λ (x : SimplexView). c.args.marks ≤ length x.theory.marks) (sym c.self.view_is) c.requires.there in
     let kept : ℕ = c.len.result - c.args.marks in
@@ -38,7 +38,7 @@ invariant_of-self c =
       bounds = s.bounds;
       starts = s.starts.items;
     } in
-    let f : Fits v = c.self.invariant.0 in
+    let f : SimplexFits v = c.self.invariant.0 in
     let m = c.marks_are_prefixes.ensures in
     let there : c.args.marks ≤ length s.literals.marks = subst (λ (x : SimplexView). c.args.marks ≤ length x.theory.marks) (sym c.self.view_is) c.requires.there in
     let kept : ℕ = c.len.result - c.args.marks in
@@ -48,7 +48,7 @@ invariant_of-self c =
     c.index-start.ensures ∙ start_there v f m kept lt c.index-start.result.now in
     let gone : c.back-then-marks-gt0.new.self ≡ at_mark s.literals kept =
     c.back-then-marks-gt0.ensures ∙ gone_is s.literals c.args.marks kept (omega (arith, c.if-marks-gt0.true)) (omega (arith, c.len.ensures, count)) in (
-      subst (λ (x : SimplexView). Fits x)
+      subst (λ (x : SimplexView). SimplexFits x)
           (λ i. record { theory = sym gone i; atoms = s.atoms; board = s.board; bounds = c.back.new.self; starts = sym c.truncate.ensures.items i })
           (fits_back v f m kept lt c.back.new.self (c.back.ensures.held ∙ ap (λ (x : Start). take x.bounds s.bounds.held) is) c.back.ensures.variables c.back.ensures.room),
       ap (λ (x : Start). x.placed) is ∙ ap (λ (x : TheoryView). placed_count s.atoms.placed x.watched) (sym gone),
@@ -66,7 +66,7 @@ returns-then-marks-gt0-clause-with c t =
       bounds = s.bounds;
       starts = s.starts.items;
     } in
-    let f : Fits v = c.self.invariant.0 in
+    let f : SimplexFits v = c.self.invariant.0 in
     let m = c.marks_are_prefixes.ensures in
     let there : c.args.marks ≤ length s.literals.marks = subst (λ (x : SimplexView). c.args.marks ≤ length x.theory.marks) (sym c.self.view_is) c.requires.there in
     let kept : ℕ = c.len.result - c.args.marks in

@@ -9,9 +9,9 @@ use Rattle.spec_causes.specs.Bounds.{AreBounds}
 use Rattle.sat_budget.specs.Budgets.{StopsBy}
 use Rattle.sat_budget.specs.declared.limits.Stop.{Stop}
 use Rattle.proof_log.specs.Clashes.{IsClash}
-use Rattle.proof_log.specs.Theories.{IsOver, IsTermIn, terms_watched, literals_held, Derives, CameTo, paid_after}
+use Rattle.proof_log.specs.Theories.{IsTheoryOver, IsTermIn, terms_watched, literals_held, DerivesLemmas, CameTo, paid_after}
 use Rattle.tableau.specs.Views.{IsTableau}
-use Rattle.simplex_check.specs.Ends.{Ends}
+use Rattle.simplex_check.specs.Ends.{EndsCheck}
 use Rattle.proof_log.specs.declared.theory.Verdict.{Verdict}
 use Rattle.simplex_explain.specs.Steps.{derived}
 use Rattle.simplex.specs.Checks.{KeepsBounds}
@@ -32,7 +32,7 @@ invariant_of-self-in-Fine c =
     let s = c.self.inside in
     let old : SimplexView = record { theory = s.literals; atoms = s.atoms; board = s.board; bounds = s.bounds; starts = s.starts.items } in
     let v : SimplexView = record { theory = s.literals; atoms = s.atoms; board = c.check_after.new.self; bounds = s.bounds; starts = s.starts.items } in
-    let ends = subst (λ o. Ends (ranges_in s.bounds.held) s.board c.check_after.new.self c.args.budget.now c.check_after.new.budget (Ok o)) c.in-Fine.is c.in-Ok.ensures.ends in
+    let ends = subst (λ o. EndsCheck (ranges_in s.bounds.held) s.board c.check_after.new.self c.args.budget.now c.check_after.new.budget (Ok o)) c.in-Fine.is c.in-Ok.ensures.ends in
     let meets : KeepsBounds v = checked_meets (ranges_in s.bounds.held) s.board c.check_after.new.self c.args.budget.now c.check_after.new.budget ends in (
       fits_on old c.check_after.new.self c.self.invariant.0,
       c.self.invariant.1,
@@ -86,7 +86,7 @@ returns-in-Fine-clause-came c ts n came =
     let is : IsOf old t = subst (λ (v : SimplexView). IsOf v t) (sym c.self.view_is) c.requires.with in
     let came : CameBy t ts n c.args.budget.now.exchanges old = subst (CameBy t ts n c.args.budget.now.exchanges) (sym c.self.view_is) came in
     let solved = (subst IsTableau c.tableau.ensures c.rows_are_in_solved_form.ensures).solved in
-    let ends = subst (λ o. Ends (ranges_in s.bounds.held) s.board c.check_after.new.self c.args.budget.now c.check_after.new.budget (Ok o)) c.in-Fine.is c.in-Ok.ensures.ends in
+    let ends = subst (λ o. EndsCheck (ranges_in s.bounds.held) s.board c.check_after.new.self c.args.budget.now c.check_after.new.budget (Ok o)) c.in-Fine.is c.in-Ok.ensures.ends in
     let keeps : KeepsBounds v = checked_meets (ranges_in s.bounds.held) s.board c.check_after.new.self c.args.budget.now c.check_after.new.budget ends in
     came_fine t ts old c.check_after.new.self is c.self.invariant.0 solved c.check_after.ensures.listed
     (c.values_solve_the_rows-2.ensures.lengths ∙ c.check_after.ensures.variables ∙ sym c.values_solve_the_rows.ensures.lengths) n c.args.budget.now c.check_after.new.budget came c.in-Ok.outcome c.in-Ok.ensures.ends keeps
@@ -104,7 +104,7 @@ returns-in-Fine-clause-checks c =
     let v : SimplexView = record { theory = s.literals; atoms = s.atoms; board = c.check_after.new.self; bounds = s.bounds; starts = s.starts.items } in
     let with : IsOf v t = board_fits c.args.table.now (record { theory = s.literals; atoms = s.atoms; board = s.board; bounds = s.bounds; starts = s.starts.items }) c.check_after.new.self c.check_after.ensures.variables c.check_after.ensures.listed
     (subst (λ (v : SimplexView). IsOf v c.args.table.now) (sym c.self.view_is) c.requires.with) in
-    let ends = subst (λ o. Ends (ranges_in s.bounds.held) s.board c.check_after.new.self c.args.budget.now c.check_after.new.budget (Ok o)) c.in-Fine.is c.in-Ok.ensures.ends in
+    let ends = subst (λ o. EndsCheck (ranges_in s.bounds.held) s.board c.check_after.new.self c.args.budget.now c.check_after.new.budget (Ok o)) c.in-Fine.is c.in-Ok.ensures.ends in
     let meets : KeepsBounds v = checked_meets (ranges_in s.bounds.held) s.board c.check_after.new.self c.args.budget.now c.check_after.new.budget ends in
     let both = subst (λ (w : SimplexView). HaveForms (literals_held t w.theory) × IsFeasible (literals_held t w.theory)) c.self.view_is
     (fine t v c.ids_are_unique.ensures (subst IsTableau c.tableau-in-Fine.ensures c.rows_are_in_solved_form-in-Fine.ensures) with c.self.invariant.0.bounds_are c.are_of_watched_terms.ensures.over meets) in
@@ -119,7 +119,7 @@ clash-requires c =
     (subst (λ (v : SimplexView). IsOf v c.args.table.now) (sym c.self.view_is) c.requires.with) in (
       refl,
       (
-        subst (λ (w : SimplexView). IsOver t w.theory) (sym c.self.view_is) c.requires.over,
+        subst (λ (w : SimplexView). IsTheoryOver t w.theory) (sym c.self.view_is) c.requires.over,
         (with, (c.requires.log, found v s.board c.args.budget.now c.check_after.new.budget c.in-Ok.outcome c.in_default.not-Fine c.in-Ok.ensures.ends)),
       ),
     )
@@ -131,7 +131,7 @@ returns-in-Ok-clash-clause-with c =
     let v : SimplexView = record { theory = s.literals; atoms = s.atoms; board = c.check_after.new.self; bounds = s.bounds; starts = s.starts.items } in
     let with : IsOf v t = board_fits c.args.table.now (record { theory = s.literals; atoms = s.atoms; board = s.board; bounds = s.bounds; starts = s.starts.items }) c.check_after.new.self c.check_after.ensures.variables c.check_after.ensures.listed
     (subst (λ (v : SimplexView). IsOf v c.args.table.now) (sym c.self.view_is) c.requires.with) in
-    let over = subst (λ (w : SimplexView). IsOver t w.theory) (sym c.self.view_is) c.requires.over in
+    let over = subst (λ (w : SimplexView). IsTheoryOver t w.theory) (sym c.self.view_is) c.requires.over in
     table_grows t c.clash.new.table v c.in-Ok-clash.ensures.derives.table (All-weaker (IsTermIn t) (IsIn t) (λ id k. k.0) s.literals.watched over.terms) with
 
 pub returns-in-Ok-clash-clause-budget : goal.returns-in-Ok-clash-clause-budget
@@ -142,12 +142,12 @@ returns-in-Ok-clash-clause-budget c =
     (more.0, c.check_after.ensures.budget ∙ ap (λ (es : List (ℕ × ℕ)). (let b : BudgetView = record { limit = old.limit; learned = old.learned; pivots = old.pivots; exchanges = es } in b)) more.1)
 
 pub returns-in-Ok-clash-clause-ends : goal.returns-in-Ok-clash-clause-ends
-returns-in-Ok-clash-clause-ends c = (Ok c.in-Ok.outcome, answers c.in-Ok.outcome _ c.in_default.not-Fine (clash_differs c.in-Ok-clash.step), subst (λ (v : SimplexView). Ends (ranges_in v.bounds.held) v.board c.check_after.new.self c.args.budget.now c.check_after.new.budget (Ok c.in-Ok.outcome)) c.self.view_is c.in-Ok.ensures.ends)
+returns-in-Ok-clash-clause-ends c = (Ok c.in-Ok.outcome, answers c.in-Ok.outcome _ c.in_default.not-Fine (clash_differs c.in-Ok-clash.step), subst (λ (v : SimplexView). EndsCheck (ranges_in v.bounds.held) v.board c.check_after.new.self c.args.budget.now c.check_after.new.budget (Ok c.in-Ok.outcome)) c.self.view_is c.in-Ok.ensures.ends)
 
 pub returns-in-Ok-clash-clause-checks : goal.returns-in-Ok-clash-clause-checks
 returns-in-Ok-clash-clause-checks c =
     let t = c.args.table.now in
-    subst (λ (w : SimplexView). IsInfeasible (literals_held t w.theory) × Derives (terms_watched t w.theory) (derived t c.args.log.now) (derived c.clash.new.table c.clash.new.log) × IsClash c.clash.new.table c.clash.new.log w.theory.held c.in-Ok-clash.step) c.self.view_is
+    subst (λ (w : SimplexView). IsInfeasible (literals_held t w.theory) × DerivesLemmas (terms_watched t w.theory) (derived t c.args.log.now) (derived c.clash.new.table c.clash.new.log) × IsClash c.clash.new.table c.clash.new.log w.theory.held c.in-Ok-clash.step) c.self.view_is
     (c.in-Ok-clash.ensures.infeasible, c.in-Ok-clash.ensures.derives, c.in-Ok-clash.ensures.clash)
 
 pub returns-in-Ok-clash-clause-came : goal.returns-in-Ok-clash-clause-came
@@ -162,7 +162,7 @@ returns-in-Ok-clash-clause-came c ts n came =
     let on : CameBy t ts (suc n) c.check_after.new.budget.exchanges v =
     came_found t ts old c.check_after.new.self is c.self.invariant.0 solved c.check_after.ensures.listed
     (c.values_solve_the_rows-2.ensures.lengths ∙ c.check_after.ensures.variables ∙ sym c.values_solve_the_rows.ensures.lengths) n c.args.budget.now c.check_after.new.budget came c.in-Ok.outcome c.in-Ok.ensures.ends in
-    let over = subst (λ (w : SimplexView). IsOver t w.theory) (sym c.self.view_is) c.requires.over in
+    let over = subst (λ (w : SimplexView). IsTheoryOver t w.theory) (sym c.self.view_is) c.requires.over in
     let with : IsOf v t = board_fits t old c.check_after.new.self c.check_after.ensures.variables c.check_after.ensures.listed is in
     came_over_more v t c.clash.new.table c.in-Ok-clash.ensures.derives.table (suits_over t v with over c.are_of_watched_terms.ensures.over) ts (suc n) c.check_after.new.budget.exchanges on
 
@@ -183,7 +183,7 @@ returns-in-Err-clash-clause-budget c =
     (more.0, c.check_after.ensures.budget ∙ ap (λ (es : List (ℕ × ℕ)). (let b : BudgetView = record { limit = old.limit; learned = old.learned; pivots = old.pivots; exchanges = es } in b)) more.1)
 
 pub returns-in-Err-clash-clause-ends : goal.returns-in-Err-clash-clause-ends
-returns-in-Err-clash-clause-ends c = (Ok c.in-Ok.outcome, answers c.in-Ok.outcome _ c.in_default.not-Fine (stop_differs c.in-Err-clash.stop), subst (λ (v : SimplexView). Ends (ranges_in v.bounds.held) v.board c.check_after.new.self c.args.budget.now c.check_after.new.budget (Ok c.in-Ok.outcome)) c.self.view_is c.in-Ok.ensures.ends)
+returns-in-Err-clash-clause-ends c = (Ok c.in-Ok.outcome, answers c.in-Ok.outcome _ c.in_default.not-Fine (stop_differs c.in-Err-clash.stop), subst (λ (v : SimplexView). EndsCheck (ranges_in v.bounds.held) v.board c.check_after.new.self c.args.budget.now c.check_after.new.budget (Ok c.in-Ok.outcome)) c.self.view_is c.in-Ok.ensures.ends)
 
 pub returns-in-Err-clash-clause-came : goal.returns-in-Err-clash-clause-came
 returns-in-Err-clash-clause-came c ts n came =

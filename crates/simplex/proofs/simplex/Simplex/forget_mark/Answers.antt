@@ -1,7 +1,7 @@
 -- Without the newest mark.
 use Rattle.std.proofs.Common.{◌≡◌, ◌-◌, length, take, ap, sym, subst, ◌∙◌, arith}
 use Rattle.proof_log.specs.Theories.{TheoryView}
-use Rattle.simplex.specs.Views.{SimplexView, Fits, placed_count}
+use Rattle.simplex.specs.Views.{SimplexView, SimplexFits, placed_count}
 use Rattle.simplex.proofs.Fitting.{fits_unmarked, as_many}
 use Rattle.simplex.proofs.simplex.Simplex.forget_mark.Goals as goal
 
@@ -15,10 +15,10 @@ invariant_of-self c =
       bounds = s.bounds;
       starts = s.starts.items;
     } in
-    let f : Fits v = c.self.invariant.0 in
+    let f : SimplexFits v = c.self.invariant.0 in
     let kept : c.len-kept.result - 1 ≡ length s.literals.marks - 1 = omega (arith, c.len-kept.ensures, as_many v f) in
     let starts = c.truncate.ensures.items ∙ ap (λ n. take n s.starts.items) kept in (
-      subst (λ (x : SimplexView). Fits x)
+      subst (λ (x : SimplexView). SimplexFits x)
           (λ i. record { theory = sym c.forget_mark.ensures i; atoms = s.atoms; board = s.board; bounds = s.bounds; starts = sym starts i })
           (fits_unmarked v f),
       c.self.invariant.1 ∙ ap (λ (x : TheoryView). placed_count s.atoms.placed x.watched) (sym c.forget_mark.ensures),

@@ -11,14 +11,14 @@ use Rattle.term_core.specs.declared.ids.TermId.{TermId}
 use Rattle.term_core.specs.Tables.{clause_at}
 use Rattle.sat_budget.specs.Budgets.{StopsBy}
 use Rattle.proof_log.specs.Theories.{terms_watched}
-use Rattle.held_literals.specs.Room.{AreOver}
+use Rattle.held_literals.specs.Room.{AreOverWatched}
 use Rattle.tableau.specs.Numbers.{number_of}
 use Rattle.tableau.specs.Views.{IsTableau}
 use Rattle.simplex_bounds.specs.Deltas.{pair_of}
 use Rattle.simplex_bounds.specs.Held.{ranges_in}
 use Rattle.simplex_numbers.specs.Values.{KeepsAt, KeepsApart}
 use Rattle.simplex_numbers.proofs.Compared.{all_hold}
-use Rattle.simplex.specs.Views.{SimplexView, Fits}
+use Rattle.simplex.specs.Views.{SimplexView, SimplexFits}
 use Rattle.simplex.specs.Values.{TellsValues}
 use Rattle.simplex.specs.Coming.{standing_of, IsStrainAt}
 use Rattle.simplex.proofs.Judging.{strained, keeps_held}
@@ -45,8 +45,8 @@ returns-in-Err-clause-stops c =
     let v = c.args.self.now in
     let t = c.args.table.now in
     let ts = terms_watched t v.theory in
-    let fits = subst Fits c.self.view_is c.self.invariant.0 in
-    let over = subst (λ (w : SimplexView). AreOver w.theory.held w.theory.watched) c.self.view_is c.are_of_watched_terms.ensures.over in
+    let fits = subst SimplexFits c.self.view_is c.self.invariant.0 in
+    let over = subst (λ (w : SimplexView). AreOverWatched w.theory.held w.theory.watched) c.self.view_is c.are_of_watched_terms.ensures.over in
     let bounds = watched_bounds t v c.requires.with fits over in
     let ps = map pair_of c.in_ok-values.values.items in
     let kept = shared_values_are ts (standing_of t v) (clause_at t c.args.shared.now) ps c.in_ok-values.ensures.ok c.requires.shared in
@@ -60,8 +60,8 @@ returns-in-Err-number_with-clause-stops c =
     let v = c.args.self.now in
     let t = c.args.table.now in
     let ts = terms_watched t v.theory in
-    let fits = subst Fits c.self.view_is c.self.invariant.0 in
-    let over = subst (λ (w : SimplexView). AreOver w.theory.held w.theory.watched) c.self.view_is c.are_of_watched_terms.ensures.over in
+    let fits = subst SimplexFits c.self.view_is c.self.invariant.0 in
+    let over = subst (λ (w : SimplexView). AreOverWatched w.theory.held w.theory.watched) c.self.view_is c.are_of_watched_terms.ensures.over in
     let bounds = watched_bounds t v c.requires.with fits over in
     let ds = c.in_ok-values.values.items in
     let e = number_of c.in-Ok.small in
@@ -96,8 +96,8 @@ returns-clause-ok c =
     let us = clause_at t c.args.shared.now in
     let ts = clause_at t c.args.terms.now in
     let keeps = subst (λ (w : SimplexView). KeepsAt e (ranges_in w.bounds.held) (point_in w.board.values)) c.self.view_is c.in-Ok.ensures.keeps in
-    let over = subst (λ (w : SimplexView). AreOver w.theory.held w.theory.watched) c.self.view_is c.are_of_watched_terms.ensures.over in
-    let fits = subst Fits c.self.view_is c.self.invariant.0 in
+    let over = subst (λ (w : SimplexView). AreOverWatched w.theory.held w.theory.watched) c.self.view_is c.are_of_watched_terms.ensures.over in
+    let fits = subst SimplexFits c.self.view_is c.self.invariant.0 in
     let tableau = subst (λ (w : SimplexView). IsTableau w.board.tableau) c.self.view_is (subst IsTableau c.tableau.ensures c.rows_are_in_solved_form.ensures) in
     let held = keeps_held t v c.ids_are_unique.ensures tableau c.requires.with fits.bounds_are over c.requires.fine in
     hold_apart t v c.ids_are_unique.ensures c.requires.with e us c.requires.linear (map pair_of c.in_ok-values.values.items) c.in_ok-values.ensures.ok ts _

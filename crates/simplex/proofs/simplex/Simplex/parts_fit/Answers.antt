@@ -1,7 +1,7 @@
 -- The parts fit together.
 use Rattle.std.proofs.Common.{subst}
-use Rattle.simplex.specs.Views.{SimplexView, Fits}
+use Rattle.simplex.specs.Views.{SimplexView, SimplexFits}
 use Rattle.simplex.proofs.simplex.Simplex.parts_fit.Goals as goal
 
 pub returns : goal.returns
-returns c = subst (λ (v : SimplexView). Fits v) c.self.view_is c.self.invariant.0
+returns c = subst (λ (v : SimplexView). SimplexFits v) c.self.view_is c.self.invariant.0

@@ -5,7 +5,7 @@ use Rattle.spec_causes.specs.Reached.{IsReached, between}
 use Rattle.spec_causes.specs.Counts.{counted}
 use Rattle.term_core.specs.Tables.{term_at}
 use Rattle.sat_budget.specs.Budgets.{StopsBy}
-use Rattle.simplex_atoms.specs.Watching.{OnWide, StrainsAtom}
+use Rattle.simplex_atoms.specs.Watching.{OnAtomOverflow, StrainsAtom}
 use Rattle.simplex_check.proofs.KeptFirst.{keeps_none}
 use Rattle.simplex.specs.Views.{SimplexView}
 use Rattle.simplex_atoms.specs.declared.stop.AtomStop.{AtomStop}
@@ -46,7 +46,7 @@ returns-clause-stops c =
       | in-Ok a ↦ subst (λ r. IfErr r (StopsBy (λ s. (ts : List Term) → Contains ts (term_at t id) → IsStrainAt t ts s w) (λ _. ⊥))) (sym a.result-is) tt
       | in-Err-Wide a ↦ subst (λ r. IfErr r (StopsBy (λ s. (ts : List Term) → Contains ts (term_at t id) → IsStrainAt t ts s w) (λ _. ⊥))) (sym a.result-is)
           (stop_of t w id a.in-Err-Wide.wide
-          (subst (OnWide (StrainsAtom t w.atoms.owners w.board id)) a.in-Err-Wide.field-0-is a.in-Err-Wide.ensures.wide) a.strained.result a.strained.ensures)
+          (subst (OnAtomOverflow (StrainsAtom t w.atoms.owners w.board id)) a.in-Err-Wide.field-0-is a.in-Err-Wide.ensures.wide) a.strained.result a.strained.ensures)
       | in-Err-Memory a ↦ subst (λ r. IfErr r (StopsBy (λ s. (ts : List Term) → Contains ts (term_at t id) → IsStrainAt t ts s w) (λ _. ⊥))) (sym a.result-is) tt
     ]
 

@@ -8,7 +8,7 @@ use Rattle.term_core.specs.Tables.{term_at}
 use Rattle.sat_budget.specs.Budgets.{StopsBy}
 use Rattle.proof_log.specs.Theories.{terms_watched}
 use Rattle.simplex_check.specs.Boards.{IsBasisOf}
-use Rattle.simplex_atoms.specs.Watching.{OnWide}
+use Rattle.simplex_atoms.specs.Watching.{OnAtomOverflow}
 use Rattle.simplex.specs.Coming.{standing_of}
 use Rattle.simplex.proofs.Judging.{strained}
 use Rattle.simplex.proofs.SharedTerms.{next_value, all_values, term_among}
@@ -23,7 +23,7 @@ returns-in-Err-Wide-clause-stops c =
     let u = term_at t (get_or c.args.shared.now c.terms.id-index none) in
     strained t ts v c.in-Err-Wide.wide c.stop_of.result
     (valuing u (term_among (IsSharedAmong ts) t c.args.shared.now c.terms.id-index none c.terms-test.true c.requires.shared)
-    (subst (OnWide (StrainsTerm (standing_of t v) u)) c.in-Err-Wide.field-0-is c.in-Err-Wide.ensures.wide))
+    (subst (OnAtomOverflow (StrainsTerm (standing_of t v) u)) c.in-Err-Wide.field-0-is c.in-Err-Wide.ensures.wide))
     (subst (λ (w : Wide). StopsBy (λ s. (s.wide ≡ w) × IsBasisOf v.board s.basis) (λ _. ⊥) c.stop_of.result) c.in-Err-Wide.wide-is c.stop_of.ensures)
 
 pub terms-preserved : goal.terms-preserved

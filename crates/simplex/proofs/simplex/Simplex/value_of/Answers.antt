@@ -4,7 +4,7 @@ use Rattle.ratio128.specs.Meant.{overflow}
 use Rattle.term_core.specs.Tables.{term_at}
 use Rattle.spec_text.proofs.AnswerLaws.{told}
 use Rattle.simplex_atoms.specs.Stops.{of_fault}
-use Rattle.simplex_atoms.specs.Watching.{OnWide}
+use Rattle.simplex_atoms.specs.Watching.{OnAtomOverflow}
 use Rattle.simplex_atoms.specs.declared.stop.AtomStop.TheVariants as stops
 use Rattle.simplex_atoms.proofs.Numbered.{are_in, variables_as}
 use Rattle.simplex.specs.Coming.{standing_of}
@@ -21,7 +21,7 @@ returns-in_err-form-clause-wide c =
     let t = c.args.table.now in
     let s = standing_of t c.args.self.now in
     let u = term_at t c.args.id in
-    told (OnWide (StrainsTerm s u)) c.from_residual.result (of_fault c.in_err-form.field-0.0) c.from_residual.ensures.1
+    told (OnAtomOverflow (StrainsTerm s u)) c.from_residual.result (of_fault c.in_err-form.field-0.0) c.from_residual.ensures.1
     (form_strains t s u c.in_err-form.field-0.0 c.in_err-form.ensures.exact)
 
 pub returns-in_err-sum-clause-wide : goal.returns-in_err-sum-clause-wide
@@ -29,7 +29,7 @@ returns-in_err-sum-clause-wide c =
     let t = c.args.table.now in
     let s = standing_of t c.args.self.now in
     let u = term_at t c.args.id in
-    told (OnWide (StrainsTerm s u)) c.from_residual-in_err-sum.result (stops.Wide c.in_err-sum.field-0.0) c.from_residual-in_err-sum.ensures.1
+    told (OnAtomOverflow (StrainsTerm s u)) c.from_residual-in_err-sum.result (stops.Wide c.in_err-sum.field-0.0) c.from_residual-in_err-sum.ensures.1
     (sum_strains t s u c.in_ok-form.form c.deref.result.now (overflow c.in_err-sum.field-0.0) c.in_ok-form.ensures.exact (variables_as c.deref.result.now c.in_ok-variables.variables.items c.in_ok-form.form c.deref.ensures.value c.in_ok-variables.ensures) c.in_err-sum.ensures.wide)
 
 pub returns-in_err-value-clause-wide : goal.returns-in_err-value-clause-wide
@@ -37,7 +37,7 @@ returns-in_err-value-clause-wide c =
     let t = c.args.table.now in
     let s = standing_of t c.args.self.now in
     let u = term_at t c.args.id in
-    told (OnWide (StrainsTerm s u)) c.from_residual-in_err-value.result (stops.Wide c.in_err-value.field-0.0) c.from_residual-in_err-value.ensures.1
+    told (OnAtomOverflow (StrainsTerm s u)) c.from_residual-in_err-value.result (stops.Wide c.in_err-value.field-0.0) c.from_residual-in_err-value.ensures.1
     (constant_strains t s u c.in_ok-form.form c.deref.result.now c.in_ok-sum.sum c.number.result c.constant.result (overflow c.in_err-value.field-0.0) c.in_ok-form.ensures.exact
     (variables_as c.deref.result.now c.in_ok-variables.variables.items c.in_ok-form.form c.deref.ensures.value c.in_ok-variables.ensures) c.in_ok-sum.ensures.sum c.constant.ensures c.number.ensures c.in_err-value.ensures.wide)
 

@@ -2,7 +2,7 @@
 use Rattle.std.proofs.Common.{ℕ, refl, sym, ◌∙◌, ap, subst, arith}
 use Rattle.std.specs.Option.{is_some}
 use Rattle.spec_causes.specs.Reached.{IsReached}
-use Rattle.simplex_atoms.specs.Atoms.{AtomsView, ground_of, setting_of, AreRight}
+use Rattle.simplex_atoms.specs.Atoms.{AtomsView, ground_of, setting_of, AtomsFit}
 use Rattle.simplex_atoms.specs.Standings.{standing_in}
 use Rattle.simplex_atoms.proofs.Growth.{grows_same}
 use Rattle.simplex_atoms.proofs.Fitting.{placed_more}
@@ -36,7 +36,7 @@ returns-in_err-place-clause-right c =
     let ss = c.self.inside.sums in
     let rs = c.place_of-made.new.sums in
     let b = c.args.board.now in
-    let Right : AtomsView → Type 0 = λ a. AreRight t a b c.args.bounds.now in
+    let Right : AtomsView → Type 0 = λ a. AtomsFit t a b c.args.bounds.now in
     let right : Right (atoms_of os ss c.self.inside.places.entries) = subst Right (sym c.self.view_is) c.requires.right in
     right_on t os us ss rs c.self.inside.places.entries c.self.inside.places.entries b c.place_of-made.new.board c.args.bounds.now c.args.bounds.now right refl c.place_of-made.ensures.sums
     c.place_of-made.ensures.counted c.place_of-made.ensures.grounded c.place_of-made.ensures.grows (c.place_of-made.ensures.there t c.in_ok-form.ensures.there right.owners_in) c.are_once.ensures (omega arith)
@@ -55,7 +55,7 @@ returns-in_err-reach-clause-right c =
     let ss = c.self.inside.sums in
     let rs = c.place_of-made.new.sums in
     let b = c.args.board.now in
-    let Right : AtomsView → Type 0 = λ a. AreRight t a b c.args.bounds.now in
+    let Right : AtomsView → Type 0 = λ a. AtomsFit t a b c.args.bounds.now in
     let right : Right (atoms_of os ss c.self.inside.places.entries) = subst Right (sym c.self.view_is) c.requires.right in
     right_on t os us ss rs c.self.inside.places.entries c.self.inside.places.entries b c.place_of-made.new.board c.args.bounds.now c.reach.new.bounds right refl c.place_of-made.ensures.sums
     c.place_of-made.ensures.counted c.place_of-made.ensures.grounded c.place_of-made.ensures.grows (c.place_of-made.ensures.there t c.in_ok-form.ensures.there right.owners_in) c.are_once.ensures c.reach.ensures.kept.variables
@@ -69,7 +69,7 @@ returns-in_err-insert-clause-right c =
     let ss = c.self.inside.sums in
     let rs = c.place_of-made.new.sums in
     let b = c.args.board.now in
-    let Right : AtomsView → Type 0 = λ a. AreRight t a b c.args.bounds.now in
+    let Right : AtomsView → Type 0 = λ a. AtomsFit t a b c.args.bounds.now in
     let right : Right (atoms_of os ss c.self.inside.places.entries) = subst Right (sym c.self.view_is) c.requires.right in
     right_on t os us ss rs c.self.inside.places.entries c.insert.new.self.entries b c.place_of-made.new.board c.args.bounds.now c.reach.new.bounds right c.in_err-insert.ensures.err c.place_of-made.ensures.sums
     c.place_of-made.ensures.counted c.place_of-made.ensures.grounded c.place_of-made.ensures.grows (c.place_of-made.ensures.there t c.in_ok-form.ensures.there right.owners_in) c.are_once.ensures c.reach.ensures.kept.variables
@@ -85,9 +85,9 @@ returns-clause-right c =
     let b = c.args.board.now in
     let d = c.place_of-made.new.board in
     let place = c.in_ok-place.place in
-    let Right : AtomsView → Type 0 = λ a. AreRight t a b c.args.bounds.now in
+    let Right : AtomsView → Type 0 = λ a. AtomsFit t a b c.args.bounds.now in
     let right : Right (atoms_of os ss c.self.inside.places.entries) = subst Right (sym c.self.view_is) c.requires.right in
-    let on : AreRight t (atoms_of us rs c.self.inside.places.entries) d c.reach.new.bounds =
+    let on : AtomsFit t (atoms_of us rs c.self.inside.places.entries) d c.reach.new.bounds =
     right_on t os us ss rs c.self.inside.places.entries c.self.inside.places.entries b d c.args.bounds.now c.reach.new.bounds right refl c.place_of-made.ensures.sums
     c.place_of-made.ensures.counted c.place_of-made.ensures.grounded c.place_of-made.ensures.grows (c.place_of-made.ensures.there t c.in_ok-form.ensures.there right.owners_in) c.are_once.ensures c.reach.ensures.kept.variables
     (omega (arith, c.reach.ensures.within, c.len.ensures, c.place_of-made.ensures.counted)) in
@@ -110,8 +110,8 @@ returns-in_err-place-clause-came c ts n es there h =
     let t = c.args.table.now in
     let b = c.args.board.now in
     let os = c.self.inside.owners.list in
-    let right : AreRight t (atoms_of os c.self.inside.sums c.self.inside.places.entries) b c.args.bounds.now =
-    subst (λ (a : AtomsView). AreRight t a b c.args.bounds.now) (sym c.self.view_is) c.requires.right in
+    let right : AtomsFit t (atoms_of os c.self.inside.sums c.self.inside.places.entries) b c.args.bounds.now =
+    subst (λ (a : AtomsView). AtomsFit t a b c.args.bounds.now) (sym c.self.view_is) c.requires.right in
     let before : IsReached ts n es (standing_in t os b) = subst (λ (a : AtomsView). IsReached ts n es (standing_in t a.owners b)) (sym c.self.view_is) h in
     atom_stops t c.args.id c.in-Some.sides c.in_ok-form.form os c.place_of-made.new.owners.list b c.place_of-made.new.board c.in-Some.ensures.means c.in_ok-form.ensures.exact c.in_ok-form.ensures.there
     (c.ids_are_unique.ensures, right.owners_in) ts n es there before c.in_err-place.field-0.0 c.from_residual-in_err-place.result c.in_err-place.ensures.came c.from_residual-in_err-place.ensures.1
@@ -121,8 +121,8 @@ returns-clause-came c ts n es there h =
     let t = c.args.table.now in
     let b = c.args.board.now in
     let os = c.self.inside.owners.list in
-    let right : AreRight t (atoms_of os c.self.inside.sums c.self.inside.places.entries) b c.args.bounds.now =
-    subst (λ (a : AtomsView). AreRight t a b c.args.bounds.now) (sym c.self.view_is) c.requires.right in
+    let right : AtomsFit t (atoms_of os c.self.inside.sums c.self.inside.places.entries) b c.args.bounds.now =
+    subst (λ (a : AtomsView). AtomsFit t a b c.args.bounds.now) (sym c.self.view_is) c.requires.right in
     let before : IsReached ts n es (standing_in t os b) = subst (λ (a : AtomsView). IsReached ts n es (standing_in t a.owners b)) (sym c.self.view_is) h in
     atom_comes t c.args.id c.in-Some.sides c.in_ok-form.form os c.place_of-made.new.owners.list b c.place_of-made.new.board c.in-Some.ensures.means c.in_ok-form.ensures.exact c.in_ok-form.ensures.there
     (c.ids_are_unique.ensures, right.owners_in) ts n es there before c.in_ok-place.ensures.came

@@ -1,10 +1,10 @@
 use Rattle.std.proofs.Common.{◌≡◌, ◌≤◌, length, take, vec_capacity}
-use Rattle.simplex_bounds.specs.Kept.{AreKept}
+use Rattle.simplex_bounds.specs.Kept.{LimitsFit}
 use Rattle.simplex_bounds.proofs.held.Bounds.back.Given as goal
 
 abbrev pub invariant-loop-self : goal.invariant-loop-self
 invariant-loop-self l = record {
-  kept : AreKept l.self-inside.limits.items l.self-inside.entries.items;
+  kept : LimitsFit l.self-inside.limits.items l.self-inside.entries.items;
   enough : l.len ≤ length l.self-inside.entries.items;
   same : take l.len l.self-inside.entries.items ≡ take l.len l.initial.self-inside.entries.items;
   variables : length l.self-inside.limits.items ≡ length l.initial.self-inside.limits.items;

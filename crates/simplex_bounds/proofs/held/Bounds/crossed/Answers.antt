@@ -1,6 +1,6 @@
 use Rattle.std.proofs.Common.{◌-◌, ◌<◌, length, subst, sym, arith}
 use Rattle.std.proofs.lemmas.Bool.Decides.{nat_tests}
-use Rattle.simplex_bounds.specs.Kept.{bounds_of, AreKept}
+use Rattle.simplex_bounds.specs.Kept.{bounds_of, LimitsFit}
 use Rattle.simplex_bounds.specs.Held.{IsLeastCrossed}
 use Rattle.simplex_bounds.proofs.Changes.{last_crossed}
 use Rattle.simplex_bounds.proofs.held.Bounds.crossed.Goals as goal
@@ -13,6 +13,6 @@ returns-in-Some c =
     let some = c.in-Some.ensures.item in
     let there = some.0 in
     let full : 0 < length es = grind (arith, nat_tests) in
-    let kept : AreKept ls es = subst (AreKept ls) (sym c.deref.ensures.value) c.self.invariant in
+    let kept : LimitsFit ls es = subst (LimitsFit ls) (sym c.deref.ensures.value) c.self.invariant in
     let least = last_crossed ls es e (length es - 1) kept (omega (arith, full)) some.1 in
     rw (← c.self.view_is) (subst (λ es. IsLeastCrossed (bounds_of es) e.crossed) c.deref.ensures.value least)

@@ -2,7 +2,7 @@ use Rattle.std.proofs.Common.{◌≡◌, ◌<◌, ◌∷◌, ◌++◌, [], lengt
 use Rattle.std.proofs.lemmas.List.{length-map, map-append}
 use Rattle.ratio128.specs.Meant.{overflow}
 use Rattle.spec_tableaux.specs.Rows.{sum_of}
-use Rattle.spec_tableaux.specs.SolvedForms.{IsOver}
+use Rattle.spec_tableaux.specs.SolvedForms.{AllVariables}
 use Rattle.spec_tableaux.specs.Strains.{StrainsSum}
 use Rattle.tableau.specs.Entries.{entries_of}
 use Rattle.tableau.proofs.Telling.{told_wide, passed_on}
@@ -15,9 +15,9 @@ use Rattle.simplex_check.proofs.board.Board.add_row.Goals as goal
 
 pub sum_at-requires : goal.sum_at-requires
 sum_at-requires c =
-    let over = subst (λ (b : BoardView). IsOver (λ y. y < b.tableau.variables) (entries_of c.args.entries.now)) (sym c.self.view_is) c.requires in
+    let over = subst (λ (b : BoardView). AllVariables (λ y. y < b.tableau.variables) (entries_of c.args.entries.now)) (sym c.self.view_is) c.requires in
     let same : c.self.inside.tableau.variables ≡ length c.deref.result.now = sym c.self.invariant.lengths ∙ length-map c.self.inside.values.items pair_of ∙ sym (ap length c.deref.ensures.value) in
-    subst (λ n. IsOver (λ y. y < n) (entries_of c.args.entries.now)) same over
+    subst (λ n. AllVariables (λ y. y < n) (entries_of c.args.entries.now)) same over
 
 pub returns-in_err-value-clause-wide : goal.returns-in_err-value-clause-wide
 returns-in_err-value-clause-wide c =
@@ -26,7 +26,7 @@ returns-in_err-value-clause-wide c =
     (subst (λ vs. StrainsValue (point_in (map pair_of vs)) (entries_of c.args.entries.now) (overflow c.in_err-value.field-0.0)) c.deref.ensures.value c.in_err-value.ensures.wide)))
 
 pub add_row-requires : goal.add_row-requires
-add_row-requires c = subst (λ (b : BoardView). IsOver (λ y. y < b.tableau.variables) (entries_of c.args.entries.now)) (sym c.self.view_is) c.requires
+add_row-requires c = subst (λ (b : BoardView). AllVariables (λ y. y < b.tableau.variables) (entries_of c.args.entries.now)) (sym c.self.view_is) c.requires
 
 pub returns-in_err-add_row-clause-wide : goal.returns-in_err-add_row-clause-wide
 returns-in_err-add_row-clause-wide c =
@@ -36,7 +36,7 @@ returns-in_err-add_row-clause-wide c =
 
 pub invariant_of-self-2 : goal.invariant_of-self-2
 invariant_of-self-2 c =
-    let over = subst (λ (b : BoardView). IsOver (λ y. y < b.tableau.variables) (entries_of c.args.entries.now)) (sym c.self.view_is) c.requires in
+    let over = subst (λ (b : BoardView). AllVariables (λ y. y < b.tableau.variables) (entries_of c.args.entries.now)) (sym c.self.view_is) c.requires in
     sum_added c.self.inside.tableau c.add_row.new.self (map pair_of c.self.inside.values.items) (map pair_of c.push_reserved.new.self.items) (entries_of c.args.entries.now) (pair_of c.in_ok-value.value) c.rows_are_in_solved_form.ensures c.in_ok-add_row.ensures.ok.1
     (ap (map pair_of) (c.push_reserved.ensures.items ∙ ap (λ z. z ++ c.in_ok-value.value ∷ []) c.in_ok-reserve.ensures.items) ∙ map-append pair_of c.self.inside.values.items (c.in_ok-value.value ∷ []))
     (c.in_ok-value.ensures.value ∙ ap (λ vs. sum_of deltas (point_in (map pair_of vs)) (entries_of c.args.entries.now)) c.deref.ensures.value)

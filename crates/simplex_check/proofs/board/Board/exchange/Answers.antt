@@ -2,7 +2,7 @@ use Rattle.std.proofs.Common.{◌≡◌, map, ap, sym, ◌∙◌, subst, ℕ}
 use Rattle.ratio128.specs.Meant.{overflow}
 use Rattle.spec_strains.specs.Deltas.{delta_added}
 use Rattle.spec_tableaux.specs.SolvedForms.{IsSolved}
-use Rattle.spec_tableaux.specs.LeastVariable.{Says, Exchanges, exchange, distance, moved}
+use Rattle.spec_tableaux.specs.LeastVariable.{RuleSays, Exchanges, exchange, distance, moved}
 use Rattle.spec_tableaux.specs.Numbers.{numbers}
 use Rattle.spec_tableaux.specs.Strains.{StrainsExchange}
 use Rattle.tableau.proofs.Telling.{told_wide, passed_on}
@@ -14,7 +14,7 @@ use Rattle.simplex_check.specs.Changes.{Lead, written, is_changed}
 use Rattle.simplex_check.specs.Suspects.{SuspectBut}
 use Rattle.simplex_check.proofs.Suspecting.{suspect_exchange}
 use Rattle.tableau.specs.Views.{TableauView}
-use Rattle.simplex_check.specs.Kept.{view_of}
+use Rattle.simplex_check.specs.Kept.{assignment_view}
 use Rattle.spec_strains.specs.Strains.{Strains, StrainsMove, sum}
 use Rattle.simplex_check.proofs.Shifts.{lead_written, same_lengths, exchange_is_made, pivot_said, entering_known, violates_out, strains_entering, strains_rows}
 use Rattle.simplex_check.proofs.board.Board.exchange.Goals as goal
@@ -30,13 +30,13 @@ returns-in_err-value-clause-wide c =
 
 pub changes_of-requires-clause-known : goal.changes_of-requires-clause-known
 changes_of-requires-clause-known c =
-    let says = subst (λ (b : BoardView). Says deltas (ranges_in c.args.bounds.now.held) (state_of b) (exchange c.args.leaving c.args.entering)) (sym c.self.view_is) c.requires.says in
-    entering_known c.self.inside.tableau c.args.leaving c.args.entering c.rows_are_in_solved_form.ensures (pivot_said (ranges_in c.args.bounds.now.held) (state_of (view_of c.self.inside)) c.args.leaving c.args.entering c.rows_are_in_solved_form.ensures.solved says)
+    let says = subst (λ (b : BoardView). RuleSays deltas (ranges_in c.args.bounds.now.held) (state_of b) (exchange c.args.leaving c.args.entering)) (sym c.self.view_is) c.requires.says in
+    entering_known c.self.inside.tableau c.args.leaving c.args.entering c.rows_are_in_solved_form.ensures (pivot_said (ranges_in c.args.bounds.now.held) (state_of (assignment_view c.self.inside)) c.args.leaving c.args.entering c.rows_are_in_solved_form.ensures.solved says)
 
 pub changes_of-requires-clause-nonbasic : goal.changes_of-requires-clause-nonbasic
 changes_of-requires-clause-nonbasic c =
-    let says = subst (λ (b : BoardView). Says deltas (ranges_in c.args.bounds.now.held) (state_of b) (exchange c.args.leaving c.args.entering)) (sym c.self.view_is) c.requires.says in
-    (pivot_said (ranges_in c.args.bounds.now.held) (state_of (view_of c.self.inside)) c.args.leaving c.args.entering c.rows_are_in_solved_form.ensures.solved says).nonbasic
+    let says = subst (λ (b : BoardView). RuleSays deltas (ranges_in c.args.bounds.now.held) (state_of b) (exchange c.args.leaving c.args.entering)) (sym c.self.view_is) c.requires.says in
+    (pivot_said (ranges_in c.args.bounds.now.held) (state_of (assignment_view c.self.inside)) c.args.leaving c.args.entering c.rows_are_in_solved_form.ensures.solved says).nonbasic
 
 pub returns-in_err-changes-clause-wide : goal.returns-in_err-changes-clause-wide
 returns-in_err-changes-clause-wide c =
@@ -51,8 +51,8 @@ returns-in_err-changes-clause-wide c =
 
 pub pivot-requires : goal.pivot-requires
 pivot-requires c =
-    let says = subst (λ (b : BoardView). Says deltas (ranges_in c.args.bounds.now.held) (state_of b) (exchange c.args.leaving c.args.entering)) (sym c.self.view_is) c.requires.says in
-    pivot_said (ranges_in c.args.bounds.now.held) (state_of (view_of c.self.inside)) c.args.leaving c.args.entering c.rows_are_in_solved_form.ensures.solved says
+    let says = subst (λ (b : BoardView). RuleSays deltas (ranges_in c.args.bounds.now.held) (state_of b) (exchange c.args.leaving c.args.entering)) (sym c.self.view_is) c.requires.says in
+    pivot_said (ranges_in c.args.bounds.now.held) (state_of (assignment_view c.self.inside)) c.args.leaving c.args.entering c.rows_are_in_solved_form.ensures.solved says
 
 pub returns-in_err-pivot-clause-wide : goal.returns-in_err-pivot-clause-wide
 returns-in_err-pivot-clause-wide c =
@@ -73,11 +73,11 @@ values_at c =
     lead_written (point_in (map pair_of c.self.inside.values.items)) (moved deltas c.self.inside.tableau.rows c.args.entering (pair_of c.in_ok-d.d) (point_in (map pair_of c.self.inside.values.items))) c.in_ok-changes.changes.items (point_in (map pair_of c.write.new.values.items))
     (lead_at c) (λ y. c.write.ensures.point y ∙ ap (λ cs. written cs (point_in (map pair_of c.self.inside.values.items)) y) c.deref-3.ensures.value)
 
-exchanged : (c : goal.After-drop-changes-2) → Exchanges deltas (ranges_in c.args.bounds.now.held) (state_of (view_of c.self.inside)) c.args.leaving c.args.entering (state_of (record { tableau = c.pivot.new.self; values = map pair_of c.write.new.values.items }))
+exchanged : (c : goal.After-drop-changes-2) → Exchanges deltas (ranges_in c.args.bounds.now.held) (state_of (assignment_view c.self.inside)) c.args.leaving c.args.entering (state_of (record { tableau = c.pivot.new.self; values = map pair_of c.write.new.values.items }))
 exchanged c =
     let ranges = ranges_in c.args.bounds.now.held in
-    let b = view_of c.self.inside in
-    let says = subst (λ (b : BoardView). Says deltas ranges (state_of b) (exchange c.args.leaving c.args.entering)) (sym c.self.view_is) c.requires.says in
+    let b = assignment_view c.self.inside in
+    let says = subst (λ (b : BoardView). RuleSays deltas ranges (state_of b) (exchange c.args.leaving c.args.entering)) (sym c.self.view_is) c.requires.says in
     let exact : pair_of c.in_ok-d.d ≡ distance deltas ranges (state_of b) c.args.leaving c.args.entering = c.in_ok-d.ensures.exact ∙ ap (λ (b : BoardView). distance deltas ranges (state_of b) c.args.leaving c.args.entering) (sym c.self.view_is) in
     exchange_is_made ranges b c.pivot.new.self (map pair_of c.write.new.values.items) c.args.leaving c.args.entering c.rows_are_in_solved_form.ensures.solved c.self.invariant.solves
     (pivot_said ranges (state_of b) c.args.leaving c.args.entering c.rows_are_in_solved_form.ensures.solved says) c.in_ok-pivot.ensures.ok
@@ -96,8 +96,8 @@ returns-clause-made c =
 pub returns-clause-suspect : goal.returns-clause-suspect
 returns-clause-suspect c =
     let ranges = ranges_in c.args.bounds.now.held in
-    let b = view_of c.self.inside in
-    let says = subst (λ (b : BoardView). Says deltas ranges (state_of b) (exchange c.args.leaving c.args.entering)) (sym c.self.view_is) c.requires.says in
+    let b = assignment_view c.self.inside in
+    let says = subst (λ (b : BoardView). RuleSays deltas ranges (state_of b) (exchange c.args.leaving c.args.entering)) (sym c.self.view_is) c.requires.says in
     let before = subst (λ (b : BoardView). SuspectBut ranges (state_of b) c.args.leaving c.args.suspects.now) (sym c.self.view_is) c.requires.suspect in
     suspect_exchange ranges (state_of b) (state_of (record { tableau = c.pivot.new.self; values = map pair_of c.write.new.values.items })) c.args.leaving c.args.entering
     (moved deltas c.self.inside.tableau.rows c.args.entering (pair_of c.in_ok-d.d) (point_in b.values)) c.in_ok-changes.changes.items c.args.suspects.now c.add_all.new.self

@@ -1,5 +1,5 @@
 use Rattle.std.proofs.Common.{sym, subst}
-use Rattle.tableau.specs.Views.{OnWide}
+use Rattle.tableau.specs.Views.{OnRowOverflow}
 use Rattle.simplex_bounds.specs.Held.{ranges_in}
 use Rattle.simplex_check.specs.Boards.{BoardView, state_of}
 use Rattle.spec_strains.specs.Strains.{Strains}
@@ -9,4 +9,4 @@ use Rattle.simplex_check.proofs.board.Board.exchange_or_stop.Goals as goal
 pub returns-in-Err-clause-stops : goal.returns-in-Err-clause-stops
 returns-in-Err-clause-stops c =
     stops_step (ranges_in c.args.bounds.now.held) c.exchange.new.self c.in-Err.stop c.stop_of.result
-    (subst (λ (b : BoardView). OnWide (Strains (ranges_in c.args.bounds.now.held) (state_of b)) c.in-Err.stop) (sym c.in-Err.ensures.same) c.in-Err.ensures.wide) c.stop_of.ensures
+    (subst (λ (b : BoardView). OnRowOverflow (Strains (ranges_in c.args.bounds.now.held) (state_of b)) c.in-Err.stop) (sym c.in-Err.ensures.same) c.in-Err.ensures.wide) c.stop_of.ensures

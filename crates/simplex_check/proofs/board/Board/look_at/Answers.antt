@@ -1,5 +1,5 @@
 use Rattle.std.proofs.Common.{sym, ◌∙◌, subst}
-use Rattle.tableau.specs.Views.{OnWide}
+use Rattle.tableau.specs.Views.{OnRowOverflow}
 use Rattle.spec_strains.specs.Strains.{Strains}
 use Rattle.simplex_bounds.specs.Held.{ranges_in}
 use Rattle.simplex_check.specs.Boards.{BoardView, state_of}
@@ -22,5 +22,5 @@ returns-in-Err-settle_one-clause-stops c =
     let same = c.in-Err-settle_one.ensures.same in (
       same,
       stops_step ranges c.settle_one.new.self c.in-Err-settle_one.stop c.stop_of.result
-          (subst (λ (b : BoardView). OnWide (Strains ranges (state_of b)) c.in-Err-settle_one.stop) (sym same) c.in-Err-settle_one.ensures.wide) c.stop_of.ensures,
+          (subst (λ (b : BoardView). OnRowOverflow (Strains ranges (state_of b)) c.in-Err-settle_one.stop) (sym same) c.in-Err-settle_one.ensures.wide) c.stop_of.ensures,
     )

@@ -1,7 +1,7 @@
 use Rattle.std.proofs.Common.{rules, ◌≡◌, ◌<◌, ◌++◌, ◌∷◌, [], Some, length, refl, sym, ap, subst, ◌∙◌, arith}
 use Rattle.std.proofs.lemmas.List.{map-append}
 use Rattle.spec_tableaux.specs.Rows.{flattened}
-use Rattle.spec_tableaux.specs.SolvedForms.{IsOver}
+use Rattle.spec_tableaux.specs.SolvedForms.{AllVariables}
 use Rattle.spec_tableaux.specs.Numbers.{numbers}
 use Rattle.tableau.specs.Entries.{entries_of, row_meant, rows_of}
 use Rattle.tableau.specs.Views.{TableauView}
@@ -11,14 +11,14 @@ use Rattle.tableau.proofs.Telling.{not_err}
 use Rattle.tableau.proofs.table.Tableau.add_row.Goals as goal
 
 pub flattened-requires-clause-low : goal.flattened-requires-clause-low
-flattened-requires-clause-low c = subst (λ n. IsOver (λ y. y < n) (entries_of c.args.entries.now)) (sym (ap length c.deref-2.ensures.value ∙ ap (λ (t : TableauView). t.variables) c.self.view_is)) c.requires
+flattened-requires-clause-low c = subst (λ n. AllVariables (λ y. y < n) (entries_of c.args.entries.now)) (sym (ap length c.deref-2.ensures.value ∙ ap (λ (t : TableauView). t.variables) c.self.view_is)) c.requires
 
 pub note_row-requires-clause-over : goal.note_row-requires-clause-over
 note_row-requires-clause-over c =
     let i = c.self.inside in
     let is : entries_of c.in_ok-made.made.items ≡ flattened numbers (rows_of i.rows.items) [] (entries_of c.args.entries.now) = c.in_ok-made.ensures.ok ∙ ap (λ z. flattened numbers (rows_of z) [] (entries_of c.args.entries.now)) c.deref.ensures.value in
-    let low : IsOver (λ y. y < length i.places.items) (entries_of c.args.entries.now) = subst (λ n. IsOver (λ y. y < n) (entries_of c.args.entries.now)) (sym (ap (λ (t : TableauView). t.variables) c.self.view_is)) c.requires in
-    subst (λ n. IsOver (λ y. y < n) (entries_of c.deref-3.result.now)) (sym (ap length c.in_ok-reserve_one.ensures.columns)) (subst (λ z. IsOver (λ y. y < length i.columns.items) (entries_of z)) (sym c.deref-3.ensures.value)
+    let low : AllVariables (λ y. y < length i.places.items) (entries_of c.args.entries.now) = subst (λ n. AllVariables (λ y. y < n) (entries_of c.args.entries.now)) (sym (ap (λ (t : TableauView). t.variables) c.self.view_is)) c.requires in
+    subst (λ n. AllVariables (λ y. y < n) (entries_of c.deref-3.result.now)) (sym (ap length c.in_ok-reserve_one.ensures.columns)) (subst (λ z. AllVariables (λ y. y < length i.columns.items) (entries_of z)) (sym c.deref-3.ensures.value)
     (made_below i c.self.invariant (length i.rows.items) (length i.places.items) (entries_of c.args.entries.now) (entries_of c.in_ok-made.made.items) refl refl low is))
 
 pub invariant_of-self-then-is_err : goal.invariant_of-self-then-is_err
@@ -36,7 +36,7 @@ pub invariant_of-self-2 : goal.invariant_of-self-2
 invariant_of-self-2 c =
     let i = c.self.inside in
     let is : entries_of c.in_ok-made.made.items ≡ flattened numbers (rows_of i.rows.items) [] (entries_of c.args.entries.now) = c.in_ok-made.ensures.ok ∙ ap (λ z. flattened numbers (rows_of z) [] (entries_of c.args.entries.now)) c.deref.ensures.value in
-    let low : IsOver (λ y. y < length i.places.items) (entries_of c.args.entries.now) = subst (λ n. IsOver (λ y. y < n) (entries_of c.args.entries.now)) (sym (ap (λ (t : TableauView). t.variables) c.self.view_is)) c.requires in
+    let low : AllVariables (λ y. y < length i.places.items) (entries_of c.args.entries.now) = subst (λ n. AllVariables (λ y. y < n) (entries_of c.args.entries.now)) (sym (ap (λ (t : TableauView). t.variables) c.self.view_is)) c.requires in
     let last : c.len-number.result ≡ length i.rows.items = let k = c.len-number.ensures in omega arith in
     let new : c.len-basic.result ≡ length i.places.items = let k = c.len-basic.ensures in omega arith in
     let copy : c.in_ok-copy.copy.items ≡ c.args.entries.now = search rules in

@@ -1,6 +1,6 @@
 -- A number's term is that of its node.
 use Rattle.std.proofs.Common.{◌≡◌, ◌<◌, [], length, sym, subst, arith}
-use Rattle.term_core.specs.Tables.{term_at, Fits, shape_of, shapes_of, shape_term, grown}
+use Rattle.term_core.specs.Tables.{term_at, ShapeFits, shape_of, shapes_of, shape_term, grown}
 use Rattle.term_core.proofs.ShapesGrown.{IsAt, terms-length, at-term, at-fits}
 use Rattle.term_core.proofs.TermsApart.{node_at}
 use Rattle.term_core.proofs.terms.TermTable.node.Goals as goal
@@ -23,7 +23,7 @@ pub returns-clause-means : goal.returns-clause-means
 returns-clause-means c = subst (λ t. term_at t c.args.id ≡ shape_term t (shape_of c.index-as_slice-id.result)) c.self.view_is (at-term _ _ (shape_of c.index-as_slice-id.result) c.args.id.0 (here c))
 
 pub returns-clause-placed : goal.returns-clause-placed
-returns-clause-placed c = subst (λ t. Fits t (shape_of c.index-as_slice-id.result)) c.self.view_is (at-fits _ _ (shape_of c.index-as_slice-id.result) c.args.id.0 (here c))
+returns-clause-placed c = subst (λ t. ShapeFits t (shape_of c.index-as_slice-id.result)) c.self.view_is (at-fits _ _ (shape_of c.index-as_slice-id.result) c.args.id.0 (here c))
 
 pub returns-clause-before : goal.returns-clause-before
 returns-clause-before c k d lt = omega (arith, (here c).fits.arguments k d lt, (here c).long)

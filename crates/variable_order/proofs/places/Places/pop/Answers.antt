@@ -4,7 +4,7 @@ use Rattle.std.specs.Option.{is_some}
 use Rattle.std.proofs.lemmas.Bool.{cases_lt}
 use Rattle.std.proofs.lemmas.List.{length-set, map-set, append-nil, nil_from_length}
 use Rattle.term_core.specs.declared.ids.TermId.{TermId}
-use Rattle.variable_order.specs.Orders.{IsTaken, IsEmpty}
+use Rattle.variable_order.specs.Orders.{IsRemoved, IsEmpty}
 use Rattle.variable_order.specs.Rows.{RowView}
 use Rattle.variable_order.specs.Kept.{ArePlaces}
 use Rattle.variable_order.proofs.Rows.{member_of, none_in, last_known, last_place, placed_popped}
@@ -42,7 +42,7 @@ returns c =
     let h = c.self.inside in
     let v = c.in-Some.v in
     let placed = subst (λ (xs : List TermId). ArePlaces xs h.places.items) c.in-Some.ensures.items c.self.invariant.placed in
-    subst (λ (r : RowView). IsTaken r.members v (map is_some (set h.places.items v.0 None))) c.self.view_is (record {
+    subst (λ (r : RowView). IsRemoved r.members v (map is_some (set h.places.items v.0 None))) c.self.view_is (record {
       was_in = member_of h.places.items v.0 ∙ ap is_some (last_place c.pop.new.self.items v h.places.items placed);
       members = map-set is_some h.places.items v.0 None;
     })
