@@ -6,8 +6,8 @@ use Rattle.smt_sexpr.specs.Items.{tree_meant}
 use Rattle.linear_form.specs.Coefficients.{coefficient_meant}
 use Rattle.spec_arithmetic.specs.Contradictions.{Coefficient}
 use Rattle.spec_arithmetic.specs.Coefficients.{opposite_coefficient, quotient_coefficient, coefficient_of}
-use Rattle.alethe_reader.specs.declared.coefficients.Opened.{Opened}
-use Rattle.alethe_reader.specs.declared.coefficients.Opened.TheVariants as openings
+use Rattle.alethe_reader.specs.declared.coefficients.OpenedNumber.{OpenedNumber}
+use Rattle.alethe_reader.specs.declared.coefficients.OpenedNumber.TheVariants as openings
 use Rattle.alethe_reader.specs.declared.coefficients.Pending.{Pending}
 use Rattle.alethe_reader.specs.declared.coefficients.Pending.TheVariants as pendings
 use Rattle.alethe_reader.specs.declared.coefficients.Here.{Here}
@@ -30,13 +30,13 @@ abbrev pub with_word : Word → Trees → Trees
 with_word w ts = more (atom w.at w.kind w.bytes) ts
 
 -- the number that an opened text writes
-abbrev pub opened_number : Opened → Coefficient
+abbrev pub opened_number : OpenedNumber → Coefficient
 opened_number (openings.Number c) = coefficient_meant c
 opened_number (openings.Opposite t) = opposite_coefficient (coefficient_of (tree_meant t))
 opened_number (openings.Quotient t d) = quotient_coefficient (coefficient_of (tree_meant t)) (coefficient_of (tree_meant d))
 
 -- and in how many steps what is left of it is read
-abbrev pub opened_steps : Opened → ℕ
+abbrev pub opened_steps : OpenedNumber → ℕ
 opened_steps (openings.Number c) = 0
 opened_steps (openings.Opposite t) = 1 + steps (tree_meant t)
 opened_steps (openings.Quotient t d) = 2 + steps (tree_meant t) + steps (tree_meant d)

@@ -23,7 +23,7 @@ use term_reader::literal;
 
 /// Says what number a text has, as far as its own word tells.
 #[derive(Clone, Copy)]
-enum Opened<'a> {
+enum OpenedNumber<'a> {
     /// This one.
     Number(Coeff),
     /// That of a text, with the other sign.
@@ -136,50 +136,50 @@ fn quotient_coefficient(number: Coeff, divisor: Coeff) -> Coeff
 }
 
 /// Opens a list by its first word and what follows this.
-fn open_by<'a>(word: Word<'a>, arguments: Trees<'a>) -> Opened<'a>
+fn open_by<'a>(word: Word<'a>, arguments: Trees<'a>) -> OpenedNumber<'a>
     ensures number { (at end : ℕ) → opened_number result
         ≡ coefficient_of (list at (with_word (word_view word.entry) (trees_meant arguments.entry)) end) }
     ensures less { opened_steps result < 3 + steps_of_all (trees_meant arguments.entry) }
 {
     let Some((first, rest)) = split(arguments) else {
-        return Opened::Number(Coeff::Shape);
+        return OpenedNumber::Number(Coeff::Shape);
     };
     let Some((second, others)) = split(rest) else {
         if is_word(b"-", word) {
-            return Opened::Opposite(first);
+            return OpenedNumber::Opposite(first);
         }
-        return Opened::Number(Coeff::Shape);
+        return OpenedNumber::Number(Coeff::Shape);
     };
     match split(others) {
-        Some(_) => Opened::Number(Coeff::Shape),
+        Some(_) => OpenedNumber::Number(Coeff::Shape),
         None => {
             if is_word(b"/", word) {
-                return Opened::Quotient(first, second);
+                return OpenedNumber::Quotient(first, second);
             }
-            Opened::Number(Coeff::Shape)
+            OpenedNumber::Number(Coeff::Shape)
         }
     }
 }
 
 /// Opens a list by the trees in it.
-fn open_list(inside: Trees<'_>) -> Opened<'_>
+fn open_list(inside: Trees<'_>) -> OpenedNumber<'_>
     ensures number { (at end : ℕ) → opened_number result
         ≡ coefficient_of (list at (trees_meant inside.entry) end) }
     ensures less { opened_steps result < 2 + steps_of_all (trees_meant inside.entry) }
 {
     match word_first(inside) {
         Some((word, arguments)) => open_by(word, arguments),
-        None => Opened::Number(Coeff::Shape),
+        None => OpenedNumber::Number(Coeff::Shape),
     }
 }
 
 /// Opens a text.
-fn open_text(text: Trees<'_>) -> Opened<'_>
+fn open_text(text: Trees<'_>) -> OpenedNumber<'_>
     ensures number { opened_number result ≡ coefficient_of (tree_meant text.entry) }
     ensures less { opened_steps result < steps (tree_meant text.entry) }
 {
     match look(text) {
-        View::Atom(_, kind, name) => Opened::Number(atom_coefficient(kind, name)),
+        View::Atom(_, kind, name) => OpenedNumber::Number(atom_coefficient(kind, name)),
         View::List(_, inside, _) => open_list(inside),
     }
 }
@@ -190,12 +190,12 @@ fn go_down<'a>(pending: &mut Vec<Pending<'a>>, text: Trees<'a>) -> Result<Here<'
         (steps (tree_meant text.entry)) pending.new.items next) }
 {
     match open_text(text) {
-        Opened::Number(number) => Ok(Here::Read(number)),
-        Opened::Opposite(first) => {
+        OpenedNumber::Number(number) => Ok(Here::Read(number)),
+        OpenedNumber::Opposite(first) => {
             pending.push(Pending::Negate)?;
             Ok(Here::Text(first))
         }
-        Opened::Quotient(first, second) => {
+        OpenedNumber::Quotient(first, second) => {
             pending.push(Pending::DivideBy(second))?;
             Ok(Here::Text(first))
         }

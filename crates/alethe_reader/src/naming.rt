@@ -14,26 +14,26 @@ use smt_sexpr::{Trees, View, Word, look, split};
 use spec_proofs::ProofKind;
 use spec_text::Fault;
 use std::alloc::Global;
-use term_reader::{Form, Next, ReadError, list_form, next_after};
+use term_reader::{ListForm, NextAttribute, ReadError, list_form, next_after};
 use world_io::NoMemory;
 
 /// Tells whether a name stands at an offset that is the first tree, where that is wanted as a name.
-fn is_wanted_at(next: Next, item: Trees<'_>, at: u64) -> bool
+fn is_wanted_at(next: NextAttribute, item: Trees<'_>, at: u64) -> bool
     ensures { result ≡ one_stands_at (listed_word (wanted_word (next_meant next) (tree_meant item.entry))) at }
 {
     match (next, look(item)) {
-        (Next::Name, View::Atom(place, _, _)) => u64::from(place) == at,
+        (NextAttribute::Name, View::Atom(place, _, _)) => u64::from(place) == at,
         _ => false,
     }
 }
 
 /// Says what may come after an item among attributes.
-fn next_wanted(next: Next, item: Trees<'_>) -> Next
+fn next_wanted(next: NextAttribute, item: Trees<'_>) -> NextAttribute
     ensures { next_meant result ≡ next_word (next_meant next) (tree_meant item.entry) }
 {
     match next_after(next, item) {
         Some(then) => then,
-        None => Next::Keyword,
+        None => NextAttribute::Keyword,
     }
 }
 
@@ -41,7 +41,7 @@ fn next_wanted(next: Next, item: Trees<'_>) -> Next
 fn attributes_name_at(attributes: Trees<'_>, at: u64) -> bool
     ensures { result ≡ one_stands_at (named_words a_keyword (trees_meant attributes.entry)) at }
 {
-    let mut next = Next::Keyword;
+    let mut next = NextAttribute::Keyword;
     let mut rest = attributes;
     'attributes: while let Some((item, after)) = split(rest) {
         if is_wanted_at(next, item, at) {
@@ -64,7 +64,7 @@ fn list_names_at(inside: Trees<'_>, at: u64) -> bool
         return false;
     };
     match list_form(head, arguments) {
-        Form::Annotates => attributes_name_at(attributes, at),
+        ListForm::Annotates => attributes_name_at(attributes, at),
         _ => false,
     }
 }

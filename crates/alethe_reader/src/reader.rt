@@ -13,7 +13,7 @@ ghost use Rattle.alethe_reader.specs.Endings.{begins_parenthesis, Leaves};
 
 use crate::errors::{CommandError, LocatedFault, fault};
 use smt_lexer::{Place, Refusal, Refused, TokenKind, next, start};
-use smt_sexpr::{LimitedText, Next, Sexpr, is_symbol, offset, same_bytes};
+use smt_sexpr::{LimitedText, NextSexpr, Sexpr, is_symbol, offset, same_bytes};
 use spec_proofs::ProofKind;
 use std::alloc::Global;
 
@@ -163,15 +163,15 @@ impl<'a> Reader<'a> {
         ensures next { ReadsOn self.old result self.new }
     {
         match self.text.next(alloc, self.at, lists_round(self.listed)) {
-            Ok(Next::One(sexpr, after)) => {
+            Ok(NextSexpr::One(sexpr, after)) => {
                 self.at = after;
                 Ok(Some(sexpr))
             }
-            Ok(Next::Close(after)) => {
+            Ok(NextSexpr::Close(after)) => {
                 nothing_follows(alloc, self.text, after)?;
                 Ok(None)
             }
-            Ok(Next::End) => Ok(None),
+            Ok(NextSexpr::End) => Ok(None),
             Err(Refused::Fault(refusal)) => Err(CommandError::Fault(lexical(refusal))),
             Err(Refused::Memory) => Err(CommandError::Memory),
         }

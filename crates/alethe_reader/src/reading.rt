@@ -20,7 +20,7 @@ use crate::proof_state::ProofState;
 use crate::shapes::{Shape, StepParts, shape_of};
 use crate::terms::{definition, formula, literals};
 use linear_form::Coeff;
-use smt_command::Parts;
+use smt_command::FunctionText;
 use smt_sexpr::{Trees, View, Word, look, offset};
 use spec_proofs::{ProofKind, Rule};
 use std::alloc::Global;
@@ -116,7 +116,7 @@ fn define<'a>(
     alloc: Global,
     state: &mut ProofState,
     at: u64,
-    parts: Parts<'a>,
+    parts: FunctionText<'a>,
 ) -> Result<ReadCommand<'a>, CommandError>
     requires { HasKnown state.old }
     ensures { (k : Known) → IsKnown state.old k

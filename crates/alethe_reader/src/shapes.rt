@@ -7,7 +7,7 @@ ghost use Rattle.smt_sexpr.specs.Items.{trees_meant, tree_meant};
 ghost use Rattle.smt_sexpr.specs.Views.{word_view};
 ghost use Rattle.alethe_reader.specs.Shapes.{keywords_view, shape_view, keyword_in};
 
-use smt_command::{Command, Parts, define_fun};
+use smt_command::{Command, FunctionText, define_fun};
 use smt_sexpr::{
     Trees, View, Word, is_keyword, is_reserved, is_symbol, is_word, list_first, look, passes,
     same_bytes, split, tree_alone, want, word_first,
@@ -21,7 +21,7 @@ pub(crate) enum Shape<'a> {
     /// The parts.
     Step(StepParts<'a>),
     /// The parts.
-    Define(Parts<'a>),
+    Define(FunctionText<'a>),
 }
 
 /// A step by its shape.

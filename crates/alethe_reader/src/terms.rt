@@ -15,7 +15,7 @@ use crate::errors::CommandError;
 use crate::naming::{error_in_definition, error_in_text, error_in_texts};
 use crate::proof_state::ProofState;
 use assertion_stack::TERM_LIMIT;
-use smt_command::Parts;
+use smt_command::FunctionText;
 use smt_sexpr::Trees;
 use sort_check::{Room, define, term, terms};
 use std::alloc::Global;
@@ -102,20 +102,20 @@ pub(crate) fn definition(
     alloc: Global,
     state: &mut ProofState,
     at: u64,
-    parts: Parts<'_>,
+    parts: FunctionText<'_>,
 ) -> Result<(), CommandError>
     requires { HasKnown state.old }
     ensures { (k : Known) → IsKnown state.old k → ReadsDefinition k state.new (in_proof
         ((parts_view parts.entry).name ∷ named_in (parts_view parts.entry).body)
         (roomy_definitions (Some term_limit) at k.scope (parts_view parts.entry))) result }
 {
-    let Parts {
+    let FunctionText {
         name,
         parameters,
         result,
         body,
     } = parts;
-    let whole = sort_check::Parts {
+    let whole = sort_check::FunctionParts {
         name,
         parameters,
         result,

@@ -12,7 +12,7 @@ ghost use Rattle.assertion_stack.specs.Stacks.{standing, HasStack, IsStack, Perf
 use crate::names::in_script;
 use crate::printing::print;
 use crate::stack::{Effect, Stack};
-use smt_command::Parts;
+use smt_command::FunctionText;
 use smt_sexpr::Trees;
 use sort_check::{Room, define, term};
 use std::alloc::Global;
@@ -111,7 +111,7 @@ impl Stack {
         alloc: Global,
         table: &mut TermTable,
         at: u64,
-        parts: Parts<'_>,
+        parts: FunctionText<'_>,
     ) -> Result<Effect<'a>, ReadError>
         requires { HasStack (standing table.old self.old) }
         ensures performs { (limit : ℕ) (s : ScriptStack) → IsStack limit (standing table.old self.old) s
@@ -121,7 +121,7 @@ impl Stack {
         ensures same { OnErr result ((self.new ≡ self.old) × (table.new ≡ table.old)) }
     {
         let room = room(self, at);
-        let parts = sort_check::Parts {
+        let parts = sort_check::FunctionParts {
             name: parts.name,
             parameters: parts.parameters,
             result: parts.result,

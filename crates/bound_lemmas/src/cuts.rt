@@ -3,10 +3,10 @@
 ghost use Rattle.std.specs.Prelude.{◌≡◌, IfOk, IfSome};
 ghost use Rattle.term_core.specs.Tables.{IsIn};
 
-use crate::sums::Sums;
+use crate::sums::SumNumbers;
 use linear_form::Form;
 use ratio128::Ratio;
-use simplex_atoms::{AtomStop, Kind, Sides, difference_of, sides_of};
+use simplex_atoms::{AtomSides, AtomStop, Comparison, difference_of, sides_of};
 use std::alloc::Global;
 use term_core::{Lit, TermId, TermTable};
 use world_io::NoMemory;
@@ -57,8 +57,8 @@ fn over(
 fn cut_by(
     alloc: Global,
     form: &Form,
-    sums: &mut Sums,
-    sides: Sides,
+    sums: &mut SumNumbers,
+    sides: AtomSides,
 ) -> Result<Option<Cut>, NoMemory>
     ensures { IfOk result (λ found. IfSome found (λ cut. cut.below.term ≡ sides.atom)) }
 {
@@ -75,7 +75,7 @@ fn cut_by(
         return Ok(None);
     };
     let is_below = lead.num() > 0;
-    let is_strict = sides.kind == Kind::Less;
+    let is_strict = sides.kind == Comparison::Less;
     Ok(Some(Cut {
         sum: sums.number(sum)?,
         place,
@@ -94,7 +94,7 @@ fn cut_by(
 pub(crate) fn cut_of(
     alloc: Global,
     table: &TermTable,
-    sums: &mut Sums,
+    sums: &mut SumNumbers,
     atom: TermId,
 ) -> Result<Option<Cut>, NoMemory>
     requires { IsIn table.now atom }
@@ -103,10 +103,10 @@ pub(crate) fn cut_of(
     let Some(sides) = sides_of(table, atom) else {
         return Ok(None);
     };
-    if sides.kind == Kind::Equal {
+    if sides.kind == Comparison::Equal {
         return Ok(None);
     }
-    let sides = Sides { atom, ..sides };
+    let sides = AtomSides { atom, ..sides };
     match difference_of(alloc, table, sides) {
         Ok(form) => cut_by(alloc, &form, sums, sides),
         Err(AtomStop::Wide(_)) => Ok(None),

@@ -5,7 +5,7 @@ ghost use Rattle.term_core.specs.Tables.{AreIn};
 ghost use Rattle.bound_lemmas.specs.Pairs.{IsPairOf, IsCutOf};
 
 use crate::cuts::{Cut, cut_of};
-use crate::sums::Sums;
+use crate::sums::SumNumbers;
 use std::alloc::Global;
 use term_core::{Lit, TermId, TermTable};
 use world_io::NoMemory;
@@ -15,7 +15,7 @@ fn cuts_of(alloc: Global, table: &TermTable, atoms: &[TermId]) -> Result<Vec<Cut
     requires { AreIn table.now atoms.now }
     ensures { IfOk result (λ cuts. All (IsCutOf atoms.now) cuts.items) }
 {
-    let mut sums = Sums::new(alloc);
+    let mut sums = SumNumbers::new(alloc);
     let mut cuts = Vec::new(alloc);
     'atoms: for atom in atoms.iter() {
         if let Some(cut) = cut_of(alloc, table, &mut sums, *atom)? {

@@ -7,15 +7,15 @@ use world_io::NoMemory;
 
 /// Numbers sums from 0, in the order in which they come.
 #[derive(Drop)]
-pub(crate) struct Sums {
+pub(crate) struct SumNumbers {
     /// The sums: the numbers of terms with their coefficients, by rising numbers.
     sums: IndexSet<Vec<(u64, Ratio)>>,
 }
 
-impl Sums {
+impl SumNumbers {
     /// Makes one that has no sums. It takes no memory.
-    pub(crate) fn new(alloc: Global) -> Sums {
-        Sums {
+    pub(crate) fn new(alloc: Global) -> SumNumbers {
+        SumNumbers {
             sums: IndexSet::new(alloc),
         }
     }

@@ -22,7 +22,7 @@ pub(crate) struct Merge {
 
 /// Says how many terms and merges there were.
 #[derive(Clone, Copy)]
-pub(crate) struct Mark {
+pub(crate) struct MergeMark {
     /// The terms.
     pub(crate) terms: usize,
     /// The merges.
@@ -111,13 +111,13 @@ impl Rings {
     }
 
     /// Says how many terms and merges there are.
-    pub(crate) fn mark(&self) -> Mark
+    pub(crate) fn mark(&self) -> MergeMark
         ensures terms { result.terms ≡ length self.now.numbers }
         ensures merges { result.merges ≡ length self.now.merges }
         ensures numbers { numbers_at self.now.merges result ≡ self.now.numbers }
         ensures joins { AreJoins (alone result.terms) self.now.merges }
     {
-        Mark {
+        MergeMark {
             terms: self.numbers.len(),
             merges: self.merges.len(),
         }
@@ -172,7 +172,7 @@ impl Rings {
     }
 
     /// Goes back to what there was at a mark. It takes no memory.
-    pub(crate) fn back(&mut self, mark: Mark)
+    pub(crate) fn back(&mut self, mark: MergeMark)
         requires terms { mark.terms ≤ length self.old.numbers }
         requires merges { mark.merges ≤ length self.old.merges }
         requires joins { AreJoins (alone mark.terms) (take mark.merges self.old.merges) }

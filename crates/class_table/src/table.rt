@@ -3,7 +3,7 @@
 ghost use Rattle.std.specs.Prelude.{◌≡◌, ◌≢◌, ◌-◌, ◌<◌, ◌≤◌, ◌==◌, ◌++◌, ◌∷◌, [], suc, length, take, slice_index_or, IfOk, OnOk, OnErr};
 ghost use Rattle.class_table.specs.Classes.{class_at, members_count, joined, with_terms, AreMembers, ClassesAreNumbered};
 
-use crate::rings::{Mark, Rings};
+use crate::rings::{MergeMark, Rings};
 use std::alloc::Global;
 use std::marker::Model;
 use term_core::TermId;
@@ -19,7 +19,7 @@ pub struct ClassTable {
     /// The classes.
     rings: Rings,
     /// How many terms and merges there were at each mark, oldest first.
-    marks: Vec<Mark>,
+    marks: Vec<MergeMark>,
 }
 
 impl Model for ClassTable {

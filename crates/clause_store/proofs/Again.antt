@@ -5,14 +5,14 @@ use Rattle.std.proofs.lemmas.List.Elements.{Contains-get_or, Contains-push_cases
 use Rattle.term_core.specs.declared.ids.Lit.{Lit}
 use Rattle.sat_trail.specs.Trails.{TrailView}
 use Rattle.clause_store.specs.declared.pair.Pair.{Pair}
-use Rattle.clause_store.specs.declared.parts.Parts.{Parts}
+use Rattle.clause_store.specs.declared.parts.StoreParts.{StoreParts}
 use Rattle.clause_store.specs.Stores.{no_pair}
 use Rattle.clause_store.specs.Entries.{clauses_of}
 use Rattle.clause_store.specs.Watching.{AreResting}
 use Rattle.clause_store.specs.Resting.{IsAtWork}
 use Rattle.clause_store.proofs.Stored.{clause_count}
 
-module _ (p : Parts) (t : TrailView) (w : IsAtWork p t) (list : List ℕ) (is : list ≡ p.short.items) where
+module _ (p : StoreParts) (t : TrailView) (w : IsAtWork p t) (list : List ℕ) (is : list ≡ p.short.items) where
   -- the literals of the first of them hold
   abbrev pub Hold : List Lit → ℕ → Type 0
   Hold held k = (m : ℕ) → Contains (take k p.short.items) m → Contains held (get_or p.watched.pairs.items m no_pair).first

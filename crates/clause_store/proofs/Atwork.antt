@@ -4,9 +4,9 @@ use Rattle.std.proofs.lemmas.Bool.{cases_lt}
 use Rattle.std.proofs.lemmas.List.{length-append}
 use Rattle.term_core.specs.declared.ids.Lit.{Lit}
 use Rattle.sat_trail.specs.Trails.{TrailView}
-use Rattle.clause_store.specs.declared.entry.Entry.{Entry}
+use Rattle.clause_store.specs.declared.entry.StoredClause.{StoredClause}
 use Rattle.clause_store.specs.declared.pair.Pair.{Pair}
-use Rattle.clause_store.specs.declared.parts.Parts.{Parts}
+use Rattle.clause_store.specs.declared.parts.StoreParts.{StoreParts}
 use Rattle.clause_store.specs.declared.watched.Watched.{Watched}
 use Rattle.clause_store.specs.Stores.{StoreView, HasSeen, no_pair}
 use Rattle.clause_store.specs.Entries.{clauses_of, bare}
@@ -20,7 +20,7 @@ use Rattle.clause_store.proofs.Stored.{clause_count}
 use Rattle.clause_store.proofs.Working.{front_had, rested_by, rested_front, rested_goes, rested_more, settled_on}
 
 -- after propagation that ended early the parts fit by what was seen
-pub kept_by : (p : Parts) (t : TrailView) → IsAtWork p t → StoreFits p
+pub kept_by : (p : StoreParts) (t : TrailView) → IsAtWork p t → StoreFits p
 kept_by p t w = record {
   watched = w.watched;
   settled = w.settled;
@@ -28,7 +28,7 @@ kept_by p t w = record {
 }
 
 -- before it they fit by the trail, where no prefix is longer than what is marked
-pub work_by : (p : Parts) (t : TrailView) → IsWatched p.watched → AreSettled (clauses_of p.watched.entries.items) p.watched.pairs.items p.settled p.short.items → AreKnownIn p.watched t.vars → HasSeen (store_of p) t
+pub work_by : (p : StoreParts) (t : TrailView) → IsWatched p.watched → AreSettled (clauses_of p.watched.entries.items) p.watched.pairs.items p.settled p.short.items → AreKnownIn p.watched t.vars → HasSeen (store_of p) t
     → ((r : ℕ) → Contains p.rests.items r → r ≤ t.propagated) → HaveRested p.rests.items p.settled p.watched.pairs.items (length p.seen.items) p.seen.items → IsAtWork p t
 work_by p t w s k seen within h = record {
   watched = w;
@@ -39,19 +39,19 @@ work_by p t w s k seen within h = record {
 }
 
 -- nothing is done
-pub works_none : (p : Parts) (t : TrailView) → WorksOn p p t t
+pub works_none : (p : StoreParts) (t : TrailView) → WorksOn p p t t
 works_none p t = record { advances = advances_none _ t; entries = refl; seen = refl; prefixes = λ F w h. h }
 
-pub works_on : (p q r : Parts) (t u v : TrailView) → WorksOn p q t u → WorksOn q r u v → WorksOn p r t v
+pub works_on : (p q r : StoreParts) (t u v : TrailView) → WorksOn p q t u → WorksOn q r u v → WorksOn p r t v
 works_on p q r t u v g h = record {
-  advances = advances_on _ t u v g.advances (subst (λ (es : List Entry). Advances (bare es) u v) g.entries h.advances);
+  advances = advances_on _ t u v g.advances (subst (λ (es : List StoredClause). Advances (bare es) u v) g.entries h.advances);
   entries = h.entries ∙ g.entries;
   seen = h.seen ∙ g.seen;
   prefixes = λ F w x. h.prefixes F (λ l i. holds_on _ t u g.advances.0 l (w l i)) (g.prefixes F w x);
 }
 
 -- the first pairs rest by what holds now
-pub resting_goes : (es : List Entry) (count : ℕ) (old new : Watched) (t u : TrailView) → PropagatesPart (bare es) count old.pairs.items new.pairs.items t u → (F : List Lit) → AreLiteralsAmong F t.literals → AreResting count old.pairs.items F t.literals → AreResting count new.pairs.items F u.literals
+pub resting_goes : (es : List StoredClause) (count : ℕ) (old new : Watched) (t u : TrailView) → PropagatesPart (bare es) count old.pairs.items new.pairs.items t u → (F : List Lit) → AreLiteralsAmong F t.literals → AreResting count old.pairs.items F t.literals → AreResting count new.pairs.items F u.literals
 resting_goes es count old new t u g F w h = resting_on count new.pairs.items F t.literals u.literals (holds_on (bare es) t u g.advances.0) (g.prefixes F t.literals w (λ l i. i) h)
 
 -- with one pair more
@@ -63,10 +63,10 @@ resting_more count pairs F held h one n lt = elim (cases_lt n count) [
 
 -- ---- a part of propagation, from parts at work
 
-module _ (p q : Parts) (t u : TrailView) (le : t.propagated ≤ length t.literals) (ok : IsWatched q.watched) (es : q.watched.entries.items ≡ p.watched.entries.items) (se : q.seen.items ≡ p.seen.items)
+module _ (p q : StoreParts) (t u : TrailView) (le : t.propagated ≤ length t.literals) (ok : IsWatched q.watched) (es : q.watched.entries.items ≡ p.watched.entries.items) (se : q.seen.items ≡ p.seen.items)
     (g : PropagatesPart (bare p.watched.entries.items) p.settled p.watched.pairs.items q.watched.pairs.items t u) (h : IsAtWork p t) where
   known_now : AreKnownIn q.watched u.vars
-  known_now = subst (λ (es : List Entry). All (All (λ (l : Lit). l.term.0 < u.vars)) (clauses_of es)) (sym es) (subst (λ (n : ℕ). All (All (λ (l : Lit). l.term.0 < n)) (clauses_of p.watched.entries.items)) (sym g.advances.0.vars) h.known)
+  known_now = subst (λ (es : List StoredClause). All (All (λ (l : Lit). l.term.0 < u.vars)) (clauses_of es)) (sym es) (subst (λ (n : ℕ). All (All (λ (l : Lit). l.term.0 < n)) (clauses_of p.watched.entries.items)) (sym g.advances.0.vars) h.known)
 
   seen_now : HasSeen (store_of q) u
   seen_now =
@@ -75,7 +75,7 @@ module _ (p q : Parts) (t u : TrailView) (le : t.propagated ≤ length t.literal
 
   -- the pairs are those of the clauses
   pairs_now : ArePairs (clauses_of p.watched.entries.items) q.watched.pairs.items
-  pairs_now = subst (λ (es : List Entry). ArePairs (clauses_of es) q.watched.pairs.items) es ok.pairs_by
+  pairs_now = subst (λ (es : List StoredClause). ArePairs (clauses_of es) q.watched.pairs.items) es ok.pairs_by
 
   pub settled_now : AreSettled (clauses_of p.watched.entries.items) q.watched.pairs.items p.settled p.short.items
   settled_now = settled_on (clauses_of p.watched.entries.items) p.settled p.short.items p.watched.pairs.items q.watched.pairs.items g.shapes pairs_now h.settled
@@ -87,7 +87,7 @@ module _ (p q : Parts) (t u : TrailView) (le : t.propagated ≤ length t.literal
   pub work_goes : q.settled ≡ p.settled → q.short.items ≡ p.short.items → q.rests.items ≡ p.rests.items → IsAtWork q u
   work_goes st sh re = record {
     watched = ok;
-    settled = subst (λ (es : List Entry). AreSettled (clauses_of es) q.watched.pairs.items q.settled q.short.items) (sym es)
+    settled = subst (λ (es : List StoredClause). AreSettled (clauses_of es) q.watched.pairs.items q.settled q.short.items) (sym es)
         (subst (λ (n : ℕ). AreSettled (clauses_of p.watched.entries.items) q.watched.pairs.items n q.short.items) (sym st)
         (subst (AreSettled (clauses_of p.watched.entries.items) q.watched.pairs.items p.settled) (sym sh) settled_now));
     rests = subst (λ (n : ℕ). HaveRested q.rests.items n q.watched.pairs.items u.propagated u.literals) (sym st)
@@ -111,7 +111,7 @@ module _ (p q : Parts) (t u : TrailView) (le : t.propagated ≤ length t.literal
     pub work_one : IsAtWork q u
     work_one = record {
       watched = ok;
-      settled = subst (λ (es : List Entry). AreSettled (clauses_of es) q.watched.pairs.items q.settled q.short.items) (sym es)
+      settled = subst (λ (es : List StoredClause). AreSettled (clauses_of es) q.watched.pairs.items q.settled q.short.items) (sym es)
           (subst (λ (n : ℕ). AreSettled (clauses_of p.watched.entries.items) q.watched.pairs.items n q.short.items) (sym st) settled);
       rests = subst (λ (n : ℕ). HaveRested q.rests.items n q.watched.pairs.items u.propagated u.literals) (sym st)
           (rested_more q.rests.items p.settled q.watched.pairs.items u.propagated u.literals
@@ -135,7 +135,7 @@ module _ (p q : Parts) (t u : TrailView) (le : t.propagated ≤ length t.literal
 
 -- ---- where all were looked at
 
-module _ (p : Parts) (ok : IsWatched p.watched) (all : p.settled ≡ length p.watched.entries.items) where
+module _ (p : StoreParts) (ok : IsWatched p.watched) (all : p.settled ≡ length p.watched.entries.items) where
   pub count_settled : length p.watched.pairs.items ≡ p.settled
   count_settled = omega (arith, all, ok.pairs_by.paired, clause_count p.watched.entries.items)
 
@@ -143,13 +143,13 @@ module _ (p : Parts) (ok : IsWatched p.watched) (all : p.settled ≡ length p.wa
   goes_settled new t u g = subst (λ (n : ℕ). PropagatesPart (bare p.watched.entries.items) n p.watched.pairs.items new t u) count_settled g
 
 -- the parts with another count of those that were looked at
-abbrev pub looked : Parts → ℕ → Parts
+abbrev pub looked : StoreParts → ℕ → StoreParts
 looked p n = record { watched = p.watched; settled = n; short = p.short; seen = p.seen; rests = p.rests }
 
 -- ---- the whole of propagation
 
 -- what is added by both parts
-pub adds_after : (p q r : Parts) (t u v : TrailView) → q.watched ≡ p.watched → Advances (bare p.watched.entries.items) t u → WorksOn q r u v → AddsImplied (bare p.watched.entries.items) t v
+pub adds_after : (p q r : StoreParts) (t u v : TrailView) → q.watched ≡ p.watched → Advances (bare p.watched.entries.items) t u → WorksOn q r u v → AddsImplied (bare p.watched.entries.items) t v
 adds_after p q r t u v e a g = adds_on (bare p.watched.entries.items) t u v a.0 (subst (λ (w : Watched). AddsImplied (bare w.entries.items) u v) e g.advances.0)
 
 -- then the literals are marked
@@ -167,10 +167,10 @@ adds_marked s t u v g e = record {
 }
 
 -- a prefix that was there is left, and the pairs rest by it
-pub rested_still : (p q : Parts) (t u : TrailView) (n : ℕ) → n ≤ length t.literals → WorksOn p q t u → AreResting p.settled p.watched.pairs.items (take n t.literals) t.literals → AreResting q.settled q.watched.pairs.items (take n u.literals) u.literals
+pub rested_still : (p q : StoreParts) (t u : TrailView) (n : ℕ) → n ≤ length t.literals → WorksOn p q t u → AreResting p.settled p.watched.pairs.items (take n t.literals) t.literals → AreResting q.settled q.watched.pairs.items (take n u.literals) u.literals
 rested_still p q t u n le g h = subst (λ (F : List Lit). AreResting q.settled q.watched.pairs.items F u.literals) (sym (same_front (bare p.watched.entries.items) t u n g.advances.0 le))
     (g.prefixes (take n t.literals) (front_within n t.literals le) h)
 
 -- where all rest, nothing follows
-pub quiet_by : (p : Parts) (t : TrailView) → IsAtWork p t → p.settled ≡ length p.watched.entries.items → AreResting p.settled p.watched.pairs.items t.literals t.literals → IsPropagated (clauses_of p.watched.entries.items) t.literals
+pub quiet_by : (p : StoreParts) (t : TrailView) → IsAtWork p t → p.settled ≡ length p.watched.entries.items → AreResting p.settled p.watched.pairs.items t.literals t.literals → IsPropagated (clauses_of p.watched.entries.items) t.literals
 quiet_by p t w all h = quiet (clauses_of p.watched.entries.items) p.watched.pairs.items t.literals w.watched.pairs_by (λ n lt. w.settled.there n (omega (arith, lt, all, clause_count p.watched.entries.items))) (λ n lt. h n (omega (arith, lt, all, clause_count p.watched.entries.items)))

@@ -3,7 +3,7 @@ use Rattle.std.proofs.Common.{◌≡◌, ℕ, ◌<◌, ◌≤◌, List, [], ◌�
 use Rattle.std.proofs.lemmas.Bool.{cases_lt}
 use Rattle.std.proofs.lemmas.List.{get_or_append_left, get_or_push, length_push, map_push}
 use Rattle.term_core.specs.declared.ids.Lit.{Lit}
-use Rattle.clause_store.specs.declared.entry.Entry.{Entry}
+use Rattle.clause_store.specs.declared.entry.StoredClause.{StoredClause}
 use Rattle.clause_store.specs.declared.pair.Pair.{Pair}
 use Rattle.clause_store.specs.declared.watched.Watched.{Watched}
 use Rattle.clause_store.specs.Stores.{no_pair}
@@ -13,8 +13,8 @@ use Rattle.clause_store.specs.Resting.{HaveRested, AreSettled}
 use Rattle.clause_store.proofs.Stored.{clause_count}
 use Rattle.clause_store.proofs.Indexing.{indexed_more}
 
-clauses_more : (es : List Entry) (e : Entry) → clauses_of (es ++ e ∷ []) ≡ clauses_of es ++ e.literals.items ∷ []
-clauses_more es e = map_push (λ (x : Entry). x.literals.items) es e
+clauses_more : (es : List StoredClause) (e : StoredClause) → clauses_of (es ++ e ∷ []) ≡ clauses_of es ++ e.literals.items ∷ []
+clauses_more es e = map_push (λ (x : StoredClause). x.literals.items) es e
 
 pub pairs_more : (clauses : List (List Lit)) (pairs : List Pair) (clause : List Lit) (p : Pair) → ArePairs clauses pairs → IsPairOf clause p → ArePairs (clauses ++ clause ∷ []) (pairs ++ p ∷ [])
 pairs_more clauses pairs clause p ps h = record {
@@ -28,7 +28,7 @@ pairs_more clauses pairs clause p ps h = record {
 }
 
 -- clauses, pairs and lists fit together with it
-pub watched_more : (old new : Watched) (e : Entry) (p : Pair) → IsWatched old → new.entries.items ≡ old.entries.items ++ e ∷ [] → new.pairs.items ≡ old.pairs.items ++ p ∷ [] → IsPairOf e.literals.items p
+pub watched_more : (old new : Watched) (e : StoredClause) (p : Pair) → IsWatched old → new.entries.items ≡ old.entries.items ++ e ∷ [] → new.pairs.items ≡ old.pairs.items ++ p ∷ [] → IsPairOf e.literals.items p
     → IsEnteredIfTwo old.index p (length old.entries.items) new.index → IsWatched new
 watched_more old new e p w ee pe h m =
     let count : length old.entries.items ≡ length old.pairs.items = sym (w.pairs_by.paired ∙ clause_count old.entries.items) in
@@ -58,7 +58,7 @@ rested_more rests count pairs most held p le h = record {
   rested = λ r c n lt. subst (Rests (take r held) (take r held)) (sym (get_or_append_left pairs (p ∷ []) no_pair n (omega (arith, lt, le)))) (h.rested r c n lt);
 }
 
-module _ (old new : Watched) (e : Entry) (w : IsWatched old) (m : IsOneMore old e new) (count : ℕ) (short : List ℕ) (h : AreSettled (clauses_of old.entries.items) old.pairs.items count short) where
+module _ (old new : Watched) (e : StoredClause) (w : IsWatched old) (m : IsOneMore old e new) (count : ℕ) (short : List ℕ) (h : AreSettled (clauses_of old.entries.items) old.pairs.items count short) where
   pub settled_with : AreSettled (clauses_of new.entries.items) new.pairs.items count short
   settled_with = subst (λ (qs : List Pair). AreSettled (clauses_of new.entries.items) qs count short) (sym m.pairs)
       (subst (λ (cs : List (List Lit)). AreSettled cs (old.pairs.items ++ m.pair ∷ []) count short) (sym (ap clauses_of m.entries ∙ clauses_more old.entries.items e))

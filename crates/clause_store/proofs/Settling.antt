@@ -2,7 +2,7 @@
 use Rattle.std.proofs.Common.{◌≡◌, ◌≢◌, ℕ, ◌<◌, List, [], length, get_or, Contains, inl, inr, refl, sym, ◌∙◌, subst}
 use Rattle.term_core.specs.declared.ids.Lit.{Lit}
 use Rattle.clause_literals.proofs.LiteralLists.{decide}
-use Rattle.clause_store.specs.declared.entry.Entry.{Entry}
+use Rattle.clause_store.specs.declared.entry.StoredClause.{StoredClause}
 use Rattle.clause_store.specs.declared.pair.Pair.{Pair}
 use Rattle.clause_store.specs.Stores.{no_pair}
 use Rattle.clause_store.specs.Entries.{clauses_of}
@@ -33,5 +33,5 @@ other_differs p l other d one two e = elim (decide p.first l) [
 ]
 
 -- the pair of a number, where the entries are as they were
-pub pair_kept : (es fs : List Entry) (pairs : List Pair) (n : ℕ) → ArePairs (clauses_of fs) pairs → fs ≡ es → n < length (clauses_of es) → IsPairOf (get_or (clauses_of es) n []) (get_or pairs n no_pair)
-pair_kept es fs pairs n ps e lt = (subst (λ (xs : List Entry). ArePairs (clauses_of xs) pairs) e ps).each n lt
+pub pair_kept : (es fs : List StoredClause) (pairs : List Pair) (n : ℕ) → ArePairs (clauses_of fs) pairs → fs ≡ es → n < length (clauses_of es) → IsPairOf (get_or (clauses_of es) n []) (get_or pairs n no_pair)
+pair_kept es fs pairs n ps e lt = (subst (λ (xs : List StoredClause). ArePairs (clauses_of xs) pairs) e ps).each n lt

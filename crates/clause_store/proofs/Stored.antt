@@ -3,19 +3,19 @@ use Rattle.std.proofs.Common.{◌≡◌, ℕ, ◌<◌, List, [], length, get_or,
 use Rattle.std.proofs.lemmas.List.{get_or-map, length-map}
 use Rattle.term_core.specs.declared.ids.Lit.{Lit}
 use Rattle.proof_log.specs.declared.premises.StepId.{StepId}
-use Rattle.clause_store.specs.declared.entry.Entry.{Entry}
+use Rattle.clause_store.specs.declared.entry.StoredClause.{StoredClause}
 use Rattle.clause_store.specs.declared.pair.Pair.{Pair}
 use Rattle.clause_store.specs.Stores.{no_step}
 use Rattle.clause_store.specs.Entries.{clauses_of, steps_of}
 use Rattle.clause_store.specs.Watching.{ArePairs}
 
-abbrev literals : Entry → List Lit
+abbrev literals : StoredClause → List Lit
 literals e = e.literals.items
 
-abbrev step_of : Entry → StepId
+abbrev step_of : StoredClause → StepId
 step_of e = e.step
 
-module _ (es : List Entry) where
+module _ (es : List StoredClause) where
   pub clause_count : length (clauses_of es) ≡ length es
   clause_count = length-map es literals
 
@@ -26,7 +26,7 @@ module _ (es : List Entry) where
   pub clause_there : (pairs : List Pair) (n : ℕ) → ArePairs (clauses_of es) pairs → n < length pairs → n < length (clauses_of es)
   clause_there pairs n ps lt = omega (arith, lt, ps.paired)
 
-  module _ (n : ℕ) (e : Entry) (lt : n < length es) (is : e ≡ get_or es n e) where
+  module _ (n : ℕ) (e : StoredClause) (lt : n < length es) (is : e ≡ get_or es n e) where
     -- an entry's literals are those of the clause
     pub entry_clause : (xs : List Lit) → xs ≡ e.literals.items → xs ≡ get_or (clauses_of es) n []
     entry_clause xs x = x ∙ ap literals is ∙ sym (get_or-map literals es n e [] lt)

@@ -3,14 +3,14 @@ use Rattle.std.specs.Prelude.{◌≡◌, ◌+◌, ◌-◌, ◌<◌, ◌≤◌, �
 use Rattle.term_core.specs.declared.ids.Lit.{Lit}
 use Rattle.sat_trail.specs.Trails.{TrailView, HasSame}
 use Rattle.clause_store.specs.declared.pair.Pair.{Pair}
-use Rattle.clause_store.specs.declared.parts.Parts.{Parts}
+use Rattle.clause_store.specs.declared.parts.StoreParts.{StoreParts}
 use Rattle.clause_store.specs.Stores.{StoreView, no_pair, HasSeen}
 use Rattle.clause_store.specs.Entries.{clauses_of, steps_of, bare}
 use Rattle.clause_store.specs.Propagating.{Advances}
 use Rattle.clause_store.specs.Watching.{IsWatched, AreLiteralsAmong, IsFalseOf, AreResting, AreKnownIn}
 
 -- what the parts mean
-abbrev pub store_of : Parts → StoreView
+abbrev pub store_of : StoreParts → StoreView
 store_of p = record {
   clauses = clauses_of p.watched.entries.items;
   steps = steps_of p.watched.entries.items;
@@ -51,7 +51,7 @@ abbrev pub IsPrefixOf : List ℕ → List ℕ → Type 0
 IsPrefixOf new old = (length new ≤ length old) × (new ≡ take (length new) old)
 
 -- The parts fit together.
-pub record StoreFits (p : Parts) : Type 0 where
+pub record StoreFits (p : StoreParts) : Type 0 where
   -- clauses, pairs and lists
   pub watched : IsWatched p.watched
   -- what was looked at
@@ -60,7 +60,7 @@ pub record StoreFits (p : Parts) : Type 0 where
   pub rests : HaveRested p.rests.items p.settled p.watched.pairs.items (length p.seen.items) p.seen.items
 
 -- The parts fit together in the midst of propagation, where the prefixes are those of the trail.
-pub record IsAtWork (p : Parts) (t : TrailView) : Type 0 where
+pub record IsAtWork (p : StoreParts) (t : TrailView) : Type 0 where
   -- clauses, pairs and lists
   pub watched : IsWatched p.watched
   -- what was looked at
@@ -73,7 +73,7 @@ pub record IsAtWork (p : Parts) (t : TrailView) : Type 0 where
   pub seen : HasSeen (store_of p) t
 
 -- What a part of propagation does: it implies literals, and keeps clauses, what was seen and what was looked at.
-pub record WorksOn (old new : Parts) (before after : TrailView) : Type 0 where
+pub record WorksOn (old new : StoreParts) (before after : TrailView) : Type 0 where
   -- literals are implied, and none is marked
   pub advances : Advances (bare old.watched.entries.items) before after
   -- the clauses are as they were
@@ -85,7 +85,7 @@ pub record WorksOn (old new : Parts) (before after : TrailView) : Type 0 where
       → AreResting new.settled new.watched.pairs.items F after.literals
 
 -- what a look at the next clause comes to: it is false, or it was looked at
-abbrev pub SettlesOne : Parts → Parts → List Lit → Bool → Type 0
+abbrev pub SettlesOne : StoreParts → StoreParts → List Lit → Bool → Type 0
 SettlesOne old new held true = (new.settled ≡ old.settled) × IsFalseOf (clauses_of new.watched.entries.items) held new.settled
 SettlesOne old new held false = new.settled ≡ old.settled + 1
 

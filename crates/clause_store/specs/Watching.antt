@@ -10,10 +10,10 @@ use Rattle.clause_store.specs.declared.pair.Pair.{Pair}
 use Rattle.clause_store.specs.Stores.{StoreView, no_pair, hits_at, tally}
 use Rattle.clause_store.specs.Entries.{clauses_of}
 use Rattle.clause_store.specs.Propagating.{Advances}
-use Rattle.clause_store.specs.declared.entry.Entry.{Entry}
+use Rattle.clause_store.specs.declared.entry.StoredClause.{StoredClause}
 use Rattle.clause_store.specs.declared.watched.Watched.{Watched}
-use Rattle.clause_store.specs.declared.watched.Step.{Step}
-use Rattle.clause_store.specs.declared.watched.Step.TheVariants as steps
+use Rattle.clause_store.specs.declared.watched.WatchOutcome.{WatchOutcome}
+use Rattle.clause_store.specs.declared.watched.WatchOutcome.TheVariants as steps
 use Rattle.clause_store.specs.declared.fresh.Fresh.{Fresh}
 use Rattle.clause_store.specs.declared.fresh.Fresh.TheVariants as fresh
 
@@ -59,7 +59,7 @@ pub record IsEnteredIfTwo (old : List (List ℕ)) (p : Pair) (n : ℕ) (new : Li
   pub one : p.first ≡ p.second → HaveSameLists old new
 
 -- A clause more stands last, with its pair.
-pub record IsOneMore (old : Watched) (entry : Entry) (new : Watched) : Type 0 where
+pub record IsOneMore (old : Watched) (entry : StoredClause) (new : Watched) : Type 0 where
   -- the pair
   pub pair : Pair
   -- the clause is the last
@@ -207,7 +207,7 @@ pub record IsExchanged (v : Visit) (old new : List Pair) (index new_index : List
   pub list : get_or new_index (code v.literal) [] ≡ swap_remove (get_or index (code v.literal) []) v.place 0
 
 -- what a look at a clause comes to
-abbrev pub VisitsClause : Visit → Watched → Watched → List Lit → Step → Type 0
+abbrev pub VisitsClause : Visit → Watched → Watched → List Lit → WatchOutcome → Type 0
 VisitsClause v old new held steps.Stays = (new.pairs.items ≡ old.pairs.items) × (new.index ≡ old.index) × Passes held v.literal (get_or old.pairs.items v.number no_pair)
 VisitsClause v old new held steps.Moved = IsExchanged v old.pairs.items new.pairs.items old.index new.index
 VisitsClause v old new held steps.Clash = IsFalseOf (clauses_of old.entries.items) held v.number

@@ -5,7 +5,7 @@ use term_core::Lit;
 
 /// One clause of a store.
 #[derive(Drop)]
-pub(crate) struct Entry {
+pub(crate) struct StoredClause {
     /// Its literals, in the order of the step's clause.
     pub(crate) literals: Vec<Lit>,
     /// The step that derives it.

@@ -16,7 +16,7 @@ use world_io::NoMemory;
 
 /// Holds clauses, and at which prefixes of what was seen they rest: where one of two watched literals is false, the other holds.
 #[derive(Drop)]
-pub(crate) struct Parts {
+pub(crate) struct StoreParts {
     /// The clauses.
     pub(crate) watched: Watched,
     /// How many of them were looked at.
@@ -93,7 +93,7 @@ fn note(rests: &mut Vec<usize>, len: usize) -> Result<(), NoMemory>
     }
 }
 
-impl Parts {
+impl StoreParts {
     /// Looks again at the clauses without a second literal, and gives the number of one that is false.
     fn look_again(&self, trail: &mut SatTrail) -> Option<usize>
         requires { IsAtWork self.now trail.old }

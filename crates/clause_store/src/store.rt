@@ -5,8 +5,8 @@ ghost use Rattle.term_core.specs.declared.ids.Lit.{Lit as Literal};
 ghost use Rattle.proof_log.specs.Logs.{IsLogOf};
 ghost use Rattle.clause_store.specs.Stores.{StoreView, empty, no_step, no_pair, IsAdded, IsWatchedTwice, AreWatchedBy};
 
-use crate::entry::Entry;
-use crate::parts::Parts;
+use crate::entry::StoredClause;
+use crate::parts::StoreParts;
 use crate::watched::Watched;
 use clause_literals::literals_of;
 use proof_log::{ProofLog, StepId};
@@ -23,7 +23,7 @@ use world_io::NoMemory;
 #[derive(Drop)]
 pub struct ClauseStore {
     alloc: Global,
-    pub(crate) parts: Parts,
+    pub(crate) parts: StoreParts,
 }
 
 impl Model for ClauseStore {
@@ -45,7 +45,7 @@ impl ClauseStore {
     {
         ClauseStore {
             alloc,
-            parts: Parts {
+            parts: StoreParts {
                 watched: Watched {
                     entries: Vec::new(alloc),
                     pairs: Vec::new(alloc),
@@ -93,7 +93,7 @@ impl ClauseStore {
             (λ _. self.new ≡ self.old) }
     {
         let literals = literals_of(self.alloc, table, log.clause(step))?;
-        match self.parts.watched.add(Entry { literals, step }) {
+        match self.parts.watched.add(StoredClause { literals, step }) {
             Ok(()) => Ok(()),
             Err(NoMemory) => Err(NoMemory),
         }

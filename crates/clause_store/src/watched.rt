@@ -6,7 +6,7 @@ ghost use Rattle.watch_index.specs.Indexes.{list_of};
 ghost use Rattle.clause_store.specs.Entries.{clauses_of, bare};
 ghost use Rattle.clause_store.specs.Watching.{IsWatched, AreKnownIn, IsPairOf, HaveSameLists, IsEntered, IsEnteredIfTwo, IsOneMore, IsAsBefore, HaveAllPassed, IsFalseOf, PropagatesPart, VisitsClause};
 
-use crate::entry::Entry;
+use crate::entry::StoredClause;
 use crate::literals::{is_false, is_true, next_open};
 use crate::pair::{Pair, other_of};
 use clause_literals::same;
@@ -19,7 +19,7 @@ use world_io::NoMemory;
 #[derive(Drop)]
 pub(crate) struct Watched {
     /// The clauses, oldest first.
-    pub(crate) entries: Vec<Entry>,
+    pub(crate) entries: Vec<StoredClause>,
     /// Of each the two that are watched.
     pub(crate) pairs: Vec<Pair>,
     /// For each literal the clauses that watch it.
@@ -36,7 +36,7 @@ const NO_LIT: Lit = Lit {
 
 /// What a look at a clause comes to.
 #[derive(Clone, Copy, Debug, PartialEq, Eq)]
-pub(crate) enum Step {
+pub(crate) enum WatchOutcome {
     /// The literal still watches the clause.
     Stays,
     /// Another one does.
@@ -114,7 +114,7 @@ impl Watched {
         at: usize,
         f: Lit,
         trail: &mut SatTrail,
-    ) -> Result<Step, NoMemory>
+    ) -> Result<WatchOutcome, NoMemory>
         requires watched { IsWatched self.old }
         requires known { AreKnownIn self.old trail.old.vars }
         requires fails { Contains trail.old.literals (lit_complement f) }
@@ -130,7 +130,7 @@ impl Watched {
         trail.is_sound();
         let other = other_of(self.pairs[n], f);
         if is_true(other, trail) {
-            return Ok(Step::Stays);
+            return Ok(WatchOutcome::Stays);
         }
         match next_open(&self.entries[n].literals, &mut self.starts, n, other, trail) {
             Some(d) => match self.index.move_at(f, at, d) {
@@ -139,16 +139,16 @@ impl Watched {
                         first: other,
                         second: d,
                     };
-                    Ok(Step::Moved)
+                    Ok(WatchOutcome::Moved)
                 }
                 Err(NoMemory) => Err(NoMemory),
             },
             None => {
                 if is_false(other, trail) {
-                    return Ok(Step::Clash);
+                    return Ok(WatchOutcome::Clash);
                 }
                 trail.imply(other, self.entries[n].step.0);
-                Ok(Step::Stays)
+                Ok(WatchOutcome::Stays)
             }
         }
     }
@@ -169,9 +169,9 @@ impl Watched {
         'places: while at < self.index.list(f).len() {
             let n = self.index.list(f)[at] as usize;
             match self.take_up(n, at, f, trail)? {
-                Step::Clash => return Ok(Some(n)),
-                Step::Moved => {}
-                Step::Stays => at += 1,
+                WatchOutcome::Clash => return Ok(Some(n)),
+                WatchOutcome::Moved => {}
+                WatchOutcome::Stays => at += 1,
             }
         }
         Ok(None)
@@ -180,7 +180,7 @@ impl Watched {
     /// Puts a clause last, watched by its first two different literals, if it has two.
     ///
     /// `NoMemory` comes where there is no room; then clauses and pairs are as they were.
-    pub(crate) fn add(&mut self, entry: Entry) -> Result<(), NoMemory>
+    pub(crate) fn add(&mut self, entry: StoredClause) -> Result<(), NoMemory>
         requires { IsWatched self.old }
         ensures watched { IsWatched self.new }
         ensures ok { OnOk result (IsOneMore self.old entry self.new) }

@@ -13,7 +13,7 @@ use Rattle.conflict_learn.specs.Conflicts.{Conflict, step_of, IsFalseAt}
 use Rattle.conflict_learn.specs.Points.{level_at, Falsifies, IsMet, IsPoint, IsDropped, IsResolved, IsUsed, IsUip}
 use Rattle.conflict_learn.specs.declared.meeting.Seen.{Seen}
 use Rattle.conflict_learn.specs.declared.analysis.Analysis.{Analysis}
-use Rattle.conflict_learn.specs.declared.dropping.Found.{Found}
+use Rattle.conflict_learn.specs.declared.dropping.LearnedParts.{LearnedParts}
 
 -- The greatest level since which literals of these meanings are false, or 0 where there are none.
 pub record IsGreatestOf (t : TableView) (v : TrailView) (ls : List Literal) (n : ℕ) : Type 0 where
@@ -160,7 +160,7 @@ pub record IsBack (v : TrailView) (n : ℕ) (clause : List Lit) (back : ℕ) : T
   pub reached : (back ≡ 0) ⊎ ((m : Lit) × Contains clause m × IsFalseAt v m back × (back ≢ n))
 
 -- what was found is the clause of the point, with the level to go back to
-abbrev pub HasFound : Conflict → ℕ → Found → Type 0
+abbrev pub HasFound : Conflict → ℕ → LearnedParts → Type 0
 HasFound c n f = IsUip c n f.clause.items f.premises.items × IsBack c.trail n f.clause.items f.back
 
 -- A literal's term is a formula of the table's and no negation.

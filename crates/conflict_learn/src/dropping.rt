@@ -18,7 +18,7 @@ use world_io::NoMemory;
 
 /// The clause that was found, and from which steps it follows.
 #[derive(Drop)]
-pub(crate) struct Found {
+pub(crate) struct LearnedParts {
     /// Its literals; the one of the conflict's level is the last.
     pub(crate) clause: Vec<Lit>,
     /// The clash, the reasons that were passed, and those of the literals that were dropped.
@@ -147,7 +147,7 @@ pub(crate) fn find(
     log: &ProofLog,
     level: u64,
     clash: StepId,
-) -> Result<Found, NoMemory>
+) -> Result<LearnedParts, NoMemory>
     requires log { IsLogOf table.now log.now }
     requires clash { IsClash table.now log.now trail.now.literals clash }
     requires level { IsConflictLevel
@@ -165,7 +165,7 @@ pub(crate) fn find(
     analysis.seen.lower.push(negated(one))?;
     let premises = analysis.premises;
     let seen = analysis.seen;
-    Ok(Found {
+    Ok(LearnedParts {
         clause: seen.lower,
         premises,
         back: seen.back,

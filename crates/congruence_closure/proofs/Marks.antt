@@ -7,7 +7,7 @@ use Rattle.explain_forest.specs.declared.types.Edge.{Edge}
 use Rattle.explain_forest.specs.Forest.{ForestState, Linked}
 use Rattle.congruence_relation.specs.Relation.{Application, Facts}
 use Rattle.congruence_closure.specs.declared.parts.Extent.{Extent}
-use Rattle.congruence_closure.specs.declared.closure.Mark.{Mark}
+use Rattle.congruence_closure.specs.declared.closure.ClosureMark.{ClosureMark}
 use Rattle.congruence_closure.specs.Closure.{ClosureState}
 use Rattle.congruence_closure.specs.Keys.{Keys, oldest, AreKeys}
 use Rattle.congruence_closure.specs.State.{PartsState, Left, PartsView, PartsFit, IsSaturated, with_listed, with_held, extent_of, facts_at, state_at}
@@ -72,7 +72,7 @@ upto_trans a b c p q = record { listed = omega (arith, p.listed, q.listed); held
 -- ---- the parts go on
 
 module _ (p q : PartsView) (f : Follows p q) where
-  mark_follows : (m : Mark) (numbers : List ℕ) (forest : ForestState) → IsMark p m numbers forest → IsMark q m numbers forest
+  mark_follows : (m : ClosureMark) (numbers : List ℕ) (forest : ForestState) → IsMark p m numbers forest → IsMark q m numbers forest
   mark_follows m numbers forest h =
       let same : state_at q.now m.extent m.pending.items numbers forest.edges ≡ state_at p.now m.extent m.pending.items numbers forest.edges = λ i. record {
         facts = f.facts m.extent h.upto i;
@@ -89,7 +89,7 @@ module _ (p q : PartsView) (f : Follows p q) where
         upto = upto_trans m.extent (extent_of p.now) (extent_of q.now) h.upto f.upto;
       }
 
-  pub whole_follows : (settled now : Bool) (marks : List Mark) → ClosureFits p settled marks → (now ≡ true → IsSaturated q.now) → ClosureFits q now marks
+  pub whole_follows : (settled now : Bool) (marks : List ClosureMark) → ClosureFits p settled marks → (now ≡ true → IsSaturated q.now) → ClosureFits q now marks
   whole_follows settled now marks w done = record {
     done = done;
     numbers_count = ap length f.numbers_marks ∙ w.numbers_count;
@@ -101,10 +101,10 @@ module _ (p q : PartsView) (f : Follows p q) where
     grown = λ i j le lt. subst (λ ns. length (get_or ns i []) ≤ length (get_or ns j [])) (sym f.numbers_marks) (w.grown i j le lt);
   }
 
-  pub marks_follow : (settled : Bool) (marks : List Mark) → ClosureFits p settled marks → map (marked q.now.facts) marks ≡ map (marked p.now.facts) marks
+  pub marks_follow : (settled : Bool) (marks : List ClosureMark) → ClosureFits p settled marks → map (marked q.now.facts) marks ≡ map (marked p.now.facts) marks
   marks_follow settled marks w = same marks (λ k m lt is. (w.kept k m lt is).upto)
     where
-      same : (ms : List Mark) → ((k : ℕ) (m : Mark) → k < length ms → get_or ms k m ≡ m → IsUpTo m.extent (extent_of p.now)) → map (marked q.now.facts) ms ≡ map (marked p.now.facts) ms
+      same : (ms : List ClosureMark) → ((k : ℕ) (m : ClosureMark) → k < length ms → get_or ms k m ≡ m → IsUpTo m.extent (extent_of p.now)) → map (marked q.now.facts) ms ≡ map (marked p.now.facts) ms
       same [] le = refl
       same (m ∷ ms) le =
           let first = f.facts m.extent (le 0 m (omega arith) refl) in
@@ -133,7 +133,7 @@ at_extent s keys = λ i. record {
   left = s.left;
 }
 
-module _ (p q : PartsView) (settled : Bool) (marks : List Mark) (m : Mark) (w : ClosureFits p settled marks) (h : PartsFit p.now) (terms : length p.now.numbers ≤ p.terms) (set : MarksState p q)
+module _ (p q : PartsView) (settled : Bool) (marks : List ClosureMark) (m : ClosureMark) (w : ClosureFits p settled marks) (h : PartsFit p.now) (terms : length p.now.numbers ≤ p.terms) (set : MarksState p q)
     (extent : m.extent ≡ extent_of p.now) (pending : m.pending.items ≡ p.now.left.pending) (told : m.settled ≡ settled) where
   -- the state at the mark is that of now
   state_is : state_at q.now m.extent m.pending.items p.now.numbers p.now.edges ≡ p.now
@@ -164,7 +164,7 @@ module _ (p q : PartsView) (settled : Bool) (marks : List Mark) (m : Mark) (w : 
   edges_last : (j : ℕ) → j ≡ length marks → get_or q.edges_marks j no_forest ≡ record { terms = p.terms; edges = p.now.edges }
   edges_last j e = ap (λ es. get_or es j no_forest) set.edges_marks ∙ get_or_push p.edges_marks (record { terms = p.terms; edges = p.now.edges }) no_forest j (w.edges_count ∙ sym e)
 
-  mark_again : (n : Mark) (numbers : List ℕ) (forest : ForestState) → IsMark p n numbers forest → IsMark q n numbers forest
+  mark_again : (n : ClosureMark) (numbers : List ℕ) (forest : ForestState) → IsMark p n numbers forest → IsMark q n numbers forest
   mark_again n numbers forest k =
       let same = ap (λ (s : PartsState). state_at s n.extent n.pending.items numbers forest.edges) set.now in
       record {
@@ -176,18 +176,18 @@ module _ (p q : PartsView) (settled : Bool) (marks : List Mark) (m : Mark) (w : 
       }
 
   extent_before : (j : ℕ) → j < length marks → extent_at (marks ++ m ∷ []) j ≡ extent_at marks j
-  extent_before j lt = ap (λ xs. get_or xs j no_extent) (map_push (λ (n : Mark). n.extent) marks m)
-      ∙ get_or_append_left (map (λ (n : Mark). n.extent) marks) (m.extent ∷ []) no_extent j (omega (arith, lt, length-map marks (λ (n : Mark). n.extent)))
+  extent_before j lt = ap (λ xs. get_or xs j no_extent) (map_push (λ (n : ClosureMark). n.extent) marks m)
+      ∙ get_or_append_left (map (λ (n : ClosureMark). n.extent) marks) (m.extent ∷ []) no_extent j (omega (arith, lt, length-map marks (λ (n : ClosureMark). n.extent)))
 
   extent_last : (j : ℕ) → j ≡ length marks → extent_at (marks ++ m ∷ []) j ≡ extent_of p.now
-  extent_last j e = ap (λ xs. get_or xs j no_extent) (map_push (λ (n : Mark). n.extent) marks m)
-      ∙ get_or_push (map (λ (n : Mark). n.extent) marks) m.extent no_extent j (length-map marks (λ (n : Mark). n.extent) ∙ sym e) ∙ extent
+  extent_last j e = ap (λ xs. get_or xs j no_extent) (map_push (λ (n : ClosureMark). n.extent) marks m)
+      ∙ get_or_push (map (λ (n : ClosureMark). n.extent) marks) m.extent no_extent j (length-map marks (λ (n : ClosureMark). n.extent) ∙ sym e) ∙ extent
 
   old_upto : (i : ℕ) → i < length marks → IsUpTo (extent_at marks i) (extent_of p.now)
   old_upto i lt =
-      let n : Mark = get_or marks i m in
+      let n : ClosureMark = get_or marks i m in
       let k = w.kept i (get_or marks i m) lt (get_or_default marks i (get_or marks i m) m lt) in
-      subst (λ (e : Extent). IsUpTo e (extent_of p.now)) (sym (get_or-map (λ (x : Mark). x.extent) marks i m no_extent lt)) k.upto
+      subst (λ (e : Extent). IsUpTo e (extent_of p.now)) (sym (get_or-map (λ (x : ClosureMark). x.extent) marks i m no_extent lt)) k.upto
 
   old_fits : (i : ℕ) → i < length marks → length (get_or p.numbers_marks i []) ≤ length p.now.numbers
   old_fits i lt = (w.kept i (get_or marks i m) lt (get_or_default marks i (get_or marks i m) m lt)).fits
@@ -202,11 +202,11 @@ module _ (p q : PartsView) (settled : Bool) (marks : List Mark) (m : Mark) (w : 
     grown = λ i j le lt. grown i j le (places marks m j lt);
   }
     where
-      kept : (j : ℕ) (n : Mark) → (j < length marks) ⊎ (j ≡ length marks) → get_or (marks ++ m ∷ []) j n ≡ n → IsMark q n (get_or q.numbers_marks j []) (get_or q.edges_marks j no_forest)
+      kept : (j : ℕ) (n : ClosureMark) → (j < length marks) ⊎ (j ≡ length marks) → get_or (marks ++ m ∷ []) j n ≡ n → IsMark q n (get_or q.numbers_marks j []) (get_or q.edges_marks j no_forest)
       kept j n (inl lt) is = subst (λ ns. IsMark q n ns (get_or q.edges_marks j no_forest)) (sym (numbers_before j lt)) (subst (IsMark q n (get_or p.numbers_marks j [])) (sym (edges_before j lt))
           (mark_again n (get_or p.numbers_marks j []) (get_or p.edges_marks j no_forest) (w.kept j n lt (sym (get_or_append_left marks (m ∷ []) n j lt) ∙ is))))
       kept j n (inr e) is = subst (λ ns. IsMark q n ns (get_or q.edges_marks j no_forest)) (sym (numbers_last j e)) (subst (IsMark q n p.now.numbers) (sym (edges_last j e))
-          (subst (λ (x : Mark). IsMark q x p.now.numbers (record { terms = p.terms; edges = p.now.edges })) (sym (get_or_push marks m n j (sym e)) ∙ is) new_mark))
+          (subst (λ (x : ClosureMark). IsMark q x p.now.numbers (record { terms = p.terms; edges = p.now.edges })) (sym (get_or_push marks m n j (sym e)) ∙ is) new_mark))
 
       ordered : (i j : ℕ) → i ≤ j → (j < length marks) ⊎ (j ≡ length marks) → IsUpTo (extent_at (marks ++ m ∷ []) i) (extent_at (marks ++ m ∷ []) j)
       ordered i j le (inl lt) = subst (λ (e : Extent). IsUpTo e (extent_at (marks ++ m ∷ []) j)) (sym (extent_before i (omega (arith, le, lt))))
@@ -229,13 +229,13 @@ module _ (p q : PartsView) (settled : Bool) (marks : List Mark) (m : Mark) (w : 
 -- ---- going back to a mark
 
 -- what is popped of the marks up to one is this mark, and the older ones are left
-pub found_mark : (marks cut left : List Mark) (n : ℕ) (m : Mark) → 0 < n → n ≤ length marks → cut ≡ take (length marks - n + 1) marks → cut ≡ left ++ m ∷ []
+pub found_mark : (marks cut left : List ClosureMark) (n : ℕ) (m : ClosureMark) → 0 < n → n ≤ length marks → cut ≡ take (length marks - n + 1) marks → cut ≡ left ++ m ∷ []
     → (get_or marks (length marks - n) m ≡ m) × (left ≡ take (length marks - n) marks)
 found_mark marks cut left n m some few is popped =
     let both = same_from_push (take (length marks - n) marks) left (get_or marks (length marks - n) m) m (sym (take_more marks (length marks - n) m (omega (arith, some, few))) ∙ sym is ∙ popped) in
     (both.1, sym both.0)
 
-module _ (p : PartsView) (settled : Bool) (marks : List Mark) (n : ℕ) (m : Mark) (w : ClosureFits p settled marks) (some : 0 < n) (few : n ≤ length marks) (is : get_or marks (length marks - n) m ≡ m) where
+module _ (p : PartsView) (settled : Bool) (marks : List ClosureMark) (n : ℕ) (m : ClosureMark) (w : ClosureFits p settled marks) (some : 0 < n) (few : n ≤ length marks) (is : get_or marks (length marks - n) m ≡ m) where
   low : length marks - n < length marks
   low = omega (arith, some, few)
 
@@ -258,13 +258,13 @@ module _ (p : PartsView) (settled : Bool) (marks : List Mark) (n : ℕ) (m : Mar
   )
 
   extent_is : extent_at marks (length marks - n) ≡ m.extent
-  extent_is = get_or-map (λ (x : Mark). x.extent) marks (length marks - n) m no_extent low ∙ ap (λ (x : Mark). x.extent) is
+  extent_is = get_or-map (λ (x : ClosureMark). x.extent) marks (length marks - n) m no_extent low ∙ ap (λ (x : ClosureMark). x.extent) is
 
   -- an older mark had no more than this one
-  older : (j : ℕ) (x : Mark) → j < length marks - n → get_or marks j x ≡ x → IsUpTo x.extent m.extent
+  older : (j : ℕ) (x : ClosureMark) → j < length marks - n → get_or marks j x ≡ x → IsUpTo x.extent m.extent
   older j x lt e =
       let within : j < length marks = omega (arith, lt, few) in
-      let at_j : extent_at marks j ≡ x.extent = get_or-map (λ (y : Mark). y.extent) marks j x no_extent within ∙ ap (λ (y : Mark). y.extent) e in
+      let at_j : extent_at marks j ≡ x.extent = get_or-map (λ (y : ClosureMark). y.extent) marks j x no_extent within ∙ ap (λ (y : ClosureMark). y.extent) e in
       subst (λ (y : Extent). IsUpTo y m.extent) at_j (subst (IsUpTo (extent_at marks j)) extent_is (w.ordered j (length marks - n) (omega (arith, lt)) low))
 
   -- what was at an older mark is what it was
@@ -287,7 +287,7 @@ module _ (p : PartsView) (settled : Bool) (marks : List Mark) (n : ℕ) (m : Mar
   below : (j : ℕ) → j < length (take (length marks - n) marks) → j < length marks - n
   below j lt = omega (arith, lt, length-take-le (length marks - n) marks (omega arith))
 
-  mark_kept : (j : ℕ) (x : Mark) → j < length marks - n → get_or marks j x ≡ x → IsMark (parts_back p n m.extent m.pending.items) x (get_or p.numbers_marks j []) (get_or p.edges_marks j no_forest)
+  mark_kept : (j : ℕ) (x : ClosureMark) → j < length marks - n → get_or marks j x ≡ x → IsMark (parts_back p n m.extent m.pending.items) x (get_or p.numbers_marks j []) (get_or p.edges_marks j no_forest)
   mark_kept j x lt e =
       let within : j < length marks = omega (arith, lt, few) in
       let k = w.kept j x within e in
@@ -314,7 +314,7 @@ module _ (p : PartsView) (settled : Bool) (marks : List Mark) (n : ℕ) (m : Mar
       }
 
   extent_kept : (j : ℕ) → j < length marks - n → extent_at (take (length marks - n) marks) j ≡ extent_at marks j
-  extent_kept j lt = ap (λ xs. get_or xs j no_extent) (sym (take-map (λ (x : Mark). x.extent) (length marks - n) marks)) ∙ get_or-take (length marks - n) (map (λ (x : Mark). x.extent) marks) j no_extent lt
+  extent_kept j lt = ap (λ xs. get_or xs j no_extent) (sym (take-map (λ (x : ClosureMark). x.extent) (length marks - n) marks)) ∙ get_or-take (length marks - n) (map (λ (x : ClosureMark). x.extent) marks) j no_extent lt
 
   pub whole_back : ClosureFits (parts_back p n m.extent m.pending.items) m.settled (take (length marks - n) marks)
   whole_back = record {
@@ -344,7 +344,7 @@ module _ (p : PartsView) (settled : Bool) (marks : List Mark) (n : ℕ) (m : Mar
   marks_back = same (take (length marks - n) marks) (λ j x lt e. older j x (below j lt) (sym (get_or-take (length marks - n) marks j x (below j lt)) ∙ e))
       ∙ sym (take-map (marked p.now.facts) (length marks - n) marks) ∙ ap (λ k. take (k - n) (map (marked p.now.facts) marks)) (sym (length-map marks (marked p.now.facts)))
     where
-      same : (ms : List Mark) → ((j : ℕ) (x : Mark) → j < length ms → get_or ms j x ≡ x → IsUpTo x.extent m.extent) → map (marked (facts_at p.now.facts m.extent)) ms ≡ map (marked p.now.facts) ms
+      same : (ms : List ClosureMark) → ((j : ℕ) (x : ClosureMark) → j < length ms → get_or ms j x ≡ x → IsUpTo x.extent m.extent) → map (marked (facts_at p.now.facts m.extent)) ms ≡ map (marked p.now.facts) ms
       same [] le = refl
       same (x ∷ ms) le =
           let first = facts_again x.extent (le 0 x (omega arith) refl) in

@@ -4,7 +4,7 @@ use Rattle.std.proofs.lemmas.Bool.{cases_lt}
 use Rattle.std.proofs.lemmas.List.{length-take-le, take_all}
 use Rattle.congruence_relation.specs.Relation.{Facts}
 use Rattle.congruence_closure.specs.declared.parts.Extent.{Extent}
-use Rattle.congruence_closure.specs.declared.closure.Mark.{Mark}
+use Rattle.congruence_closure.specs.declared.closure.ClosureMark.{ClosureMark}
 use Rattle.congruence_closure.specs.Closure.{ClosureState, ArePrefix}
 use Rattle.congruence_closure.specs.State.{facts_at}
 use Rattle.congruence_closure.specs.Whole.{marked}
@@ -22,7 +22,7 @@ front_at : (f : Facts) (e : Extent) → ArePrefix (facts_at f e) f
 front_at f e = record { listed = taken e.listed f.listed; truths = refl; held = taken e.held f.held }
 
 -- each mark's are
-pub front_marked : (f : Facts) (now : ClosureState) (marks : List Mark) (k : ℕ) → k < length (map (marked f) marks) → ArePrefix (get_or (map (marked f) marks) k now).facts f
+pub front_marked : (f : Facts) (now : ClosureState) (marks : List ClosureMark) (k : ℕ) → k < length (map (marked f) marks) → ArePrefix (get_or (map (marked f) marks) k now).facts f
 front_marked f now [] k low = absurd (omega (arith, low))
 front_marked f now (m ∷ marks) zero low = front_at f m.extent
 front_marked f now (m ∷ marks) (suc k) low = front_marked f now marks k (omega (arith, low))

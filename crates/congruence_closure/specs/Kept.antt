@@ -1,6 +1,6 @@
 -- What the fields of parts mean and keep.
 use Rattle.std.specs.Prelude.{◌≤◌, length, drop}
-use Rattle.congruence_closure.specs.declared.parts.Parts.TheInside.{Inside}
+use Rattle.congruence_closure.specs.declared.parts.ClosureParts.TheInside.{Inside}
 use Rattle.congruence_closure.specs.State.{PartsState, PartsView, PartsFit}
 
 -- what the fields are

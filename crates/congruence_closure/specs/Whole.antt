@@ -3,14 +3,14 @@ use Rattle.std.specs.Prelude.{◌≡◌, ℕ, ◌<◌, ◌≤◌, Bool, true, Li
 use Rattle.explain_forest.specs.Forest.{ForestState}
 use Rattle.congruence_relation.specs.Relation.{Facts}
 use Rattle.congruence_closure.specs.declared.parts.Extent.{Extent}
-use Rattle.congruence_closure.specs.declared.closure.Mark.{Mark}
+use Rattle.congruence_closure.specs.declared.closure.ClosureMark.{ClosureMark}
 use Rattle.congruence_closure.specs.declared.closure.Closure.TheInside.{Inside}
 use Rattle.congruence_closure.specs.Closure.{ClosureState, ClosureView}
 use Rattle.congruence_closure.specs.State.{PartsView, PartsFit, IsSaturated, extent_of, facts_at, state_at}
 use Rattle.congruence_closure.specs.Changes.{no_forest}
 
 -- what it was about at a mark
-abbrev pub marked : Facts → Mark → ClosureState
+abbrev pub marked : Facts → ClosureMark → ClosureState
 marked f m = record { facts = facts_at f m.extent; settled = m.settled }
 
 -- what contracts see of the fields
@@ -28,7 +28,7 @@ pub record IsUpTo (one other : Extent) : Type 0 where
   pub keys : one.keys ≤ other.keys
 
 -- What parts were at a mark, with the classes and edges there, was kept then.
-pub record IsMark (p : PartsView) (m : Mark) (numbers : List ℕ) (forest : ForestState) : Type 0 where
+pub record IsMark (p : PartsView) (m : ClosureMark) (numbers : List ℕ) (forest : ForestState) : Type 0 where
   pub kept : PartsFit (state_at p.now m.extent m.pending.items numbers forest.edges)
   pub settled : m.settled ≡ true → IsSaturated (state_at p.now m.extent m.pending.items numbers forest.edges)
   pub terms : length numbers ≤ forest.terms
@@ -40,18 +40,18 @@ abbrev pub no_extent : Extent
 no_extent = record { listed = 0; held = 0; keys = 0; looked = 0; given = 0 }
 
 -- how much there was at a mark
-abbrev pub extent_at : List Mark → ℕ → Extent
-extent_at marks j = get_or (map (λ (m : Mark). m.extent) marks) j no_extent
+abbrev pub extent_at : List ClosureMark → ℕ → Extent
+extent_at marks j = get_or (map (λ (m : ClosureMark). m.extent) marks) j no_extent
 
 -- What the fields of a closure keep.
-pub record ClosureFits (p : PartsView) (settled : Bool) (marks : List Mark) : Type 0 where
+pub record ClosureFits (p : PartsView) (settled : Bool) (marks : List ClosureMark) : Type 0 where
   -- nothing is left to do where it is settled
   pub done : settled ≡ true → IsSaturated p.now
   -- classes and edges have as many marks
   pub numbers_count : length p.numbers_marks ≡ length marks
   pub edges_count : length p.edges_marks ≡ length marks
   -- what was at each mark was kept
-  pub kept : (j : ℕ) (m : Mark) → j < length marks → get_or marks j m ≡ m
+  pub kept : (j : ℕ) (m : ClosureMark) → j < length marks → get_or marks j m ≡ m
       → IsMark p m (get_or p.numbers_marks j []) (get_or p.edges_marks j no_forest)
   -- there was no more at an older mark
   pub ordered : (i j : ℕ) → i ≤ j → j < length marks → IsUpTo (extent_at marks i) (extent_at marks j)

@@ -10,7 +10,7 @@ ghost use Rattle.congruence_closure.specs.Listed.{no_term_id, IsListed, HasPlace
 ghost use Rattle.congruence_closure.specs.State.{with_listed, with_held};
 
 use crate::Conflict;
-use crate::parts::{Extent, Parts};
+use crate::parts::{ClosureParts, Extent};
 use congruence_relation::{Listed, Truths};
 use explain_forest::Forest;
 use std::alloc::Global;
@@ -20,7 +20,7 @@ use world_io::NoMemory;
 
 /// Holds what a closure had at a mark.
 #[derive(Drop)]
-pub(crate) struct Mark {
+pub(crate) struct ClosureMark {
     /// How much there was.
     pub(crate) extent: Extent,
     /// What was left to look at again.
@@ -35,11 +35,11 @@ pub(crate) struct Mark {
 /// and to the users of the classes that are renumbered. Contracts see what it is about, its edges, and what it was about at each mark.
 #[derive(Drop)]
 pub struct Closure {
-    parts: Parts,
+    parts: ClosureParts,
     /// Nothing came since `settle` found no conflict.
     settled: bool,
     /// The marks, oldest first.
-    marks: Vec<Mark>,
+    marks: Vec<ClosureMark>,
 }
 
 impl Model for Closure {
@@ -65,7 +65,7 @@ impl Closure {
         })
             × (c.edges ≡ []) × (c.marks ≡ [])) }
     {
-        let parts = Parts::new(alloc, truths)?;
+        let parts = ClosureParts::new(alloc, truths)?;
         Ok(Closure {
             parts,
             settled: false,
@@ -164,7 +164,7 @@ impl Closure {
         let pending = self.parts.left()?;
         self.marks.reserve(1)?;
         self.parts.mark()?;
-        self.marks.push_reserved(Mark {
+        self.marks.push_reserved(ClosureMark {
             extent: self.parts.extent(),
             pending,
             settled: self.settled,

@@ -11,7 +11,7 @@ ghost use Rattle.congruence_closure.specs.Changes.{KeepsFacts, IsAgainst, HasLoo
 
 use crate::Conflict;
 use crate::key_table::key_of;
-use crate::parts::Parts;
+use crate::parts::ClosureParts;
 use crate::reading::sides_of;
 use crate::settling::Turn;
 use congruence_relation::Truths;
@@ -29,7 +29,7 @@ fn truth_term(truths: Truths, positive: bool) -> TermId
     }
 }
 
-impl Parts {
+impl ClosureParts {
     /// Gives the sides of the listed term of a place, if it is an equality. It takes no memory.
     fn sides_at(&self, place: u64) -> Option<(TermId, TermId)>
         requires { place < length self.now.now.facts.listed }

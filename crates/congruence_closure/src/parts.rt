@@ -22,7 +22,7 @@ use world_io::NoMemory;
 ///
 /// Listed terms are looked at once, and again where the class of an argument was renumbered. Held literals are given once.
 #[derive(Drop)]
-pub(crate) struct Parts {
+pub(crate) struct ClosureParts {
     pub(crate) alloc: Global,
     /// The terms `true` and `false`.
     pub(crate) truths: Truths,
@@ -46,7 +46,7 @@ pub(crate) struct Parts {
     pub(crate) next: usize,
 }
 
-impl Model for Parts {
+impl Model for ClosureParts {
     ghost use Rattle.congruence_closure.specs.State.{PartsView};
     ghost use Rattle.congruence_closure.specs.Kept.{closure_view, AreParts};
 
@@ -57,11 +57,11 @@ impl Model for Parts {
     ghost invariant = { AreParts };
 }
 
-impl Parts {
+impl ClosureParts {
     /// Makes the parts of no listed terms and no literals, with the terms of the truth values.
     ///
     /// `NoMemory` comes where these find no memory.
-    pub fn new(alloc: Global, truths: Truths) -> Result<Parts, NoMemory>
+    pub fn new(alloc: Global, truths: Truths) -> Result<ClosureParts, NoMemory>
         requires { truths.true_term ≢ truths.false_term }
         ensures { IfOk result (AreNew truths) }
     {
@@ -70,7 +70,7 @@ impl Parts {
         let mut holding = Holding::new(alloc);
         add_term(&mut classes, &mut forest, &mut holding, truths.true_term)?;
         add_term(&mut classes, &mut forest, &mut holding, truths.false_term)?;
-        Ok(Parts {
+        Ok(ClosureParts {
             alloc,
             truths,
             listing: Listing::new(alloc),

@@ -8,7 +8,7 @@ ghost use Rattle.congruence_closure.specs.Changes.{label, KeepsFacts, IsWhy, Are
 
 use crate::Conflict;
 use crate::listing::Listing;
-use crate::parts::Parts;
+use crate::parts::ClosureParts;
 use class_table::ClassTable;
 use explain_forest::Label;
 use term_core::{Lit, TermId};
@@ -57,7 +57,7 @@ fn label_of(why: Option<Lit>, a: TermId, b: TermId) -> Label
     }
 }
 
-impl Parts {
+impl ClosureParts {
     /// Joins the class of one term to that of another, which is no smaller, and keeps its number.
     ///
     /// `NoMemory` comes where what is to be looked at again finds no memory; then no classes are joined.

@@ -25,7 +25,7 @@ use Rattle.clause_literals.specs.Literals.{lit_complement}
 use Rattle.clause_literals.proofs.LiteralLists.{negation_twice}
 use Rattle.clause_literals.proofs.TableLiterals.{literals_apart}
 use Rattle.explain_forest.specs.declared.types.Edge.{Edge}
-use Rattle.explain_forest.specs.declared.types.Step.{Step}
+use Rattle.explain_forest.specs.declared.types.PathStep.{PathStep}
 use Rattle.explain_forest.specs.declared.types.Label.TheVariants.{Held}
 use Rattle.explain_forest.specs.Forest.{ForestState, Linked, path, numbered, older, PathLeads, IsAlong}
 use Rattle.explain_forest.proofs.Levels.{numbered-top, numbered-older}
@@ -42,7 +42,7 @@ use Rattle.proof_log.specs.Clashes.{HasLit, IsClash}
 use Rattle.proof_log.specs.Theories.{Derived, DerivesLemmas}
 use Rattle.proof_log.proofs.Logged.{numbers_there, premises_there}
 use Rattle.congruence_explain.specs.declared.claims.Claim.TheVariants.{Equality}
-use Rattle.congruence_explain.specs.declared.claims.Said.{Said}
+use Rattle.congruence_explain.specs.declared.claims.SignedClaim.{SignedClaim}
 use Rattle.congruence_explain.specs.Claims.{no_term_id, term_said, literal_said, literal_claimed, IsClaimOf, unequal, said_value}
 use Rattle.congruence_explain.specs.Basis.{IsBasis, AreLinkedIn, IsEqualityIn, HasLinkedSides}
 use Rattle.congruence_explain.specs.Steps.{Start, derived, begun, spoken, Explains, literals_logged, steps_since, ExplanationSetting, setting, HasPut, all_denied, apart, IsDenial, IsCollected, IsExplained, others_of, AreNumbersFrom}
@@ -78,7 +78,7 @@ premise_literals t log [] = refl
 premise_literals t log (id ∷ ids) = ap (λ z. literals_logged t (logged_at log id) ∷ z) (premise_literals t log ids)
 
 -- from the steps since the start a clause follows by resolution
-pub resolution_follows : (start : Start) (t : TableView) (log : List Logged) (from : ℕ) (ids : List StepId) (clause : List Said) → from ≡ length start.log → AreNumbersFrom log from ids → All (λ s. IsClaimOf (spoken start) start.table s.claim) clause
+pub resolution_follows : (start : Start) (t : TableView) (log : List Logged) (from : ℕ) (ids : List StepId) (clause : List SignedClaim) → from ≡ length start.log → AreNumbersFrom log from ids → All (λ s. IsClaimOf (spoken start) start.table s.claim) clause
     → Conflicts complement (steps_since start (derived t log)) (all_denied start.table clause) → FollowsFrom (derivation_in t log) (by_rule Resolution (numbers_of ids) none (map (term_said start.table) clause))
 resolution_follows start t log from ids clause from_is numbers claims conflict = (
   numbers_there t log ids numbers.there,
@@ -91,7 +91,7 @@ resolution_follows start t log from ids clause from_is numbers claims conflict =
     premises = premise_literals t log ids ∙ ap (map (literals_logged t)) (numbers.all ∙ ap (λ n. drop n log) from_is) ∙ sym (drop-map (literals_logged t) (length start.log) log)
 
 -- the two sides of an equality are equal and are not
-pub sides_conflict : (s : ExplanationSetting) (steps : List (List Literal)) (e a c : TermId) (stated clause : List Said) → IsEqualityIn s.table e a c → IsCollected s steps a c stated → clause ≡ stated ++ said_value e true ∷ [] → Conflicts complement steps (all_denied s.table clause)
+pub sides_conflict : (s : ExplanationSetting) (steps : List (List Literal)) (e a c : TermId) (stated clause : List SignedClaim) → IsEqualityIn s.table e a c → IsCollected s steps a c stated → clause ≡ stated ++ said_value e true ∷ [] → Conflicts complement steps (all_denied s.table clause)
 sides_conflict s steps e a c stated clause q collected is = both_ways (literal_claimed s.table (Equality a c))
     (derives_more steps steps (all_denied s.table stated) (all_denied s.table clause) (λ x i. i) (denied_more s.table stated clause (within_more stated clause (said_value e true ∷ []) is)) (literal_claimed s.table (Equality a c)) collected.shown)
     (given (complement (literal_claimed s.table (Equality a c))) (subst (Contains (all_denied s.table clause)) same last))
@@ -103,7 +103,7 @@ sides_conflict s steps e a c stated clause q collected is = both_ways (literal_c
     same = ap (λ (x : Term). let l : Literal = record { atom = x; positive = false } in l) q.is
 
 -- `true` and `false` are equal and are not
-pub truths_conflict : (s : ExplanationSetting) (steps after : List (List Literal)) (stated : List Said) → IsCollected s steps s.truths.true_term s.truths.false_term stated → after ≡ steps ++ apart s.table s.truths → Conflicts complement after (all_denied s.table stated)
+pub truths_conflict : (s : ExplanationSetting) (steps after : List (List Literal)) (stated : List SignedClaim) → IsCollected s steps s.truths.true_term s.truths.false_term stated → after ≡ steps ++ apart s.table s.truths → Conflicts complement after (all_denied s.table stated)
 truths_conflict s steps after stated collected is = both_ways off off_derived (by_clause after assumed (not_off ∷ []) not_off (step_in (not_off ∷ []) (later clause ((yes ∷ []) ∷ (not_off ∷ []) ∷ []) (not_off ∷ []) (later (yes ∷ []) ((not_off ∷ []) ∷ []) (not_off ∷ []) (first (not_off ∷ []) [])))) (first not_off []) (λ m i. inl (sym (only not_off m i))))
   where
     assumed : List Literal
@@ -182,15 +182,15 @@ numbered_all P (e ∷ es) h k lt = go (cases_eq k (length es)) (numbered_all P e
 pub ends_there : (n : ℕ) (es : List Edge) → All (λ e. (e.a.0 < n) × (e.b.0 < n)) es → (x y : ℕ) → Linked es x y → x ≢ y → (x < n) × (y < n)
 ends_there n es ends x y linked apart_terms = go (path es x y) (path-leads es x y linked) (path-along es x y)
   where
-    end : (s : Step) → IsAlong es s → (s.from.0 < n) × (s.to.0 < n)
-    end s (lt, inl e) = let p = numbered_all (λ e. (e.a.0 < n) × (e.b.0 < n)) es ends s.edge lt in (subst (λ (z : Step). z.from.0 < n) (sym e) p.0, subst (λ (z : Step). z.to.0 < n) (sym e) p.1)
-    end s (lt, inr e) = let p = numbered_all (λ e. (e.a.0 < n) × (e.b.0 < n)) es ends s.edge lt in (subst (λ (z : Step). z.from.0 < n) (sym e) p.1, subst (λ (z : Step). z.to.0 < n) (sym e) p.0)
+    end : (s : PathStep) → IsAlong es s → (s.from.0 < n) × (s.to.0 < n)
+    end s (lt, inl e) = let p = numbered_all (λ e. (e.a.0 < n) × (e.b.0 < n)) es ends s.edge lt in (subst (λ (z : PathStep). z.from.0 < n) (sym e) p.0, subst (λ (z : PathStep). z.to.0 < n) (sym e) p.1)
+    end s (lt, inr e) = let p = numbered_all (λ e. (e.a.0 < n) × (e.b.0 < n)) es ends s.edge lt in (subst (λ (z : PathStep). z.from.0 < n) (sym e) p.1, subst (λ (z : PathStep). z.to.0 < n) (sym e) p.0)
 
-    last : (m : ℕ) → m < n → (ss : List Step) → PathLeads m ss y → All (IsAlong es) ss → y < n
+    last : (m : ℕ) → m < n → (ss : List PathStep) → PathLeads m ss y → All (IsAlong es) ss → y < n
     last m lt [] e h = subst (λ z. z < n) e lt
     last m lt (s ∷ ss) (e, rest) h = last s.to.0 (end s (All-head (IsAlong es) s ss h)).1 ss rest (All-tail (IsAlong es) s ss h)
 
-    go : (ss : List Step) → PathLeads x ss y → All (IsAlong es) ss → (x < n) × (y < n)
+    go : (ss : List PathStep) → PathLeads x ss y → All (IsAlong es) ss → (x < n) × (y < n)
     go [] e h = absurd (apart_terms e)
     go (s ∷ ss) (e, rest) h = let p = end s (All-head (IsAlong es) s ss h) in (subst (λ z. z < n) e p.0, last s.to.0 p.1 ss rest (All-tail (IsAlong es) s ss h))
 
@@ -200,11 +200,11 @@ module _ (t : TableView) (ts : Truths) (v : ForestState) (f : Facts) (b : IsBasi
   label_held k l lt label = (subst (IsEdgeReason f (older v.edges k) (numbered v.edges k)) label (reason_at f v.edges b.reasons k lt)).0
 
   -- so its denial can be put
-  pub denials_in : (stated : List Said) → All (IsDenial (setting t ts v)) stated → All (λ s. IsClaimOf (terms_listed t f) t s.claim) stated
-  denials_in stated h = All-weaker (IsDenial (setting t ts v)) (λ (s : Said). IsClaimOf (terms_listed t f) t s.claim) (λ m d. one m d) stated h
+  pub denials_in : (stated : List SignedClaim) → All (IsDenial (setting t ts v)) stated → All (λ s. IsClaimOf (terms_listed t f) t s.claim) stated
+  denials_in stated h = All-weaker (IsDenial (setting t ts v)) (λ (s : SignedClaim). IsClaimOf (terms_listed t f) t s.claim) (λ m d. one m d) stated h
     where
-      one : (m : Said) → IsDenial (setting t ts v) m → IsClaimOf (terms_listed t f) t m.claim
-      one m (l, k, lt, label, is) = let held = label_held k l lt label in subst (λ (s : Said). IsClaimOf (terms_listed t f) t s.claim) (sym is) (held_atom t ts v f b l held, held_made t ts v f b l held)
+      one : (m : SignedClaim) → IsDenial (setting t ts v) m → IsClaimOf (terms_listed t f) t m.claim
+      one m (l, k, lt, label, is) = let held = label_held k l lt label in subst (λ (s : SignedClaim). IsClaimOf (terms_listed t f) t s.claim) (sym is) (held_atom t ts v f b l held, held_made t ts v f b l held)
 
   -- `true` and `false`, where they are linked
   pub truths_linked : Linked v.edges f.truths.true_term.0 f.truths.false_term.0 → AreLinkedIn (terms_listed t f) t v ts.true_term ts.false_term
@@ -261,7 +261,7 @@ module _ (t : TableView) (ts : Truths) (v : ForestState) (f : Facts) (b : IsBasi
       same_lit : (l m : Lit) → IsIn t l.term → IsIn now.table m.term → literal_at t l ≡ literal_at now.table m → l ≡ m
       same_lit l m l_in m_in is = literals_apart now.table differ l m (IsIn-kept t now.table more l.term l_in) m_in (literal_at-kept t now.table more l l_in ∙ is)
 
-      other : (c : Conflict) → IsConflict f v.edges c → (m : Lit) (x : Said) → Contains (others_of c) x → IsIn now.table m.term → literal_said t x ≡ literal_at now.table m → Contains f.held (lit_complement m)
+      other : (c : Conflict) → IsConflict f v.edges c → (m : Lit) (x : SignedClaim) → Contains (others_of c) x → IsIn now.table m.term → literal_said t x ≡ literal_at now.table m → Contains f.held (lit_complement m)
       other conflicts.Truths wrong m x i m_in is = absurd (none_in x i)
       other (conflicts.Sides side) wrong m x i m_in is =
           let l : Lit = record { term = side; positive = true } in
@@ -273,7 +273,7 @@ module _ (t : TableView) (ts : Truths) (v : ForestState) (f : Facts) (b : IsBasi
           let (x, x_in, x_is) = from_image (literal_said t) e.clause (literal_at now.table m) (subst (λ ls. Contains ls (literal_at now.table m)) e.literals has.there) in
           go x x_is (All-contains (λ y. IsDenial (setting t ts v) y ⊎ Contains (others_of conflict) y) e.clause x e.each x_in)
         where
-          go : (x : Said) → literal_said t x ≡ literal_at now.table m → IsDenial (setting t ts v) x ⊎ Contains (others_of conflict) x → Contains f.held (lit_complement m)
+          go : (x : SignedClaim) → literal_said t x ≡ literal_at now.table m → IsDenial (setting t ts v) x ⊎ Contains (others_of conflict) x → Contains f.held (lit_complement m)
           go x is (inr i) = other conflict wrong m x i has.in_table is
           go x is (inl (l, k, lt, label, d)) =
               let l_in = label_held k l lt label in
@@ -282,16 +282,16 @@ module _ (t : TableView) (ts : Truths) (v : ForestState) (f : Facts) (b : IsBasi
               subst (Contains f.held) (sym (negation_twice l) ∙ ap lit_complement same) l_in
 
 -- the last clause as it is put
-pub explained_put : (s : ExplanationSetting) (start : Start) (old now : Derived) (clause others : List Said) → s.table ≡ start.table → All (λ m. IsDenial s m ⊎ Contains others m) clause
+pub explained_put : (s : ExplanationSetting) (start : Start) (old now : Derived) (clause others : List SignedClaim) → s.table ≡ start.table → All (λ m. IsDenial s m ⊎ Contains others m) clause
     → (r : Result StepId NoMemory) → IfOk r (HasPut start old now (map (literal_said start.table) clause)) → IfOk r (IsExplained s now others)
 explained_put s start old now clause others same each (Ok id) put = record { there = put.there; clause = clause; literals = put.clause_is ∙ ap (λ (t : TableView). map (literal_said t) clause) (sym same); each = each }
 explained_put s start old now clause others same each (Err e) put = tt
 
-pub each_denied : (s : ExplanationSetting) (others stated : List Said) → All (IsDenial s) stated → All (λ m. IsDenial s m ⊎ Contains others m) stated
+pub each_denied : (s : ExplanationSetting) (others stated : List SignedClaim) → All (IsDenial s) stated → All (λ m. IsDenial s m ⊎ Contains others m) stated
 each_denied s others stated h = All-weaker (IsDenial s) (λ m. IsDenial s m ⊎ Contains others m) (λ m d. inl d) stated h
 
 -- with the one that is no denial
-pub each_other : (s : ExplanationSetting) (stated clause : List Said) (m : Said) → clause ≡ stated ++ m ∷ [] → All (IsDenial s) stated → All (λ x. IsDenial s x ⊎ Contains (m ∷ []) x) clause
+pub each_other : (s : ExplanationSetting) (stated clause : List SignedClaim) (m : SignedClaim) → clause ≡ stated ++ m ∷ [] → All (IsDenial s) stated → All (λ x. IsDenial s x ⊎ Contains (m ∷ []) x) clause
 each_other s stated clause m is h = subst (All (λ x. IsDenial s x ⊎ Contains (m ∷ []) x)) (sym is) (All-push (λ x. IsDenial s x ⊎ Contains (m ∷ []) x) stated m (each_denied s (m ∷ []) stated h) (inr (first m [])))
 
 -- the premises of the last clause came since the start

@@ -19,7 +19,7 @@ use Rattle.congruence_relation.specs.declared.Truths.{Truths}
 use Rattle.congruence_relation.specs.Relation.{truth_of}
 use Rattle.proof_log.specs.Theories.{IsAtomIn}
 use Rattle.congruence_explain.specs.declared.claims.Claim.TheVariants.{Equality, Atom}
-use Rattle.congruence_explain.specs.declared.claims.Said.{Said}
+use Rattle.congruence_explain.specs.declared.claims.SignedClaim.{SignedClaim}
 use Rattle.congruence_explain.specs.Rules.{value_rule, decided_rule}
 use Rattle.congruence_explain.specs.Claims.{term_said, literal_said, literal_claimed, IsClaimOf, equality_claim, unequal, denied, said_value}
 use Rattle.congruence_explain.specs.Basis.{AreTruths}
@@ -42,7 +42,7 @@ module _ (t : TableView) (ts : Truths) (h : AreTruths t ts) where
   value_atom false = ((h.false_term.0, record { term = h.false_term.1; sort = ap sort_of h.false_is ∙ false_sort }), subst (λ (x : Term). literal_of x ≡ positive_literal x) (sym h.false_is) false_atom)
 
   pub value_in : (terms : List Term) (p q : Bool) → All (λ s. IsClaimOf terms t s.claim) (said_value (truth_of ts p) q ∷ [])
-  value_in terms p q = All-cons (λ (s : Said). IsClaimOf terms t s.claim) (said_value (truth_of ts p) q) [] (value_atom p, truth_made terms t ts h p) (All-nil (λ (s : Said). IsClaimOf terms t s.claim))
+  value_in terms p q = All-cons (λ (s : SignedClaim). IsClaimOf terms t s.claim) (said_value (truth_of ts p) q) [] (value_atom p, truth_made terms t ts h p) (All-nil (λ (s : SignedClaim). IsClaimOf terms t s.claim))
 
   -- a truth value is stated
   pub value_right : (p : Bool) → IsRight (value_rule p) [] none (map (term_said t) (said_value (truth_of ts p) p ∷ []))
@@ -60,12 +60,12 @@ module _ (t : TableView) (ts : Truths) (h : AreTruths t ts) where
       let all : clauses_by s e ≡ (signed_term s.positive e ∷ ls) ∷ [] = (λ i. if test i then map (λ zs. signed_term s.positive e ∷ zs) (rests_of s.rest (x ∷ y ∷ [])) else []) ∙ ap (map (λ zs. signed_term s.positive e ∷ zs)) rests in
       subst (λ cs. Contains cs (signed_term s.positive e ∷ ls)) (sym all) (first (signed_term s.positive e ∷ ls) [])
 
-  abbrev pub decided_clause : Lit → List Said
+  abbrev pub decided_clause : Lit → List SignedClaim
   decided_clause l = equality_claim l.term (truth_of ts l.positive) ∷ denied l ∷ said_value (truth_of ts l.positive) (not l.positive) ∷ []
 
   pub decided_in : (terms : List Term) (l : Lit) → IsAtomIn t l.term → IsMadeOf terms (term_at t l.term) → All (λ s. IsClaimOf terms t s.claim) (decided_clause l)
   decided_in terms l a made =
-      let P : Said → Type 0 = λ s. IsClaimOf terms t s.claim in
+      let P : SignedClaim → Type 0 = λ s. IsClaimOf terms t s.claim in
       let value = value_atom l.positive in
       let value_made = truth_made terms t ts h l.positive in
       All-cons P (equality_claim l.term (truth_of ts l.positive)) (denied l ∷ said_value (truth_of ts l.positive) (not l.positive) ∷ [])
@@ -83,12 +83,12 @@ module _ (t : TableView) (ts : Truths) (h : AreTruths t ts) where
       go true = (equal_terms x (term_at t ts.true_term), given_by equiv_neg1 x (term_at t ts.true_term) (negated x ∷ negated (term_at t ts.true_term) ∷ []) refl a.0.1.sort (value_atom true).0.1.sort refl)
       go false = (equal_terms x (term_at t ts.false_term), given_by equiv_neg2 x (term_at t ts.false_term) (x ∷ term_at t ts.false_term ∷ []) refl a.0.1.sort (value_atom false).0.1.sort refl)
 
-  abbrev pub apart_clause : List Said
+  abbrev pub apart_clause : List SignedClaim
   apart_clause = unequal ts.true_term ts.false_term ∷ said_value ts.true_term false ∷ said_value ts.false_term true ∷ []
 
   pub apart_in : (terms : List Term) → All (λ s. IsClaimOf terms t s.claim) apart_clause
   apart_in terms =
-      let P : Said → Type 0 = λ s. IsClaimOf terms t s.claim in
+      let P : SignedClaim → Type 0 = λ s. IsClaimOf terms t s.claim in
       let yes = value_atom true in
       let off = value_atom false in
       let yes_made = truth_made terms t ts h true in
@@ -108,7 +108,7 @@ not_twice : (p : Bool) → not (not p) ≡ p
 not_twice true = refl
 not_twice false = refl
 
-module _ (s : ExplanationSetting) (k : ℕ) (needed : List Bool) (steps steps_after : List (List Literal)) (stated stated_after : List Said) (l : Lit) (later_stated : stated_after ≡ stated ++ denied l ∷ []) where
+module _ (s : ExplanationSetting) (k : ℕ) (needed : List Bool) (steps steps_after : List (List Literal)) (stated stated_after : List SignedClaim) (l : Lit) (later_stated : stated_after ≡ stated ++ denied l ∷ []) where
   -- the literal is assumed
   pub held_assumed : (assumed : List Literal) → IsWithin (all_denied s.table stated_after) assumed → Contains assumed (complement (literal_said s.table (denied l)))
   held_assumed assumed aw = aw (complement (literal_said s.table (denied l)))

@@ -17,7 +17,7 @@ use Rattle.congruence_relation.specs.declared.Truths.{Truths}
 use Rattle.congruence_relation.specs.Relation.{Facts, truth_of, terms_listed, StatesEqual, decides, equates}
 use Rattle.congruence_relation.specs.Edges.{IsEdgeReason}
 use Rattle.congruence_explain.specs.declared.claims.Claim.TheVariants.{Equality, Atom}
-use Rattle.congruence_explain.specs.declared.claims.Said.{Said}
+use Rattle.congruence_explain.specs.declared.claims.SignedClaim.{SignedClaim}
 use Rattle.congruence_explain.specs.Claims.{literal_claimed, denied, joins, says, edge_says}
 use Rattle.congruence_explain.specs.Basis.{IsBasis, IsAtomLiteral, IsByArguments}
 use Rattle.congruence_explain.specs.Steps.{ExplanationSetting, Notes, all_denied, said_by, IsNeeded, ShowsLiteral, decision, IsDenial, TellsPair, TellsEdge, Going, GoesOn, IsCollected}
@@ -26,7 +26,7 @@ use Rattle.congruence_explain.proofs.Facts.{reason_at, held_atom, held_made, tru
 use Rattle.congruence_explain.proofs.Decided.{shows_itself, shows_decided}
 
 -- what a held literal says of the edge that it labels
-pub held_shown : (s : ExplanationSetting) (k : ℕ) (needed : List Bool) (steps : List (List Literal)) (stated stated_after : List Said) (e : Edge) (l : Lit) → numbered s.edges k ≡ e → e.label ≡ Held l → joins e.a e.b l.term (truth_of s.truths l.positive) ≡ false
+pub held_shown : (s : ExplanationSetting) (k : ℕ) (needed : List Bool) (steps : List (List Literal)) (stated stated_after : List SignedClaim) (e : Edge) (l : Lit) → numbered s.edges k ≡ e → e.label ≡ Held l → joins e.a e.b l.term (truth_of s.truths l.positive) ≡ false
     → l.positive ≡ true → stated_after ≡ stated ++ denied l ∷ []
     → TellsEdge s k (record { needed = needed; steps = steps; stated = stated }) (record { needed = needed; steps = steps; stated = stated_after })
 held_shown s k needed steps stated stated_after e l at label off positive is = (
@@ -37,7 +37,7 @@ held_shown s k needed steps stated stated_after e l at label off positive is = (
     says_it : edge_says s.truths (numbered s.edges k) ≡ Atom l.term
     says_it = ap (edge_says s.truths) at ∙ ap (λ z. says s.truths z e.a e.b) label ∙ ap (λ c. if c then Equality l.term (truth_of s.truths l.positive) else Atom l.term) off
 
-pub decided_shown : (s : ExplanationSetting) (k : ℕ) (needed : List Bool) (steps steps_after : List (List Literal)) (stated stated_after : List Said) (e : Edge) (l : Lit) → numbered s.edges k ≡ e → e.label ≡ Held l → joins e.a e.b l.term (truth_of s.truths l.positive) ≡ true
+pub decided_shown : (s : ExplanationSetting) (k : ℕ) (needed : List Bool) (steps steps_after : List (List Literal)) (stated stated_after : List SignedClaim) (e : Edge) (l : Lit) → numbered s.edges k ≡ e → e.label ≡ Held l → joins e.a e.b l.term (truth_of s.truths l.positive) ≡ true
     → stated_after ≡ stated ++ denied l ∷ [] → steps_after ≡ steps ++ decision s.table s.truths l
     → TellsEdge s k (record { needed = needed; steps = steps; stated = stated }) (record { needed = needed; steps = steps_after; stated = stated_after })
 decided_shown s k needed steps steps_after stated stated_after e l at label on is more = (
@@ -55,7 +55,7 @@ decided_shown s k needed steps steps_after stated stated_after e l at label on i
     says_it = ap (edge_says s.truths) at ∙ ap (λ z. says s.truths z e.a e.b) label ∙ ap (λ c. if c then Equality l.term (truth_of s.truths l.positive) else Atom l.term) on
 
 -- the same with other literals that the last clause has
-pub edge_with : (s : ExplanationSetting) (k : ℕ) (needed after : List Bool) (steps steps_after : List (List Literal)) (stated : List Said)
+pub edge_with : (s : ExplanationSetting) (k : ℕ) (needed after : List Bool) (steps steps_after : List (List Literal)) (stated : List SignedClaim)
     → TellsEdge s k (record { needed = needed; steps = steps; stated = [] }) (record { needed = after; steps = steps_after; stated = [] })
     → TellsEdge s k (record { needed = needed; steps = steps; stated = stated }) (record { needed = after; steps = steps_after; stated = stated })
 edge_with s k needed after steps steps_after stated h = (
@@ -65,7 +65,7 @@ edge_with s k needed after steps steps_after stated h = (
 
 module _ (s : ExplanationSetting) (k : ℕ) (lt : k < length s.edges) where
   -- an edge that is needed
-  pub going_on : (old new : Notes) (more : List Said) → new.stated ≡ old.stated ++ more → All (IsDenial s) more → TellsEdge s k old new → GoesOn s k old new
+  pub going_on : (old new : Notes) (more : List SignedClaim) → new.stated ≡ old.stated ++ more → All (IsDenial s) more → TellsEdge s k old new → GoesOn s k old new
   going_on old new more is denials told = λ goal g. record {
     count = told.0.count ∙ g.count;
     explained = λ j low high n. go g.explained j low high n (cases_eq j k);
@@ -134,7 +134,7 @@ going_start s old new x y count empty linked told =
     let h = told (length s.edges) (omega arith) (subst (λ (es : List Edge). Linked es x.0 y.0) (sym (older-all s.edges (length s.edges) (omega arith))) linked) in
     record { count = h.0.count ∙ count; explained = λ j low high n. absurd (omega arith); shown = h.1; held = subst (All (IsDenial s)) (sym empty) (All-nil (IsDenial s)) }
 
-pub going_ends : (s : ExplanationSetting) (n : Notes) (x y : TermId) (stated : List Said) → n.stated ≡ stated → Going s 0 (literal_claimed s.table (Equality x y)) n → IsCollected s n.steps x y stated
+pub going_ends : (s : ExplanationSetting) (n : Notes) (x y : TermId) (stated : List SignedClaim) → n.stated ≡ stated → Going s 0 (literal_claimed s.table (Equality x y)) n → IsCollected s n.steps x y stated
 going_ends s n x y stated is g = record {
   shown = g.shown n.steps (all_denied s.table stated) (λ c i. i) (λ m i. subst (λ zs. Contains (all_denied s.table zs) m) is i)
       (all_derived s n n.steps (all_denied s.table stated) (λ c i. i) (λ m i. subst (λ zs. Contains (all_denied s.table zs) m) is i) (λ j lt need. g.explained j (omega arith) lt need) (length s.edges) (omega arith));

@@ -20,13 +20,13 @@ use Rattle.proof_log.specs.Adding.{IsAdded}
 use Rattle.proof_log.proofs.Tables.{grown_right, grown_same, grown_lemmas}
 use Rattle.term_clauses.specs.Stating.{Widens}
 use Rattle.term_clauses.proofs.Parts.{formula_kept}
-use Rattle.congruence_explain.specs.declared.claims.Said.{Said}
+use Rattle.congruence_explain.specs.declared.claims.SignedClaim.{SignedClaim}
 use Rattle.congruence_explain.specs.Claims.{term_said, literal_said, IsClaimIn, IsClaimOf}
 use Rattle.congruence_explain.specs.Steps.{Start, derived, spoken, Explains, literals_logged, HasPut}
 use Rattle.congruence_explain.proofs.Terms.{claims_in, said_made, claim_kept, said_same, clause_same, literals_put}
 
 -- a literal more is put
-pub terms_more : (t u w : TableView) → Widens t u → Widens u w → (clause : List Said) (i : ℕ) (d : Said) → i < length clause → All (λ s. IsClaimIn t s.claim) clause → (ids all : List TermId) (id : TermId) → all ≡ ids ++ id ∷ []
+pub terms_more : (t u w : TableView) → Widens t u → Widens u w → (clause : List SignedClaim) (i : ℕ) (d : SignedClaim) → i < length clause → All (λ s. IsClaimIn t s.claim) clause → (ids all : List TermId) (id : TermId) → all ≡ ids ++ id ∷ []
     → AreFormulasIn u ids → clause_at u ids ≡ map (term_said t) (take i clause) → IsFormulaIn w id → clause_at w (id ∷ []) ≡ term_said u (get_or clause i d) ∷ []
     → AreFormulasIn w all × (clause_at w all ≡ map (term_said t) (take (i + 1) clause))
 terms_more t u w wide wider clause i d lt claims ids all id is formulas same formula one = (
@@ -71,7 +71,7 @@ module _ (start : Start) (t u : TableView) (log : List Logged) (derives : Explai
     lemmas = lemmas_wider;
   }
 
-  module _ (clause : List Said) (claims : All (λ s. IsClaimOf (spoken start) start.table s.claim) clause) where
+  module _ (clause : List SignedClaim) (claims : All (λ s. IsClaimOf (spoken start) start.table s.claim) clause) where
     -- the literals can be put into the table
     pub claims_wide : All (λ s. IsClaimIn t s.claim) clause
     claims_wide = λ k d lt. claim_kept start.table t (start_wide start t log derives) (get_or clause k d).claim (claims k d lt).0

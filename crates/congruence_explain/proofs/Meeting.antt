@@ -23,7 +23,7 @@ use Rattle.congruence_relation.specs.declared.Truths.{Truths}
 use Rattle.congruence_relation.specs.Relation.{Application, Facts, terms_listed}
 use Rattle.congruence_relation.specs.Edges.{roots, Meet, IsEdgeReason}
 use Rattle.congruence_explain.specs.declared.claims.Claim.TheVariants.{Equality}
-use Rattle.congruence_explain.specs.declared.claims.Said.{Said}
+use Rattle.congruence_explain.specs.declared.claims.SignedClaim.{SignedClaim}
 use Rattle.congruence_explain.specs.Rules.{arguments_rule}
 use Rattle.congruence_explain.specs.Claims.{no_term_id, term_said, literal_said, literal_claimed, IsClaimOf, equality_claim, unequal, says, edge_says, all_unequal}
 use Rattle.congruence_explain.specs.Basis.{IsBasis, AreLinkedOr, IsByArguments}
@@ -46,25 +46,25 @@ same_ids u differ (x ∷ xs) (y ∷ ys) p q e =
 -- each denied equality is of two that differ
 unequal_all_in : (terms : List Term) (t : TableView) (xs ys : List TermId) → ((i : ℕ) → i < length xs → (get_or xs i no_term_id).0 ≢ (get_or ys i no_term_id).0 → IsClaimOf terms t (Equality (get_or xs i no_term_id) (get_or ys i no_term_id)))
     → All (λ s. IsClaimOf terms t s.claim) (all_unequal xs ys)
-unequal_all_in terms t [] ys h = All-nil (λ (s : Said). IsClaimOf terms t s.claim)
-unequal_all_in terms t (x ∷ xs) [] h = All-nil (λ (s : Said). IsClaimOf terms t s.claim)
+unequal_all_in terms t [] ys h = All-nil (λ (s : SignedClaim). IsClaimOf terms t s.claim)
+unequal_all_in terms t (x ∷ xs) [] h = All-nil (λ (s : SignedClaim). IsClaimOf terms t s.claim)
 unequal_all_in terms t (x ∷ xs) (y ∷ ys) h = go (cases_eq x.0 y.0) (unequal_all_in terms t xs ys (λ i lt d. h (suc i) (omega arith) d))
   where
     go : (x.0 ≡ y.0) ⊎ (x.0 ≢ y.0) → All (λ s. IsClaimOf terms t s.claim) (all_unequal xs ys) → All (λ s. IsClaimOf terms t s.claim) (all_unequal (x ∷ xs) (y ∷ ys))
     go (inl e) rest = let test : (x.0 == y.0) ≡ true = grind (arith, nat_tests) in
-        subst (λ c. All (λ (s : Said). IsClaimOf terms t s.claim) (if c then all_unequal xs ys else unequal x y ∷ all_unequal xs ys)) (sym test) rest
+        subst (λ c. All (λ (s : SignedClaim). IsClaimOf terms t s.claim) (if c then all_unequal xs ys else unequal x y ∷ all_unequal xs ys)) (sym test) rest
     go (inr d) rest = let test : (x.0 == y.0) ≡ false = grind (arith, nat_tests) in
-        subst (λ c. All (λ (s : Said). IsClaimOf terms t s.claim) (if c then all_unequal xs ys else unequal x y ∷ all_unequal xs ys)) (sym test)
-        (All-cons (λ (s : Said). IsClaimOf terms t s.claim) (unequal x y) (all_unequal xs ys) (h 0 (omega arith) d) rest)
+        subst (λ c. All (λ (s : SignedClaim). IsClaimOf terms t s.claim) (if c then all_unequal xs ys else unequal x y ∷ all_unequal xs ys)) (sym test)
+        (All-cons (λ (s : SignedClaim). IsClaimOf terms t s.claim) (unequal x y) (all_unequal xs ys) (h 0 (omega arith) d) rest)
 
 -- the terms of these are joined by what is denied
-joined_all : (t : TableView) (rs : List (Option Term)) (xs ys : List TermId) → length xs ≡ length ys → ((m : Said) → Contains (all_unequal xs ys) m → Contains rs (term_denied (term_said t m))) → AreJoined rs (clause_at t xs) (clause_at t ys)
+joined_all : (t : TableView) (rs : List (Option Term)) (xs ys : List TermId) → length xs ≡ length ys → ((m : SignedClaim) → Contains (all_unequal xs ys) m → Contains rs (term_denied (term_said t m))) → AreJoined rs (clause_at t xs) (clause_at t ys)
 joined_all t rs [] [] e h = tt
 joined_all t rs [] (y ∷ ys) e h = absurd (omega (arith, e))
 joined_all t rs (x ∷ xs) [] e h = absurd (omega (arith, e))
 joined_all t rs (x ∷ xs) (y ∷ ys) e h = go (cases_eq x.0 y.0) (joined_all t rs xs ys (omega (arith, e)))
   where
-    go : (x.0 ≡ y.0) ⊎ (x.0 ≢ y.0) → (((m : Said) → Contains (all_unequal xs ys) m → Contains rs (term_denied (term_said t m))) → AreJoined rs (clause_at t xs) (clause_at t ys)) → AreJoined rs (clause_at t (x ∷ xs)) (clause_at t (y ∷ ys))
+    go : (x.0 ≡ y.0) ⊎ (x.0 ≢ y.0) → (((m : SignedClaim) → Contains (all_unequal xs ys) m → Contains rs (term_denied (term_said t m))) → AreJoined rs (clause_at t xs) (clause_at t ys)) → AreJoined rs (clause_at t (x ∷ xs)) (clause_at t (y ∷ ys))
     go (inl p) ih =
         let test : (x.0 == y.0) ≡ true = grind (arith, nat_tests) in
         let all : all_unequal (x ∷ xs) (y ∷ ys) ≡ all_unequal xs ys = ap (λ c. if c then all_unequal xs ys else unequal x y ∷ all_unequal xs ys) test in
@@ -135,12 +135,12 @@ module _ (t : TableView) (ts : Truths) (v : ForestState) (f : Facts) (b : IsBasi
       says_equal : edge_says ts (numbered v.edges k) ≡ Equality a c
       says_equal = ap (λ l. says ts l (numbered v.edges k).a (numbered v.edges k).b) label ∙ (λ i. Equality (sym a_is i) (sym c_is i))
 
-      abbrev pub arguments_clause : List Said
+      abbrev pub arguments_clause : List SignedClaim
       arguments_clause = all_unequal xs ys ++ equality_claim a c ∷ []
 
       -- the clause can be put
       pub arguments_in : All (λ s. IsClaimOf (terms_listed t f) t s.claim) arguments_clause
-      arguments_in = All-push (λ (s : Said). IsClaimOf (terms_listed t f) t s.claim) (all_unequal xs ys) (equality_claim a c)
+      arguments_in = All-push (λ (s : SignedClaim). IsClaimOf (terms_listed t f) t s.claim) (all_unequal xs ys) (equality_claim a c)
           (unequal_all_in (terms_listed t f) t xs ys (λ i h d. apart i d (each_linked i h)))
           (subst (IsClaimOf (terms_listed t f) t) says_equal (edge_in t ts v f b k lt))
         where

@@ -10,7 +10,7 @@ use Rattle.explain_forest.specs.declared.types.Edge.{Edge}
 use Rattle.explain_forest.specs.Forest.{ForestState, Linked, older}
 use Rattle.congruence_relation.specs.Edges.{roots}
 use Rattle.term_core.specs.Tables.{TableView}
-use Rattle.congruence_explain.specs.declared.claims.Said.{Said}
+use Rattle.congruence_explain.specs.declared.claims.SignedClaim.{SignedClaim}
 use Rattle.congruence_explain.specs.Claims.{literal_said, unequal, all_unequal}
 use Rattle.congruence_explain.specs.Basis.{AreLinkedIn, AreLinkedOr}
 use Rattle.congruence_explain.specs.Steps.{ExplanationSetting, Notes, ShowsLiteral, ShowsDenied, TellsPair, TellsClause, TellsPairs}
@@ -55,7 +55,7 @@ unequal_from (x ∷ xs) (y ∷ ys) zero d h l = go (x.0 == y.0)
     go false = refl
 unequal_from (x ∷ xs) (y ∷ ys) (suc i) d h l = unequal_from xs ys i d (omega arith) (omega arith)
 
-pub unequal_next : (xs ys : List TermId) (i : ℕ) (d : TermId) → i < length xs → i < length ys → (clause after : List Said) → after ≡ clause ++ all_unequal (get_or xs i d ∷ []) (get_or ys i d ∷ [])
+pub unequal_next : (xs ys : List TermId) (i : ℕ) (d : TermId) → i < length xs → i < length ys → (clause after : List SignedClaim) → after ≡ clause ++ all_unequal (get_or xs i d ∷ []) (get_or ys i d ∷ [])
     → clause ++ all_unequal (drop i xs) (drop i ys) ≡ all_unequal xs ys → after ++ all_unequal (drop (i + 1) xs) (drop (i + 1) ys) ≡ all_unequal xs ys
 unequal_next xs ys i d h l clause after is so =
     let rest = all_unequal (drop (i + 1) xs) (drop (i + 1) ys) in
@@ -63,16 +63,16 @@ unequal_next xs ys i d h l clause after is so =
     subst (λ m. all_unequal (drop i xs) (drop i ys) ≡ all_unequal (get_or xs i d ∷ []) (get_or ys i d ∷ []) ++ all_unequal (drop m xs) (drop m ys)) (sym (add-one i)) (unequal_from xs ys i d h l) in
     ap (λ z. z ++ rest) is ∙ append_assoc clause (all_unequal (get_or xs i d ∷ []) (get_or ys i d ∷ [])) rest ∙ ap (λ z. clause ++ z) (sym next) ∙ so
 
-pub unequal_all : (xs ys : List TermId) (i : ℕ) → length xs ≤ i → (clause : List Said) → clause ++ all_unequal (drop i xs) (drop i ys) ≡ all_unequal xs ys → clause ≡ all_unequal xs ys
+pub unequal_all : (xs ys : List TermId) (i : ℕ) → length xs ≤ i → (clause : List SignedClaim) → clause ++ all_unequal (drop i xs) (drop i ys) ≡ all_unequal xs ys → clause ≡ all_unequal xs ys
 unequal_all xs ys i h clause so =
     let empty : all_unequal (drop i xs) (drop i ys) ≡ [] = ap (λ z. all_unequal z (drop i ys)) (drop_all i xs h) in
     sym (ap (λ z. clause ++ z) empty ∙ append-nil clause) ∙ so
 
 -- the first pairs, and one more
-pub pairs_none : (s : ExplanationSetting) (n : Notes) (xs ys : List TermId) (clause : List Said) → clause ≡ [] → TellsClause s n n xs ys clause
+pub pairs_none : (s : ExplanationSetting) (n : Notes) (xs ys : List TermId) (clause : List SignedClaim) → clause ≡ [] → TellsClause s n n xs ys clause
 pairs_none s n xs ys clause e = λ k le linked. (grows_none k n, subst (ShowsDenied s k n) (sym e) (All-nil (λ m. ShowsLiteral s k n (complement (literal_said s.table m)))))
 
-pub pairs_more : (s : ExplanationSetting) (a b c : Notes) (xs ys : List TermId) (i : ℕ) (d : TermId) → i < length xs → (clause after : List Said) → after ≡ clause ++ all_unequal (get_or xs i d ∷ []) (get_or ys i d ∷ [])
+pub pairs_more : (s : ExplanationSetting) (a b c : Notes) (xs ys : List TermId) (i : ℕ) (d : TermId) → i < length xs → (clause after : List SignedClaim) → after ≡ clause ++ all_unequal (get_or xs i d ∷ []) (get_or ys i d ∷ [])
     → TellsClause s a b xs ys clause → TellsPairs s b c (get_or xs i d ∷ []) (get_or ys i d ∷ []) → TellsClause s a c xs ys after
 pairs_more s a b c xs ys i d h clause after is first one = λ k le linked.
     let f = first k le linked in

@@ -7,7 +7,7 @@ use Rattle.spec_text.proofs.Members.{none, to_image, from_image}
 use Rattle.spec_sorts.specs.Literals.{Literal, complement}
 use Rattle.spec_proofs.specs.Resolution.{Derives as Propagates, given, unit, IsWithin}
 use Rattle.term_core.specs.Tables.{TableView}
-use Rattle.congruence_explain.specs.declared.claims.Said.{Said}
+use Rattle.congruence_explain.specs.declared.claims.SignedClaim.{SignedClaim}
 use Rattle.congruence_explain.specs.Claims.{literal_said}
 use Rattle.congruence_explain.specs.Steps.{all_denied, ExplanationSetting, Notes, said_by, IsNeeded, ShowsLiteral, ShowsDenied, NotesGrow, marked}
 use Rattle.congruence_explain.proofs.Marks.{length-marked, marked-kept, marked-other}
@@ -31,7 +31,7 @@ pub within_more : {X : Type 0} (xs ys more : List X) → ys ≡ xs ++ more → I
 within_more xs ys more is x i = subst (λ zs. Contains zs x) (sym is) (Contains-append_left xs more x i)
 
 -- what denies is more
-pub denied_more : (t : TableView) (xs ys : List Said) → IsWithin xs ys → IsWithin (all_denied t xs) (all_denied t ys)
+pub denied_more : (t : TableView) (xs ys : List SignedClaim) → IsWithin xs ys → IsWithin (all_denied t xs) (all_denied t ys)
 denied_more t xs ys more l i =
     let (m, m_in, m_is) = from_image complement (map (literal_said t) xs) l i in
     let (x, x_in, x_is) = from_image (literal_said t) xs m m_in in
@@ -51,7 +51,7 @@ grows_both k a b c f g = record {
 }
 
 -- more steps, and more that is needed
-pub grows_marked : (k : ℕ) (needed after : List Bool) (ks : List ℕ) (steps steps_after more : List (List Literal)) (stated : List Said) → after ≡ marked needed ks → All (λ i. i < k) ks → steps_after ≡ steps ++ more
+pub grows_marked : (k : ℕ) (needed after : List Bool) (ks : List ℕ) (steps steps_after more : List (List Literal)) (stated : List SignedClaim) → after ≡ marked needed ks → All (λ i. i < k) ks → steps_after ≡ steps ++ more
     → NotesGrow k (record { needed = needed; steps = steps; stated = stated }) (record { needed = after; steps = steps_after; stated = stated })
 grows_marked k needed after ks steps steps_after more stated marks low is = record {
   count = ap length marks ∙ length-marked needed ks;
@@ -62,12 +62,12 @@ grows_marked k needed after ks steps steps_after more stated marks low is = reco
 }
 
 -- more steps
-pub grows_steps : (k : ℕ) (needed : List Bool) (steps after more : List (List Literal)) (stated : List Said) → after ≡ steps ++ more
+pub grows_steps : (k : ℕ) (needed : List Bool) (steps after more : List (List Literal)) (stated : List SignedClaim) → after ≡ steps ++ more
     → NotesGrow k (record { needed = needed; steps = steps; stated = stated }) (record { needed = needed; steps = after; stated = stated })
 grows_steps k needed steps after more stated is = record { count = refl; kept = λ j h. h; same = λ j h. refl; steps = within_more steps after more is; stated = λ x i. i }
 
 -- with the same literals more
-pub grows_stated : (k : ℕ) (a b : Notes) (stated : List Said) → NotesGrow k a b → NotesGrow k (record { needed = a.needed; steps = a.steps; stated = stated }) (record { needed = b.needed; steps = b.steps; stated = stated })
+pub grows_stated : (k : ℕ) (a b : Notes) (stated : List SignedClaim) → NotesGrow k a b → NotesGrow k (record { needed = a.needed; steps = a.steps; stated = stated }) (record { needed = b.needed; steps = b.steps; stated = stated })
 grows_stated k a b stated g = record { count = g.count; kept = g.kept; same = g.same; steps = g.steps; stated = λ x i. i }
 
 module _ (s : ExplanationSetting) where
@@ -75,15 +75,15 @@ module _ (s : ExplanationSetting) where
   pub shows_more : (j k : ℕ) (old new : Notes) → NotesGrow k old new → (g : Literal) → ShowsLiteral s j old g → ShowsLiteral s j new g
   shows_more j k old new grows g h = λ steps assumed sw aw ih. h steps assumed (λ x i. sw x (grows.steps x i)) (λ x i. aw x (denied_more s.table old.stated new.stated grows.stated x i)) (λ i lt need. ih i lt (grows.kept i need))
 
-  pub shows_stated : (k : ℕ) (needed : List Bool) (steps : List (List Literal)) (stated : List Said) (g : Literal) → ShowsLiteral s k (record { needed = needed; steps = steps; stated = [] }) g
+  pub shows_stated : (k : ℕ) (needed : List Bool) (steps : List (List Literal)) (stated : List SignedClaim) (g : Literal) → ShowsLiteral s k (record { needed = needed; steps = steps; stated = [] }) g
       → ShowsLiteral s k (record { needed = needed; steps = steps; stated = stated }) g
   shows_stated k needed steps stated g h = λ more assumed sw aw ih. h more assumed sw (λ x i. absurd (none x i)) ih
 
-  pub shows_each : (j k : ℕ) (old new : Notes) → NotesGrow k old new → (clause : List Said) → ShowsDenied s j old clause → ShowsDenied s j new clause
+  pub shows_each : (j k : ℕ) (old new : Notes) → NotesGrow k old new → (clause : List SignedClaim) → ShowsDenied s j old clause → ShowsDenied s j new clause
   shows_each j k old new grows clause h = λ i d lt. shows_more j k old new grows (complement (literal_said s.table (get_or clause i d))) (h i d lt)
 
   -- the last literal of a clause of which what the others deny is shown
-  pub shows_last : (k : ℕ) (n : Notes) (clause : List Said) (goal : Said) → Contains n.steps (map (literal_said s.table) (clause ++ goal ∷ [])) → ShowsDenied s k n clause → ShowsLiteral s k n (literal_said s.table goal)
+  pub shows_last : (k : ℕ) (n : Notes) (clause : List SignedClaim) (goal : SignedClaim) → Contains n.steps (map (literal_said s.table) (clause ++ goal ∷ [])) → ShowsDenied s k n clause → ShowsLiteral s k n (literal_said s.table goal)
   shows_last k n clause goal there each = λ steps assumed sw aw ih.
       by_clause steps assumed (map (literal_said s.table) clause ++ literal_said s.table goal ∷ []) (literal_said s.table goal)
       (sw _ (subst (Contains n.steps) (map-append (literal_said s.table) clause (goal ∷ [])) there))

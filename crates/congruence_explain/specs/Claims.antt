@@ -9,7 +9,7 @@ use Rattle.term_core.specs.declared.ids.TermId.{TermId}
 use Rattle.term_core.specs.declared.ids.Lit.{Lit}
 use Rattle.term_core.specs.Tables.{TableView, term_at}
 use Rattle.explain_forest.specs.declared.types.Edge.{Edge}
-use Rattle.explain_forest.specs.declared.types.Step.{Step}
+use Rattle.explain_forest.specs.declared.types.PathStep.{PathStep}
 use Rattle.explain_forest.specs.declared.types.Label.{Label}
 use Rattle.explain_forest.specs.declared.types.Label.TheVariants.{Held, Arguments}
 use Rattle.congruence_relation.specs.declared.Truths.{Truths}
@@ -18,7 +18,7 @@ use Rattle.proof_log.specs.Logs.{IsFormulaIn}
 use Rattle.proof_log.specs.Theories.{IsTermIn, IsAtomIn}
 use Rattle.congruence_explain.specs.declared.claims.Claim.{Claim}
 use Rattle.congruence_explain.specs.declared.claims.Claim.TheVariants.{Equality, Atom}
-use Rattle.congruence_explain.specs.declared.claims.Said.{Said}
+use Rattle.congruence_explain.specs.declared.claims.SignedClaim.{SignedClaim}
 
 -- what no number of terms means
 abbrev pub no_term_id : TermId
@@ -30,11 +30,11 @@ term_claimed t (Equality a b) = equal_terms (term_at t a) (term_at t b)
 term_claimed t (Atom a) = term_at t a
 
 -- the term of a literal
-abbrev pub term_said : TableView → Said → Term
+abbrev pub term_said : TableView → SignedClaim → Term
 term_said t s = signed_term s.positive (term_claimed t s.claim)
 
 -- the literal that it is
-abbrev pub literal_said : TableView → Said → Literal
+abbrev pub literal_said : TableView → SignedClaim → Literal
 literal_said t s = record { atom = term_claimed t s.claim; positive = s.positive }
 
 -- the literal that a claim is as it stands
@@ -55,19 +55,19 @@ abbrev pub IsClaimPut : TableView → Term → TermId → Type 0
 IsClaimPut t u id = IsFormulaIn t id × (term_at t id ≡ u)
 
 -- that two terms are equality_claim
-abbrev pub equality_claim : TermId → TermId → Said
+abbrev pub equality_claim : TermId → TermId → SignedClaim
 equality_claim a b = record { claim = Equality a b; positive = true }
 
 -- that two terms are not
-abbrev pub unequal : TermId → TermId → Said
+abbrev pub unequal : TermId → TermId → SignedClaim
 unequal a b = record { claim = Equality a b; positive = false }
 
 -- the term of a truth value as it stands, or its negation
-abbrev pub said_value : TermId → Bool → Said
+abbrev pub said_value : TermId → Bool → SignedClaim
 said_value value positive = record { claim = Atom value; positive = positive }
 
 -- the complement of a literal
-abbrev pub denied : Lit → Said
+abbrev pub denied : Lit → SignedClaim
 denied l = record { claim = Atom l.term; positive = not l.positive }
 
 -- the two ends are these, in either direction
@@ -75,9 +75,9 @@ abbrev pub joins : TermId → TermId → TermId → TermId → Bool
 joins a b x y = (a.0 == x.0 && b.0 == y.0) || (a.0 == y.0 && b.0 == x.0)
 
 -- A clause has one literal, whose formula is the equality of two terms.
-pub record IsOneEquality (t : TableView) (clause : List Said) (x y : TermId) : Type 0 where
+pub record IsOneEquality (t : TableView) (clause : List SignedClaim) (x y : TermId) : Type 0 where
   -- the literal
-  pub one : Said
+  pub one : SignedClaim
   -- there is no other
   pub clause_is : clause ≡ one ∷ []
   -- its formula
@@ -94,10 +94,10 @@ abbrev pub edge_says : Truths → Edge → Claim
 edge_says ts e = says ts e.label e.a e.b
 
 -- what the edge of a step says, denied
-abbrev pub denied_step : Truths → Step → Said
+abbrev pub denied_step : Truths → PathStep → SignedClaim
 denied_step ts s = record { claim = says ts s.label s.from s.to; positive = false }
 
 -- each two terms in one place that differ are not equality_claim
-abbrev pub all_unequal : List TermId → List TermId → List Said
+abbrev pub all_unequal : List TermId → List TermId → List SignedClaim
 all_unequal (x ∷ xs) (y ∷ ys) = if x.0 == y.0 then all_unequal xs ys else unequal x y ∷ all_unequal xs ys
 all_unequal _ _ = []

@@ -7,7 +7,7 @@ use Rattle.term_core.specs.declared.ids.TermId.{TermId}
 use Rattle.term_core.specs.declared.ids.Lit.{Lit}
 use Rattle.term_core.specs.Tables.{TableView, clause_at}
 use Rattle.explain_forest.specs.declared.types.Edge.{Edge}
-use Rattle.explain_forest.specs.declared.types.Step.{Step}
+use Rattle.explain_forest.specs.declared.types.PathStep.{PathStep}
 use Rattle.explain_forest.specs.declared.types.Label.TheVariants.{Held}
 use Rattle.explain_forest.specs.Forest.{ForestState, Linked, numbered, older}
 use Rattle.congruence_relation.specs.declared.Truths.{Truths}
@@ -20,7 +20,7 @@ use Rattle.proof_log.specs.Logs.{Logged, named, logged_at}
 use Rattle.proof_log.specs.Clashes.{literals_in}
 use Rattle.proof_log.specs.Theories.{Derived, DerivesLemmas}
 use Rattle.congruence_explain.specs.declared.claims.Claim.TheVariants.{Equality}
-use Rattle.congruence_explain.specs.declared.claims.Said.{Said}
+use Rattle.congruence_explain.specs.declared.claims.SignedClaim.{SignedClaim}
 use Rattle.congruence_explain.specs.Claims.{literal_said, literal_claimed, equality_claim, unequal, denied, said_value, edge_says, all_unequal}
 
 -- a table with a log
@@ -85,10 +85,10 @@ pub record Notes : Type 0 where
   -- the clauses
   pub steps : List (List Literal)
   -- the literals, which deny what is held
-  pub stated : List Said
+  pub stated : List SignedClaim
 
 -- what is done since the start
-abbrev pub notes : Start → Derived → List Bool → List Said → Notes
+abbrev pub notes : Start → Derived → List Bool → List SignedClaim → Notes
 notes start now needed stated = record { needed = needed; steps = steps_since start now; stated = stated }
 
 -- what the edge of a number says
@@ -100,7 +100,7 @@ abbrev pub IsNeeded : List Bool → ℕ → Type 0
 IsNeeded needed k = slice_index_or needed k false ≡ true
 
 -- what holds where the literals are denied
-abbrev pub all_denied : TableView → List Said → List Literal
+abbrev pub all_denied : TableView → List SignedClaim → List Literal
 all_denied t stated = map complement (map (literal_said t) stated)
 
 -- A literal is derived once what the needed ones of the k oldest edges say is, from all steps that are logged, where the last clause is denied.
@@ -127,8 +127,8 @@ marked needed [] = needed
 marked needed (k ∷ ks) = marked (slice_set needed k true) ks
 
 -- the numbers of a path's edges
-abbrev pub edges_on : List Step → List ℕ
-edges_on path = map (λ (s : Step). s.edge) path
+abbrev pub edges_on : List PathStep → List ℕ
+edges_on path = map (λ (s : PathStep). s.edge) path
 
 -- that two terms are equality_claim is shown, whichever of the oldest edges link them
 abbrev pub TellsPair : ExplanationSetting → Notes → Notes → TermId → TermId → Type 0
@@ -136,11 +136,11 @@ TellsPair s old new x y = (k : ℕ) → k ≤ length s.edges → Linked (older s
     → NotesGrow k old new × ShowsLiteral s k new (literal_claimed s.table (Equality x y))
 
 -- what a clause denies is shown
-abbrev pub ShowsDenied : ExplanationSetting → ℕ → Notes → List Said → Type 0
+abbrev pub ShowsDenied : ExplanationSetting → ℕ → Notes → List SignedClaim → Type 0
 ShowsDenied s k n clause = All (λ m. ShowsLiteral s k n (complement (literal_said s.table m))) clause
 
 -- what a clause denies of terms that are linked to others, one by one, is shown, whichever of the oldest edges link them
-abbrev pub TellsClause : ExplanationSetting → Notes → Notes → List TermId → List TermId → List Said → Type 0
+abbrev pub TellsClause : ExplanationSetting → Notes → Notes → List TermId → List TermId → List SignedClaim → Type 0
 TellsClause s old new xs ys clause = (k : ℕ) → k ≤ length s.edges → roots (older s.edges k) xs ≡ roots (older s.edges k) ys → NotesGrow k old new × ShowsDenied s k new clause
 
 -- so it is of all that differ
@@ -167,7 +167,7 @@ apart t ts =
     ∷ []
 
 -- a literal of the last clause denies a literal that is the label of an edge
-abbrev pub IsDenial : ExplanationSetting → Said → Type 0
+abbrev pub IsDenial : ExplanationSetting → SignedClaim → Type 0
 IsDenial s m = (l : Lit) × (k : ℕ) × (k < length s.edges) × ((numbered s.edges k).label ≡ Held l) × (m ≡ denied l)
 
 -- What is so once all edges but the k oldest are explained.
@@ -186,24 +186,24 @@ abbrev pub GoesOn : ExplanationSetting → ℕ → Notes → Notes → Type 0
 GoesOn s k old new = (goal : Literal) → Going s (k + 1) goal old → Going s k goal new
 
 -- That two terms are equality_claim is derived, where the last clause is denied, which denies held literals alone.
-pub record IsCollected (s : ExplanationSetting) (steps : List (List Literal)) (x y : TermId) (stated : List Said) : Type 0 where
+pub record IsCollected (s : ExplanationSetting) (steps : List (List Literal)) (x y : TermId) (stated : List SignedClaim) : Type 0 where
   -- it is derived
   pub shown : Propagates complement steps (all_denied s.table stated) (literal_claimed s.table (Equality x y))
   -- from what is held
   pub held : All (IsDenial s) stated
 
 -- The clause of a step denies held literals, and has no others but these.
-pub record IsExplained (s : ExplanationSetting) (now : Derived) (others : List Said) (id : StepId) : Type 0 where
+pub record IsExplained (s : ExplanationSetting) (now : Derived) (others : List SignedClaim) (id : StepId) : Type 0 where
   -- the step is one of the log's
   pub there : id.0 < length now.log
   -- its literals
-  pub clause : List Said
+  pub clause : List SignedClaim
   pub literals : literals_in now.table now.log id ≡ map (literal_said s.table) clause
   -- each denies a held literal, or is one of the others
   pub each : All (λ m. IsDenial s m ⊎ Contains others m) clause
 
 -- the literals of a conflict's clause that deny nothing that is held: the equality whose negation is
-abbrev pub others_of : Conflict → List Said
+abbrev pub others_of : Conflict → List SignedClaim
 others_of conflicts.Truths = []
 others_of (conflicts.Sides e) = said_value e true ∷ []
 

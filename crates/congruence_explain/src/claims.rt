@@ -18,7 +18,7 @@ pub(crate) enum Claim {
 
 /// A literal: a formula as it stands, or its negation.
 #[derive(Clone, Copy, Debug, PartialEq, Eq)]
-pub(crate) struct Said {
+pub(crate) struct SignedClaim {
     /// The formula.
     pub(crate) claim: Claim,
     /// Whether it is meant as it stands.
@@ -26,40 +26,40 @@ pub(crate) struct Said {
 }
 
 /// Says that two terms are equal.
-pub(crate) fn equality(a: TermId, b: TermId) -> Said
+pub(crate) fn equality(a: TermId, b: TermId) -> SignedClaim
     ensures { result ≡ equality_claim a b }
 {
-    Said {
+    SignedClaim {
         claim: Claim::Equality(a, b),
         positive: true,
     }
 }
 
 /// Says that two terms are not equal.
-pub(crate) fn unequality(a: TermId, b: TermId) -> Said
+pub(crate) fn unequality(a: TermId, b: TermId) -> SignedClaim
     ensures { result ≡ unequal a b }
 {
-    Said {
+    SignedClaim {
         claim: Claim::Equality(a, b),
         positive: false,
     }
 }
 
 /// Says the complement of a literal.
-pub(crate) fn denial(l: Lit) -> Said
+pub(crate) fn denial(l: Lit) -> SignedClaim
     ensures { result ≡ denied l }
 {
-    Said {
+    SignedClaim {
         claim: Claim::Atom(l.term),
         positive: !l.positive,
     }
 }
 
 /// Says the term of a truth value, or its negation.
-pub(crate) fn value_said(term: TermId, positive: bool) -> Said
+pub(crate) fn value_said(term: TermId, positive: bool) -> SignedClaim
     ensures { result ≡ said_value term positive }
 {
-    Said {
+    SignedClaim {
         claim: Claim::Atom(term),
         positive,
     }

@@ -4,7 +4,7 @@ ghost use Rattle.std.specs.Prelude.{◌≡◌, length, IfOk};
 ghost use Rattle.congruence_explain.specs.Basis.{IsBasis, AreLinkedIn};
 ghost use Rattle.congruence_explain.specs.Steps.{Start, derived, spoken, Explains, setting, steps_since, IsCollected};
 
-use crate::claims::Said;
+use crate::claims::SignedClaim;
 use crate::edges::turn;
 use crate::paths::tell;
 use congruence_relation::Truths;
@@ -26,7 +26,7 @@ fn collect_marked(
     x: TermId,
     y: TermId,
     needed: &mut [bool],
-) -> Result<Vec<Said>, NoMemory>
+) -> Result<Vec<SignedClaim>, NoMemory>
     ghost start: { Start }
     requires derives { Explains start (derived table.old log.old) }
     requires basis { IsBasis start.table truths forest.now.now start.facts }
@@ -57,7 +57,7 @@ pub(crate) fn collect(
     truths: Truths,
     x: TermId,
     y: TermId,
-) -> Result<Vec<Said>, NoMemory>
+) -> Result<Vec<SignedClaim>, NoMemory>
     ghost start: { Start }
     requires derives { Explains start (derived table.old log.old) }
     requires basis { IsBasis start.table truths forest.now.now start.facts }

@@ -11,7 +11,7 @@ ghost use Rattle.congruence_explain.specs.Claims.{denied, joins};
 ghost use Rattle.congruence_explain.specs.Basis.{IsBasis, IsAtomLiteral, IsByArguments};
 ghost use Rattle.congruence_explain.specs.Steps.{Start, derived, spoken, Explains, setting, notes, steps_since, decision, TellsEdge, GoesOn};
 
-use crate::claims::{Said, denial, equality, is_between, truth, value_said};
+use crate::claims::{SignedClaim, denial, equality, is_between, truth, value_said};
 use crate::paths::tell_pairs;
 use crate::putting::put_alone;
 use crate::rules::{rule_of_arguments, rule_of_decided, rule_of_value};
@@ -105,7 +105,7 @@ fn tell_held(
     truths: Truths,
     edge: Edge,
     l: Lit,
-    stated: &mut Vec<Said>,
+    stated: &mut Vec<SignedClaim>,
 ) -> Result<(), NoMemory>
     ghost start: { Start }
     requires derives { Explains start (derived table.old log.old) }
@@ -136,7 +136,7 @@ pub(crate) fn turn(
     truths: Truths,
     k: u64,
     needed: &mut [bool],
-    stated: &mut Vec<Said>,
+    stated: &mut Vec<SignedClaim>,
 ) -> Result<(), NoMemory>
     ghost start: { Start }
     requires derives { Explains start (derived table.old log.old) }

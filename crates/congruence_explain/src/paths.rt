@@ -7,11 +7,11 @@ ghost use Rattle.congruence_explain.specs.Claims.{IsClaimIn, IsOneEquality, deni
 ghost use Rattle.congruence_explain.specs.Basis.{IsBasis, AreLinkedIn, AreLinkedOr};
 ghost use Rattle.congruence_explain.specs.Steps.{Start, derived, spoken, Explains, setting, notes, marked, edges_on, TellsPair, TellsPairs};
 
-use crate::claims::{Claim, Said, claim_of, equality, unequality};
+use crate::claims::{Claim, SignedClaim, claim_of, equality, unequality};
 use crate::putting::put_alone;
 use crate::rules::rule_of_path;
 use congruence_relation::Truths;
-use explain_forest::{Forest, Step};
+use explain_forest::{Forest, PathStep};
 use proof_log::ProofLog;
 use std::alloc::Global;
 use term_core::{Head, TermId, TermTable};
@@ -21,9 +21,9 @@ use world_io::NoMemory;
 fn deny_path(
     alloc: Global,
     truths: Truths,
-    path: &[Step],
+    path: &[PathStep],
     needed: &mut [bool],
-) -> Result<Vec<Said>, NoMemory>
+) -> Result<Vec<SignedClaim>, NoMemory>
     requires there { All (λ s. s.edge < length needed.old) path.now }
     ensures count { length needed.new ≡ length needed.old }
     ensures clause { IfOk result (λ c. c.items ≡ map (denied_step truths) path.now) }
@@ -31,7 +31,7 @@ fn deny_path(
 {
     let mut clause = Vec::new(alloc);
     'path: for s in path {
-        clause.push(Said {
+        clause.push(SignedClaim {
             claim: claim_of(truths, s.label, s.from, s.to),
             positive: false,
         })?;
@@ -53,7 +53,7 @@ fn is_equality(table: &TermTable, id: TermId, x: TermId, y: TermId) -> bool
 }
 
 /// Tells whether a clause has one literal, whose formula is the equality of two terms, in this order.
-fn is_said(table: &TermTable, clause: &[Said], x: TermId, y: TermId) -> bool
+fn is_said(table: &TermTable, clause: &[SignedClaim], x: TermId, y: TermId) -> bool
     requires { All (λ s. IsClaimIn table.now s.claim) clause.now }
     ensures { result ≡ true → IsOneEquality table.now clause.now x y }
 {
@@ -111,7 +111,7 @@ fn tell_pair(
     x: TermId,
     y: TermId,
     needed: &mut [bool],
-    clause: &mut Vec<Said>,
+    clause: &mut Vec<SignedClaim>,
 ) -> Result<(), NoMemory>
     ghost start: { Start }
     requires derives { Explains start (derived table.old log.old) }
@@ -143,7 +143,7 @@ pub(crate) fn tell_pairs(
     xs: &[TermId],
     ys: &[TermId],
     needed: &mut [bool],
-) -> Result<Vec<Said>, NoMemory>
+) -> Result<Vec<SignedClaim>, NoMemory>
     ghost start: { Start }
     requires derives { Explains start (derived table.old log.old) }
     requires basis { IsBasis start.table truths forest.now.now start.facts }

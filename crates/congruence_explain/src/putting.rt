@@ -11,7 +11,7 @@ ghost use Rattle.term_clauses.specs.Stating.{Widens};
 ghost use Rattle.congruence_explain.specs.Claims.{IsClaimIn, IsClaimOf, IsClaimPut, term_claimed, term_said, literal_said};
 ghost use Rattle.congruence_explain.specs.Steps.{Start, derived, spoken, Explains, HasPut};
 
-use crate::claims::{Claim, Said};
+use crate::claims::{Claim, SignedClaim};
 use proof_log::{Clause, Numbers, ProofLog, Rule, Step, StepId, StepIds};
 use std::alloc::Global;
 use term_core::{Head, Node, TermId, TermTable};
@@ -51,7 +51,7 @@ fn signed_of(
 }
 
 /// Puts the term of a literal, or finds it.
-fn term_of(alloc: Global, table: &mut TermTable, said: Said) -> Result<TermId, NoMemory>
+fn term_of(alloc: Global, table: &mut TermTable, said: SignedClaim) -> Result<TermId, NoMemory>
     requires { IsClaimIn table.old said.claim }
     ensures wider { Widens table.old table.new }
     ensures means { IfOk result (IsClaimPut table.new (term_said table.old said)) }
@@ -61,7 +61,11 @@ fn term_of(alloc: Global, table: &mut TermTable, said: Said) -> Result<TermId, N
 }
 
 /// Puts the terms of literals, in their order.
-fn terms_of(alloc: Global, table: &mut TermTable, clause: &[Said]) -> Result<Vec<TermId>, NoMemory>
+fn terms_of(
+    alloc: Global,
+    table: &mut TermTable,
+    clause: &[SignedClaim],
+) -> Result<Vec<TermId>, NoMemory>
     requires { All (λ s. IsClaimIn table.old s.claim) clause.now }
     ensures wider { Widens table.old table.new }
     ensures means { IfOk result (λ ids. AreFormulasIn table.new ids.items
@@ -84,7 +88,7 @@ pub(crate) fn put(
     log: &mut ProofLog,
     rule: Rule,
     premises: Vec<StepId>,
-    clause: &[Said],
+    clause: &[SignedClaim],
 ) -> Result<StepId, NoMemory>
     ghost start: { Start }
     requires derives { Explains start (derived table.old log.old) }
@@ -112,7 +116,7 @@ pub(crate) fn put_alone(
     table: &mut TermTable,
     log: &mut ProofLog,
     rule: Rule,
-    clause: &[Said],
+    clause: &[SignedClaim],
 ) -> Result<StepId, NoMemory>
     ghost start: { Start }
     requires derives { Explains start (derived table.old log.old) }

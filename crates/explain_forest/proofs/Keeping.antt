@@ -2,7 +2,7 @@
 use Rattle.std.proofs.Common.{◌≡◌, ℕ, suc, ◌<◌, ◌≤◌, List, [], ◌∷◌, ◌++◌, length, reverse, take, drop, get_or, slice_set, sym, ◌∙◌, ap, subst, arith, length-set, drop_of_length-le, append-nil, take_all}
 use Rattle.std.proofs.lemmas.List.{reverse-append, length-reverse}
 use Rattle.explain_forest.specs.declared.types.Edge.{Edge}
-use Rattle.explain_forest.specs.declared.types.Mark.{Mark}
+use Rattle.explain_forest.specs.declared.types.EdgeMark.{EdgeMark}
 use Rattle.explain_forest.specs.Forest.{root, Linked}
 use Rattle.explain_forest.specs.Kept.{EdgesAreApart, parents_by, stamps_by, ArraysShow, IsMark, AreEdgeMarks, ForestFits}
 use Rattle.explain_forest.proofs.Marks.{marks-set, marks-more, marks-linked, mark-at, marks-back}
@@ -21,7 +21,7 @@ shows-linked parents stamps edges e s ha hb apart =
       apart = subst (λ k. EdgesAreApart k (reverse (edges ++ e ∷ []))) (sym m) (subst (EdgesAreApart n) (sym more) (ha, hb, apart, s.apart));
     }
 
-module _ (parents stamps : List ℕ) (edges : List Edge) (marks : List Mark) (room : ℕ) (kept : ForestFits parents stamps edges marks room) where
+module _ (parents stamps : List ℕ) (edges : List Edge) (marks : List EdgeMark) (room : ℕ) (kept : ForestFits parents stamps edges marks room) where
   pub kept-linked : (e : Edge) → e.a.0 < length parents → e.b.0 < length parents → (Linked (reverse edges) e.a.0 e.b.0 → ⊥) → (below above stamp room_after : ℕ) (after : List Edge)
       → below ≡ root (reverse edges) e.a.0 → above ≡ root (reverse edges) e.b.0 → stamp ≡ suc (length edges) → after ≡ edges ++ e ∷ [] → room_after ≡ room
       → ForestFits (slice_set parents below above) (slice_set stamps below stamp) after marks room_after
@@ -37,7 +37,7 @@ module _ (parents stamps : List ℕ) (edges : List Edge) (marks : List Mark) (ro
         fits = let f = kept.fits in omega (arith, f, m, same);
       }
 
-  pub kept-set : (set_marks : List Mark) → set_marks ≡ marks ++ record { edges = length edges; terms = length parents } ∷ [] → ForestFits parents stamps edges set_marks room
+  pub kept-set : (set_marks : List EdgeMark) → set_marks ≡ marks ++ record { edges = length edges; terms = length parents } ∷ [] → ForestFits parents stamps edges set_marks room
   kept-set set_marks is = record {
     shows = kept.shows;
     marked = subst (AreEdgeMarks (length parents) edges) (sym is) (marks-set (length parents) edges marks kept.shows.apart kept.marked);
@@ -52,12 +52,12 @@ module _ (parents stamps : List ℕ) (edges : List Edge) (marks : List Mark) (ro
     fits = fits;
   }
 
-  module _ (m : Mark) (at : ℕ) (there : (at < length marks) × (get_or marks at m ≡ m)) where
+  module _ (m : EdgeMark) (at : ℕ) (there : (at < length marks) × (get_or marks at m ≡ m)) where
     pub kept-mark : IsMark (length parents) edges m
     kept-mark = mark-at (length parents) edges m marks at kept.marked there.0 there.1
 
     -- after the edges are cut, and the terms
-    pub kept-back : (cut_parents cut_stamps old_parents old_stamps : List ℕ) (after : List Edge) (marks_after : List Mark) (room_after : ℕ)
+    pub kept-back : (cut_parents cut_stamps old_parents old_stamps : List ℕ) (after : List Edge) (marks_after : List EdgeMark) (room_after : ℕ)
         → after ≡ take m.edges edges → marks_after ≡ take at marks → room_after ≡ room → ArraysShow cut_parents cut_stamps after
         → ((es : List Edge) → EdgesAreApart m.terms (reverse es) → ArraysShow cut_parents cut_stamps es → ArraysShow old_parents old_stamps es) → length old_parents ≡ m.terms
         → ForestFits old_parents old_stamps after marks_after room_after
@@ -69,7 +69,7 @@ module _ (parents stamps : List ℕ) (edges : List Edge) (marks : List Mark) (ro
     }
 
 -- the mark that was found
-pub found : (list marks : List Mark) (at : ℕ) (m : Mark) → list ≡ marks → at < length list → m ≡ get_or list at m → (at < length marks) × (get_or marks at m ≡ m)
+pub found : (list marks : List EdgeMark) (at : ℕ) (m : EdgeMark) → list ≡ marks → at < length list → m ≡ get_or list at m → (at < length marks) × (get_or marks at m ≡ m)
 found list marks at m same low is = (subst (λ ms. at < length ms) same low, ap (λ ms. get_or ms at m) (sym same) ∙ sym is)
 
 -- an array that was lent whole comes back whole

@@ -4,13 +4,13 @@ use Rattle.std.specs.Prelude.{All}
 use Rattle.std.proofs.lemmas.Bool.{cases_eq}
 use Rattle.std.proofs.lemmas.List.Elements.{All-append, All-cons, All-nil}
 use Rattle.explain_forest.specs.declared.types.Edge.{Edge}
-use Rattle.explain_forest.specs.declared.types.Step.{Step}
+use Rattle.explain_forest.specs.declared.types.PathStep.{PathStep}
 use Rattle.explain_forest.specs.Forest.{root, Linked, forth, back, path, numbered, PathLeads, IsAlong}
 use Rattle.explain_forest.specs.Telling.{}
 use Rattle.explain_forest.proofs.Roots.{root-under, root-beside}
 use Rattle.explain_forest.proofs.Levels.{numbered-top, numbered-older, path-kept, path-forth, path-back}
 
-leads-append : (x : ℕ) (ss ts : List Step) (m y : ℕ) → PathLeads x ss m → PathLeads m ts y → PathLeads x (ss ++ ts) y
+leads-append : (x : ℕ) (ss ts : List PathStep) (m y : ℕ) → PathLeads x ss m → PathLeads m ts y → PathLeads x (ss ++ ts) y
 leads-append x [] ts m y p q = subst (λ z. PathLeads z ts y) (sym p) q
 leads-append x (s ∷ ss) ts m y p q = (p.0, leads-append s.to.0 ss ts m y p.1 q)
 
@@ -32,7 +32,7 @@ path-leads (e ∷ es) x y h = go (cases_eq (root es x) (root es y)) (cases_eq (r
             subst (λ l. PathLeads x l y) (sym (path-back e es x y p q)) (leads-append x (path es x e.b.0) (back (length es) e ∷ path es e.a.0 y) e.b.0 y (ih x e.b.0 bx) (refl, ih e.a.0 y (sym r)))
 
 -- a newer edge leaves the numbers of older ones
-pub along-later : (e : Edge) (es : List Edge) (s : Step) → IsAlong es s → IsAlong (e ∷ es) s
+pub along-later : (e : Edge) (es : List Edge) (s : PathStep) → IsAlong es s → IsAlong (e ∷ es) s
 along-later e es s h = (omega (arith, h.0), go h.1)
   where
     same : numbered (e ∷ es) s.edge ≡ numbered es s.edge
@@ -51,13 +51,13 @@ path-along (e ∷ es) x y = go (root es x == root es y) (root es x == root es e.
     (later (path es x y) (path-along es x y)) (later (path es x e.a.0) (path-along es x e.a.0)) (later (path es e.b.0 y) (path-along es e.b.0 y))
     (later (path es x e.b.0) (path-along es x e.b.0)) (later (path es e.a.0 y) (path-along es e.a.0 y))
   where
-    later : (ss : List Step) → All (IsAlong es) ss → All (IsAlong (e ∷ es)) ss
+    later : (ss : List PathStep) → All (IsAlong es) ss → All (IsAlong (e ∷ es)) ss
     later ss h = λ k d l. along-later e es (get_or ss k d) (h k d l)
 
     here : numbered (e ∷ es) (length es) ≡ e
     here = numbered-top e es (length es) refl
 
-    both : (ss : List Step) (s : Step) (ts : List Step) → (s ≡ forth (length es) e) ⊎ (s ≡ back (length es) e) → All (IsAlong (e ∷ es)) ss → All (IsAlong (e ∷ es)) ts → All (IsAlong (e ∷ es)) (ss ++ s ∷ ts)
+    both : (ss : List PathStep) (s : PathStep) (ts : List PathStep) → (s ≡ forth (length es) e) ⊎ (s ≡ back (length es) e) → All (IsAlong (e ∷ es)) ss → All (IsAlong (e ∷ es)) ts → All (IsAlong (e ∷ es)) (ss ++ s ∷ ts)
     both ss s ts is p q = All-append (IsAlong (e ∷ es)) ss (s ∷ ts) p (All-cons (IsAlong (e ∷ es)) s ts (own is) q)
       where
         own : (s ≡ forth (length es) e) ⊎ (s ≡ back (length es) e) → IsAlong (e ∷ es) s

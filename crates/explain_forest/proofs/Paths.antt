@@ -7,8 +7,8 @@ use Rattle.std.proofs.lemmas.Bool.Decides.{nat_tests}
 use Rattle.std.proofs.lemmas.List.{reverse-append, reverse-reverse, length-reverse}
 use Rattle.std.proofs.lemmas.List.Elements.{All-push}
 use Rattle.explain_forest.specs.declared.types.Edge.{Edge}
-use Rattle.explain_forest.specs.declared.types.Step.{Step}
-use Rattle.explain_forest.specs.declared.types.Part.{Part}
+use Rattle.explain_forest.specs.declared.types.PathStep.{PathStep}
+use Rattle.explain_forest.specs.declared.types.PathPart.{PathPart}
 use Rattle.explain_forest.specs.Forest.{Linked, forth, back, path, numbered}
 use Rattle.explain_forest.specs.Kept.{EdgesAreApart, Tops}
 use Rattle.explain_forest.specs.Telling.{step_of, told, told_all, cost, costs, first, second, halves, Turns}
@@ -30,31 +30,31 @@ numbered-at (e ∷ es) k d h = ap (λ xs. get_or xs k d) (reverse-append (e ∷ 
 pub edge-numbered : (edges : List Edge) (k : ℕ) (d : Edge) → k < length edges → get_or edges k d ≡ numbered (reverse edges) k
 edge-numbered edges k d h = ap (λ xs. get_or xs k d) (sym (reverse-reverse edges)) ∙ numbered-at (reverse edges) k d (subst (λ n. k < n) (sym (length-reverse edges)) h)
 
-pub told_all-append : (es : List Edge) (ps qs : List Part) → told_all es (ps ++ qs) ≡ told_all es qs ++ told_all es ps
+pub told_all-append : (es : List Edge) (ps qs : List PathPart) → told_all es (ps ++ qs) ≡ told_all es qs ++ told_all es ps
 told_all-append es [] qs = simp append-nil
 told_all-append es (p ∷ ps) qs = ap (λ l. l ++ told es p) (told_all-append es ps qs) ∙ append_assoc (told_all es qs) (told_all es ps) (told es p)
 
-pub costs-append : (es : List Edge) (ps qs : List Part) → costs es (ps ++ qs) ≡ costs es ps + costs es qs
+pub costs-append : (es : List Edge) (ps qs : List PathPart) → costs es (ps ++ qs) ≡ costs es ps + costs es qs
 costs-append es [] qs = omega arith
 costs-append es (p ∷ ps) qs = omega (arith, costs-append es ps qs)
 
 module _ (n : ℕ) (es : List Edge) (ok : EdgesAreApart n es) (edges_low : (k : ℕ) → k < length es → ((numbered es k).a.0 < n) × ((numbered es k).b.0 < n)) where
   -- what a split tells is the path
-  pub split-told : (p : Part) (k : ℕ) (along : Bool) → Tops es p.from.0 p.to.0 k along
+  pub split-told : (p : PathPart) (k : ℕ) (along : Bool) → Tops es p.from.0 p.to.0 k along
       → told es (first (numbered es k) along p) ++ told es (second (numbered es k) k along p) ≡ path es p.from.0 p.to.0
   split-told p k true t = sym (split-forth n k es p.from.0 p.to.0 ok t.0 t.1 t.2 t.3)
   split-told p k false t = sym (split-back n k es p.from.0 p.to.0 ok t.0 t.1 t.2 t.3)
 
-  pub split-cost : (p : Part) (k : ℕ) (along : Bool) → Tops es p.from.0 p.to.0 k along → cost es (second (numbered es k) k along p) + cost es (first (numbered es k) along p) < cost es p
+  pub split-cost : (p : PathPart) (k : ℕ) (along : Bool) → Tops es p.from.0 p.to.0 k along → cost es (second (numbered es k) k along p) + cost es (first (numbered es k) along p) < cost es p
   split-cost p k true t = let h = ap length (split-forth n k es p.from.0 p.to.0 ok t.0 t.1 t.2 t.3) ∙ length-append (path es p.from.0 (numbered es k).a.0) (forth k (numbered es k) ∷ path es (numbered es k).b.0 p.to.0) in omega (arith, h)
   split-cost p k false t = let h = ap length (split-back n k es p.from.0 p.to.0 ok t.0 t.1 t.2 t.3) ∙ length-append (path es p.from.0 (numbered es k).b.0) (back k (numbered es k) ∷ path es (numbered es k).a.0 p.to.0) in omega (arith, h)
 
-  pub split-first : (p : Part) (k : ℕ) (along : Bool) → p.from.0 < n → Tops es p.from.0 p.to.0 k along
+  pub split-first : (p : PathPart) (k : ℕ) (along : Bool) → p.from.0 < n → Tops es p.from.0 p.to.0 k along
       → ((first (numbered es k) along p).from.0 < n) × ((first (numbered es k) along p).to.0 < n) × Linked es (first (numbered es k) along p).from.0 (first (numbered es k) along p).to.0
   split-first p k true h t = (h, (edges_low k t.0).0, (linked-forth n k es p.from.0 p.to.0 ok t.0 t.2 t.3).0)
   split-first p k false h t = (h, (edges_low k t.0).1, (linked-back n k es p.from.0 p.to.0 ok t.0 t.2 t.3).0)
 
-  pub split-second : (p : Part) (k : ℕ) (along : Bool) → p.to.0 < n → Tops es p.from.0 p.to.0 k along
+  pub split-second : (p : PathPart) (k : ℕ) (along : Bool) → p.to.0 < n → Tops es p.from.0 p.to.0 k along
       → ((second (numbered es k) k along p).from.0 < n) × ((second (numbered es k) k along p).to.0 < n) × Linked es (second (numbered es k) k along p).from.0 (second (numbered es k) k along p).to.0
   split-second p k true h t = ((edges_low k t.0).1, h, (linked-forth n k es p.from.0 p.to.0 ok t.0 t.2 t.3).1)
   split-second p k false h t = ((edges_low k t.0).0, h, (linked-back n k es p.from.0 p.to.0 ok t.0 t.2 t.3).1)
@@ -68,7 +68,7 @@ numbered-low n (e ∷ es) ok k h = go (cases_eq k (length es)) (numbered-low n e
     go (inr p) ih = let q : numbered (e ∷ es) k ≡ numbered es k = grind (arith, nat_tests) in subst (λ f. (f.a.0 < n) × (f.b.0 < n)) (sym q) (ih (omega arith))
 
 -- One part is explained: its step, and nothing more where it leads nowhere, else its two halves.
-module _ (n : ℕ) (es : List Edge) (ok : EdgesAreApart n es) (out after : List Step) (whole : List Step) (ps : List Part) (p : Part) where
+module _ (n : ℕ) (es : List Edge) (ok : EdgesAreApart n es) (out after : List PathStep) (whole : List PathStep) (ps : List PathPart) (p : PathPart) where
   pub told-end : after ≡ out ++ step_of p → p.from.0 ≡ p.to.0 → out ++ told_all es (ps ++ p ∷ []) ≡ whole → after ++ told_all es ps ≡ whole
   told-end tells same all =
       (λ i. tells i ++ told_all es ps) ∙ append_assoc out (step_of p) (told_all es ps) ∙ ap (λ l. out ++ l) (sym inner) ∙ ap (λ l. out ++ l) (sym (told_all-append es ps (p ∷ []))) ∙ all
@@ -81,7 +81,7 @@ module _ (n : ℕ) (es : List Edge) (ok : EdgesAreApart n es) (out after : List 
   told-split k along tells t all =
       let fst = told es (first (numbered es k) along p) in
       let snd = told es (second (numbered es k) k along p) in
-      let head : List Step = step_of p in
+      let head : List PathStep = step_of p in
       (λ i. tells i ++ told_all-append es ps (halves (numbered es k) k along p) i)
       ∙ append_assoc out head ((fst ++ snd) ++ told_all es ps)
       ∙ ap (λ l. out ++ (head ++ (l ++ told_all es ps))) (split-told n es ok (numbered-low n es ok) p k along t)
@@ -90,7 +90,7 @@ module _ (n : ℕ) (es : List Edge) (ok : EdgesAreApart n es) (out after : List 
       ∙ all
 
 -- a turn over a part that leads nowhere
-pub turns-end : (n : ℕ) (es : List Edge) (ok : EdgesAreApart n es) (p : Part) (ps : List Part) (out after : List Step) → after ≡ out ++ step_of p → p.from.0 ≡ p.to.0 → Turns n es p (record { parts = ps; out = out }) (record { parts = ps; out = after })
+pub turns-end : (n : ℕ) (es : List Edge) (ok : EdgesAreApart n es) (p : PathPart) (ps : List PathPart) (out after : List PathStep) → after ≡ out ++ step_of p → p.from.0 ≡ p.to.0 → Turns n es p (record { parts = ps; out = out }) (record { parts = ps; out = after })
 turns-end n es ok p ps out after tells same = record {
   whole = λ steps h. told-end n es ok out after steps ps p tells same h;
   less = let c = costs-append es ps (p ∷ []) in omega arith;
@@ -98,7 +98,7 @@ turns-end n es ok p ps out after tells same = record {
 }
 
 -- and over one that is split
-pub turns-split : (n : ℕ) (es : List Edge) (ok : EdgesAreApart n es) (p : Part) (ps qs : List Part) (out after : List Step) (k : ℕ) (along : Bool) → (p.from.0 < n) × (p.to.0 < n) × Linked es p.from.0 p.to.0
+pub turns-split : (n : ℕ) (es : List Edge) (ok : EdgesAreApart n es) (p : PathPart) (ps qs : List PathPart) (out after : List PathStep) (k : ℕ) (along : Bool) → (p.from.0 < n) × (p.to.0 < n) × Linked es p.from.0 p.to.0
     → after ≡ out ++ step_of p → Tops es p.from.0 p.to.0 k along → qs ≡ ps ++ halves (numbered es k) k along p → Turns n es p (record { parts = ps; out = out }) (record { parts = qs; out = after })
 turns-split n es ok p ps qs out after k along low tells t is = subst (λ l. Turns n es p (record { parts = ps; out = out }) (record { parts = l; out = after })) (sym is) (record {
   whole = λ steps h. told-split n es ok out after steps ps p k along tells t h;
@@ -109,7 +109,7 @@ turns-split n es ok p ps qs out after k along low tells t is = subst (λ l. Turn
   linked = λ h. two h;
 })
   where
-    Good : Part → Type 0
+    Good : PathPart → Type 0
     Good q = (q.from.0 < n) × (q.to.0 < n) × Linked es q.from.0 q.to.0
 
     two : All Good ps → All Good (ps ++ halves (numbered es k) k along p)

@@ -2,7 +2,7 @@
 use Rattle.std.specs.Prelude.{◌≡◌, ℕ, ◌<◌, ◌==◌, nat_lt, ◌⊎◌, false, List, [], ◌∷◌, ◌++◌, length, All, if◌then◌else◌}
 use Rattle.explain_forest.specs.declared.types.Edge.{Edge}
 use Rattle.explain_forest.specs.declared.types.Label.TheVariants.{Held}
-use Rattle.explain_forest.specs.declared.types.Step.{Step}
+use Rattle.explain_forest.specs.declared.types.PathStep.{PathStep}
 
 -- How many terms there are, and the edges between them.
 pub record ForestState : Type 0 where
@@ -32,15 +32,15 @@ abbrev pub IsBetween : List Edge → Edge → ℕ → ℕ → Type 0
 IsBetween es e x y = (Linked es x e.a.0 × Linked es e.b.0 y) ⊎ (Linked es x e.b.0 × Linked es e.a.0 y)
 
 -- the step along the edge of a number, from its first end to its second
-abbrev pub forth : ℕ → Edge → Step
+abbrev pub forth : ℕ → Edge → PathStep
 forth k e = record { from = e.a; to = e.b; label = e.label; edge = k }
 
 -- the step along it from its second end to its first
-abbrev pub back : ℕ → Edge → Step
+abbrev pub back : ℕ → Edge → PathStep
 back k e = record { from = e.b; to = e.a; label = e.label; edge = k }
 
 -- The path between two linked terms: that of the older edges where these link them, else over the newest.
-abbrev pub path : List Edge → ℕ → ℕ → List Step
+abbrev pub path : List Edge → ℕ → ℕ → List PathStep
 path [] x y = []
 path (e ∷ es) x y =
     if root es x == root es y then path es x y
@@ -66,15 +66,15 @@ older [] k = []
 older (e ∷ es) k = if nat_lt (length es) k then e ∷ es else older es k
 
 -- who takes these steps from one term comes to the other
-abbrev pub PathLeads : ℕ → List Step → ℕ → Type 0
+abbrev pub PathLeads : ℕ → List PathStep → ℕ → Type 0
 PathLeads x [] y = x ≡ y
 PathLeads x (s ∷ ss) y = (s.from.0 ≡ x) × PathLeads s.to.0 ss y
 
 -- the step goes along the edge of its number, either way
-abbrev pub IsAlong : List Edge → Step → Type 0
+abbrev pub IsAlong : List Edge → PathStep → Type 0
 IsAlong es s = (s.edge < length es)
     × ((s ≡ forth s.edge (numbered es s.edge)) ⊎ (s ≡ back s.edge (numbered es s.edge)))
 
 -- each step does
-abbrev pub AlongEdges : List Edge → List Step → Type 0
+abbrev pub AlongEdges : List Edge → List PathStep → Type 0
 AlongEdges es steps = All (IsAlong es) steps

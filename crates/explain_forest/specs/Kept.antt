@@ -2,7 +2,7 @@
 use Rattle.std.specs.Prelude.{◌≡◌, ◌≢◌, ℕ, suc, ◌+◌, ◌-◌, ◌<◌, ◌≤◌, ◌==◌, nat_lt, ◌&&◌, ◌⊎◌, Bool, true, false, List, [], ◌∷◌, length, reverse, take, replicate, slice_index, slice_set, All, if◌then◌else◌}
 use Rattle.std.specs.List.{range_with_len}
 use Rattle.explain_forest.specs.declared.types.Edge.{Edge}
-use Rattle.explain_forest.specs.declared.types.Mark.{Mark}
+use Rattle.explain_forest.specs.declared.types.EdgeMark.{EdgeMark}
 use Rattle.explain_forest.specs.Forest.{ForestState, root, Linked, numbered}
 
 -- each edge is between terms below a number that older edges do not link
@@ -40,11 +40,11 @@ pub record ArraysShow (parents stamps : List ℕ) (edges : List Edge) : Type 0 w
   pub apart : EdgesAreApart (length parents) (reverse edges)
 
 -- the terms and edges at a mark
-abbrev pub state_at : List Edge → Mark → ForestState
+abbrev pub state_at : List Edge → EdgeMark → ForestState
 state_at edges m = record { terms = m.terms; edges = reverse (take m.edges edges) }
 
 -- A mark has no more edges and terms than there are, and its edges are between its terms.
-pub record IsMark (terms : ℕ) (edges : List Edge) (m : Mark) : Type 0 where
+pub record IsMark (terms : ℕ) (edges : List Edge) (m : EdgeMark) : Type 0 where
   -- its terms are there
   pub few_terms : m.terms ≤ terms
   -- its edges are there
@@ -53,19 +53,19 @@ pub record IsMark (terms : ℕ) (edges : List Edge) (m : Mark) : Type 0 where
   pub apart : EdgesAreApart m.terms (reverse (take m.edges edges))
 
 -- One mark was set before another.
-pub record IsBefore (m later : Mark) : Type 0 where
+pub record IsBefore (m later : EdgeMark) : Type 0 where
   -- there were no more terms
   pub few_terms : m.terms ≤ later.terms
   -- there were no more edges
   pub few_edges : m.edges ≤ later.edges
 
 -- marks, oldest first
-abbrev pub AreEdgeMarks : ℕ → List Edge → List Mark → Type 0
+abbrev pub AreEdgeMarks : ℕ → List Edge → List EdgeMark → Type 0
 AreEdgeMarks terms edges [] = Unit {0}
 AreEdgeMarks terms edges (m ∷ ms) = IsMark terms edges m × All (IsBefore m) ms × AreEdgeMarks terms edges ms
 
 -- What the parts of a forest keep.
-pub record ForestFits (parents stamps : List ℕ) (edges : List Edge) (marks : List Mark) (room : ℕ) : Type 0 where
+pub record ForestFits (parents stamps : List ℕ) (edges : List Edge) (marks : List EdgeMark) (room : ℕ) : Type 0 where
   -- the arrays are those of the edges
   pub shows : ArraysShow parents stamps edges
   -- the marks are older states

@@ -6,7 +6,7 @@ ghost use Rattle.explain_forest.specs.Kept.{ArraysShow};
 ghost use Rattle.explain_forest.specs.Telling.{step_of, halves, Turns};
 
 use crate::climb::top;
-use crate::types::{Edge, Part, Step};
+use crate::types::{Edge, PathPart, PathStep};
 use std::alloc::Global;
 use term_core::TermId;
 use world_io::NoMemory;
@@ -20,7 +20,7 @@ fn edge_of(edges: &[Edge], k: u64) -> Edge
 }
 
 /// Puts a part's step last, if there is one.
-fn tell(p: Part, out: &mut Vec<Step>) -> Result<(), NoMemory>
+fn tell(p: PathPart, out: &mut Vec<PathStep>) -> Result<(), NoMemory>
     ensures { OnOk result (out.new.items ≡ out.old.items ++ step_of p) }
 {
     if let Some(step) = p.step {
@@ -32,28 +32,28 @@ fn tell(p: Part, out: &mut Vec<Step>) -> Result<(), NoMemory>
 /// Splits a part at the newest edge of its path, and puts the half that comes first last.
 fn split(
     edges: &[Edge],
-    p: Part,
+    p: PathPart,
     k: u64,
     along: bool,
-    parts: &mut Vec<Part>,
+    parts: &mut Vec<PathPart>,
 ) -> Result<(), NoMemory>
     requires { k < length edges.now }
     ensures { OnOk result (parts.new.items ≡ parts.old.items ++ halves (numbered (reverse edges.now) k) k along p) }
 {
     let e = edge_of(edges, k);
     let (from, to) = if along { (e.a, e.b) } else { (e.b, e.a) };
-    let step = Step {
+    let step = PathStep {
         from,
         to,
         label: e.label,
         edge: k,
     };
-    parts.push(Part {
+    parts.push(PathPart {
         step: Some(step),
         from: to,
         to: p.to,
     })?;
-    parts.push(Part {
+    parts.push(PathPart {
         step: None,
         from: p.from,
         to: from,
@@ -66,9 +66,9 @@ fn turn(
     parents: &[u64],
     stamps: &[u64],
     edges: &[Edge],
-    p: Part,
-    parts: &mut Vec<Part>,
-    out: &mut Vec<Step>,
+    p: PathPart,
+    parts: &mut Vec<PathPart>,
+    out: &mut Vec<PathStep>,
 ) -> Result<(), NoMemory>
     requires shows { ArraysShow parents.now stamps.now edges.now }
     requires part { (p.from.0 < length parents.now) × (p.to.0 < length parents.now)
@@ -94,7 +94,7 @@ pub(crate) fn explain(
     edges: &[Edge],
     x: TermId,
     y: TermId,
-) -> Result<Vec<Step>, NoMemory>
+) -> Result<Vec<PathStep>, NoMemory>
     requires shows { ArraysShow parents.now stamps.now edges.now }
     requires x { x.0 < length parents.now }
     requires y { y.0 < length parents.now }
@@ -103,7 +103,7 @@ pub(crate) fn explain(
 {
     let mut out = Vec::new(alloc);
     let mut parts = Vec::new(alloc);
-    parts.push(Part {
+    parts.push(PathPart {
         step: None,
         from: x,
         to: y,

@@ -6,7 +6,7 @@ ghost use Rattle.explain_forest.specs.Forest.{Linked, path, root, numbered, Path
 use crate::arrays::{cut, grow, shrink};
 use crate::climb::find;
 use crate::explain::explain;
-use crate::types::{Edge, Label, Mark, Step};
+use crate::types::{Edge, EdgeMark, Label, PathStep};
 use std::alloc::Global;
 use std::marker::Model;
 use term_core::TermId;
@@ -28,7 +28,7 @@ pub struct Forest {
     /// The edges, oldest first, with room for as many as there are terms.
     edges: Vec<Edge>,
     /// The marks, oldest first.
-    marks: Vec<Mark>,
+    marks: Vec<EdgeMark>,
 }
 
 impl Model for Forest {
@@ -105,7 +105,7 @@ impl Forest {
     ///
     /// It takes time in proportion to the steps and the climbs from their ends, and memory in proportion to the steps.
     /// `NoMemory` comes where it finds none.
-    pub fn explain(&self, a: TermId, b: TermId) -> Result<Vec<Step>, NoMemory>
+    pub fn explain(&self, a: TermId, b: TermId) -> Result<Vec<PathStep>, NoMemory>
         requires a { a.0 < self.now.now.terms }
         requires b { b.0 < self.now.now.terms }
         requires linked { Linked self.now.now.edges a.0 b.0 }
@@ -155,7 +155,7 @@ impl Forest {
         ensures marks { OnOk result (self.new.marks ≡ self.old.marks ++ self.old.now ∷ []) }
         ensures err { OnErr result (self.new ≡ self.old) }
     {
-        self.marks.push(Mark {
+        self.marks.push(EdgeMark {
             edges: self.edges.len(),
             terms: self.parents.len(),
         })?;

@@ -16,4 +16,4 @@ pub use laws::{
     an_edge_links_what_it_is_between, older_edges_give_the_path, older_edges_keep_their_numbers,
 };
 pub use term_core::{Lit, TermId};
-pub use types::{Edge, Label, Step};
+pub use types::{Edge, Label, PathStep};

@@ -24,7 +24,7 @@ pub struct Edge {
 
 /// Goes along an edge, from either end to the other.
 #[derive(Clone, Copy, Debug, PartialEq, Eq)]
-pub struct Step {
+pub struct PathStep {
     /// Where the step begins.
     pub from: TermId,
     /// Where it ends.
@@ -37,9 +37,9 @@ pub struct Step {
 
 /// What is left of a path: a step, where there is one, and then the path between two terms.
 #[derive(Clone, Copy, Debug, PartialEq, Eq)]
-pub(crate) struct Part {
+pub(crate) struct PathPart {
     /// What comes before the path.
-    pub step: Option<Step>,
+    pub step: Option<PathStep>,
     /// Where the path begins.
     pub from: TermId,
     /// Where it ends.
@@ -48,7 +48,7 @@ pub(crate) struct Part {
 
 /// How many edges and terms there were when a mark was set.
 #[derive(Clone, Copy, Debug, PartialEq, Eq)]
-pub(crate) struct Mark {
+pub(crate) struct EdgeMark {
     /// How many edges.
     pub edges: usize,
     /// How many terms.

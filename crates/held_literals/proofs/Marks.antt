@@ -5,7 +5,7 @@ use Rattle.std.proofs.Math.Seq.{take-length}
 use Rattle.term_core.specs.declared.ids.TermId.{TermId}
 use Rattle.term_core.specs.declared.ids.Lit.{Lit}
 use Rattle.proof_log.specs.Theories.{Mark, no_mark}
-use Rattle.held_literals.specs.declared.held.Place.{Place}
+use Rattle.held_literals.specs.declared.held.HeldCounts.{HeldCounts}
 use Rattle.held_literals.specs.Room.{HasRoom, AreHeldMarks, AreOverWatched, mark_of, marks_of}
 
 pub early : {A : Type 0} (xs ys : List A) (k : ℕ) (d : A) → k < length xs → get_or (xs ++ ys) k d ≡ get_or xs k d
@@ -119,21 +119,21 @@ module _ (held : List Lit) (watched : List TermId) (marks : List Mark) (m : AreH
     }
 
 -- the marks of places
-pub marks_more_of : (ps : List Place) (p : Place) → marks_of (ps ++ p ∷ []) ≡ marks_of ps ++ mark_of p ∷ []
+pub marks_more_of : (ps : List HeldCounts) (p : HeldCounts) → marks_of (ps ++ p ∷ []) ≡ marks_of ps ++ mark_of p ∷ []
 marks_more_of [] p = refl
 marks_more_of (q ∷ ps) p = ap (λ ms. mark_of q ∷ ms) (marks_more_of ps p)
 
-pub mark_at : (ps : List Place) (k : ℕ) (d : Place) → k < length ps → get_or (marks_of ps) k no_mark ≡ mark_of (get_or ps k d)
+pub mark_at : (ps : List HeldCounts) (k : ℕ) (d : HeldCounts) → k < length ps → get_or (marks_of ps) k no_mark ≡ mark_of (get_or ps k d)
 mark_at [] k d lt = absurd (omega (arith, lt))
 mark_at (p ∷ ps) zero d lt = refl
 mark_at (p ∷ ps) (suc k) d lt = mark_at ps k d (omega (arith, lt))
 
-pub marks_kept : (ps : List Place) (k : ℕ) → marks_of (take k ps) ≡ take k (marks_of ps)
+pub marks_kept : (ps : List HeldCounts) (k : ℕ) → marks_of (take k ps) ≡ take k (marks_of ps)
 marks_kept [] zero = refl
 marks_kept [] (suc k) = refl
 marks_kept (p ∷ ps) zero = refl
 marks_kept (p ∷ ps) (suc k) = ap (λ ms. mark_of p ∷ ms) (marks_kept ps k)
 
-pub marks_count : (ps : List Place) → length (marks_of ps) ≡ length ps
+pub marks_count : (ps : List HeldCounts) → length (marks_of ps) ≡ length ps
 marks_count [] = refl
 marks_count (p ∷ ps) = ap suc (marks_count ps)

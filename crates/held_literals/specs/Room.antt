@@ -4,14 +4,14 @@ use Rattle.std.specs.List.{AllPairs}
 use Rattle.term_core.specs.declared.ids.TermId.{TermId}
 use Rattle.term_core.specs.declared.ids.Lit.{Lit}
 use Rattle.proof_log.specs.Theories.{Mark, TheoryView, no_mark}
-use Rattle.held_literals.specs.declared.held.Place.{Place}
+use Rattle.held_literals.specs.declared.held.HeldCounts.{HeldCounts}
 
 -- the mark of a place
-abbrev pub mark_of : Place → Mark
+abbrev pub mark_of : HeldCounts → Mark
 mark_of p = record { held = p.held; watched = p.watched }
 
 -- the marks of places
-abbrev pub marks_of : List Place → List Mark
+abbrev pub marks_of : List HeldCounts → List Mark
 marks_of ps = map mark_of ps
 
 -- what there is without the newest mark

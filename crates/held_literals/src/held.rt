@@ -11,7 +11,7 @@ use world_io::NoMemory;
 
 /// How many literals and terms there were.
 #[derive(Clone, Copy, Debug, PartialEq, Eq)]
-struct Place {
+struct HeldCounts {
     held: usize,
     watched: usize,
 }
@@ -24,7 +24,7 @@ struct Place {
 pub struct HeldLiterals {
     held: Vec<Lit>,
     watched: Vec<TermId>,
-    marks: Vec<Place>,
+    marks: Vec<HeldCounts>,
 }
 
 impl Model for HeldLiterals {
@@ -112,7 +112,7 @@ impl HeldLiterals {
     pub fn mark(&mut self) -> Result<(), NoMemory>
         ensures { MatchResult result (λ _. self.new ≡ with_mark self.old) (λ _. self.new ≡ self.old) }
     {
-        self.marks.push(Place {
+        self.marks.push(HeldCounts {
             held: self.held.len(),
             watched: self.watched.len(),
         })?;

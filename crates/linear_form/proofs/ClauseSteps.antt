@@ -18,9 +18,9 @@ use Rattle.linear_form.specs.declared.arith_fault.ArithFault.{ArithFault}
 use Rattle.linear_form.specs.declared.coeff.Coeff.{Coeff}
 use Rattle.linear_form.specs.declared.coeff.Coeff.TheVariants as coeffs
 use Rattle.linear_form.specs.declared.literals.Negation.{Negation}
-use Rattle.linear_form.specs.declared.stop.Stop.{Stop}
-use Rattle.linear_form.specs.declared.stop.Stop.TheVariants as stops
-use Rattle.linear_form.specs.declared.sums.Part.{Part}
+use Rattle.linear_form.specs.declared.stop.FormStop.{FormStop}
+use Rattle.linear_form.specs.declared.stop.FormStop.TheVariants as stops
+use Rattle.linear_form.specs.declared.sums.WeightedForm.{WeightedForm}
 use Rattle.linear_form.specs.Coefficients.{coefficient_meant, coefficients_meant}
 use Rattle.linear_form.specs.Literals.{one_meant, relation_meant}
 use Rattle.linear_form.specs.Making.{FailsBy, with_front}
@@ -45,7 +45,7 @@ module _ (t : TableView) (done : List (Negation × Ratio)) (ps : List (Negation 
   abbrev rest_from : Negation × Coeff → Answer (List (sums.Negation × Fraction))
   rest_from p = with_front (numbered_meant t done) (numbered (pair_meant t p ∷ pairs_meant t (drop (at + 1) ps)))
 
-  more_by : (p : Negation × Coeff) (new : List (Negation × Ratio)) → Pushes p (let r : Result (Unit {0}) Stop = Ok tt in r) done new → rest_from p ≡ so_far new (at + 1)
+  more_by : (p : Negation × Coeff) (new : List (Negation × Ratio)) → Pushes p (let r : Result (Unit {0}) FormStop = Ok tt in r) done new → rest_from p ≡ so_far new (at + 1)
   unfolding numbered
   more_by (n, coeffs.Number k) new g =
       front_more (numbered_meant t done) (one_meant t n, fraction k) (numbered (pairs_meant t (drop (at + 1) ps)))
@@ -53,14 +53,14 @@ module _ (t : TableView) (done : List (Negation × Ratio)) (ps : List (Negation 
   more_by (n, coeffs.Wide w) new g = absurd g
   more_by (n, coeffs.Shape) new g = ap (λ l. with_front (numbered_meant t l) (numbered (pairs_meant t (drop (at + 1) ps)))) (sym g)
 
-  fails_by : (p : Negation × Coeff) (new : List (Negation × Ratio)) (s : Stop) (a : Answer (List (sums.Negation × Fraction))) → Pushes p (Err s) done new → a ≡ rest_from p → FailsBy a s
+  fails_by : (p : Negation × Coeff) (new : List (Negation × Ratio)) (s : FormStop) (a : Answer (List (sums.Negation × Fraction))) → Pushes p (Err s) done new → a ≡ rest_from p → FailsBy a s
   unfolding numbered
   fails_by (n, coeffs.Wide w) new (stops.Wide v) a g k = k ∙ ap (λ w. Err (overflow w)) g
   fails_by (n, coeffs.Number q) new (stops.Wide v) a g k = absurd g
   fails_by (n, coeffs.Shape) new (stops.Wide v) a g k = absurd g
   fails_by p new stops.Memory a g k = tt
 
-  sides_by : (p : Negation × Coeff) (new : List (Negation × Ratio)) → Pushes p (let r : Result (Unit {0}) Stop = Ok tt in r) done new → HasPairIn t p → HaveNumbersIn t done → HaveNumbersIn t new
+  sides_by : (p : Negation × Coeff) (new : List (Negation × Ratio)) → Pushes p (let r : Result (Unit {0}) FormStop = Ok tt in r) done new → HasPairIn t p → HaveNumbersIn t done → HaveNumbersIn t new
   sides_by (n, coeffs.Number k) new g here there = subst (HaveNumbersIn t) (sym g) (All-push (HasNumberIn t) done (n, k) there here)
   sides_by (n, coeffs.Wide w) new g here there = absurd g
   sides_by (n, coeffs.Shape) new g here there = subst (HaveNumbersIn t) (sym g) there
@@ -69,13 +69,13 @@ module _ (t : TableView) (done : List (Negation × Ratio)) (ps : List (Negation 
     next : so_far done at ≡ rest_from p
     next = ap (λ l. with_front (numbered_meant t done) (numbered (pairs_meant t l))) (left_at ps at p lt is)
 
-    pub number_more : Pushes p (let r : Result (Unit {0}) Stop = Ok tt in r) done new → so_far done at ≡ so_far new (at + 1)
+    pub number_more : Pushes p (let r : Result (Unit {0}) FormStop = Ok tt in r) done new → so_far done at ≡ so_far new (at + 1)
     number_more g = next ∙ more_by p new g
 
-    pub number_fails : (s : Stop) (a : Answer (List (sums.Negation × Fraction))) → Pushes p (Err s) done new → a ≡ so_far done at → FailsBy a s
+    pub number_fails : (s : FormStop) (a : Answer (List (sums.Negation × Fraction))) → Pushes p (Err s) done new → a ≡ so_far done at → FailsBy a s
     number_fails s a g k = fails_by p new s a g (k ∙ next)
 
-    pub number_sides : Pushes p (let r : Result (Unit {0}) Stop = Ok tt in r) done new → HavePairsIn t ps → HaveNumbersIn t done → HaveNumbersIn t new
+    pub number_sides : Pushes p (let r : Result (Unit {0}) FormStop = Ok tt in r) done new → HavePairsIn t ps → HaveNumbersIn t done → HaveNumbersIn t new
     number_sides g all there = sides_by p new g (subst (HasPairIn t) (sym is) (all at p lt)) there
 
   pub number_end : length ps ≤ at → so_far done at ≡ Ok (numbered_meant t done)
@@ -83,7 +83,7 @@ module _ (t : TableView) (done : List (Negation × Ratio)) (ps : List (Negation 
   number_end h = ap (λ l. with_front (numbered_meant t done) (numbered (pairs_meant t l))) (drop_all at ps h) ∙ ap Ok (append-nil (numbered_meant t done))
 
 -- what literals bring
-module _ (t : TableView) (done : List Part) (ps : List (Negation × Ratio)) (at : ℕ) where
+module _ (t : TableView) (done : List WeightedForm) (ps : List (Negation × Ratio)) (at : ℕ) where
   module _ (p : Negation × Ratio) (lt : at < length ps) (is : p ≡ get_or ps at p) where
     abbrev rest : Answer (List sums.Part)
     rest = parts_of (numbered_meant t (drop (at + 1) ps))
@@ -93,11 +93,11 @@ module _ (t : TableView) (done : List Part) (ps : List (Negation × Ratio)) (at 
     unfolding parts_of
     part_next = ap (λ l. with_front (parts_meant t done) (parts_of (numbered_meant t l))) (left_at ps at p lt is)
 
-    pub part_more : (new : List Part) (f : FormView) → new ≡ done ++ (let q : Part = record { relation = p.0.relation; form = f; weight = p.1 } in q) ∷ [] → difference_meant t p.0 ≡ Ok (form_meant t f)
+    pub part_more : (new : List WeightedForm) (f : FormView) → new ≡ done ++ (let q : WeightedForm = record { relation = p.0.relation; form = f; weight = p.1 } in q) ∷ [] → difference_meant t p.0 ≡ Ok (form_meant t f)
         → with_front (parts_meant t done) (parts_of (numbered_meant t (drop at ps))) ≡ with_front (parts_meant t new) rest
     unfolding ◌>>=◌
     part_more new f g k =
-        let q : Part = record { relation = p.0.relation; form = f; weight = p.1 } in
+        let q : WeightedForm = record { relation = p.0.relation; form = f; weight = p.1 } in
         part_next
         ∙ ap (λ a. with_front (parts_meant t done) (a >>= λ f. rest >>= λ r. Ok (record { relation = relation_meant p.0.relation; form = f; weight = fraction p.1 } ∷ r))) k
         ∙ front_more (parts_meant t done) (part_meant t q) rest
@@ -111,7 +111,7 @@ module _ (t : TableView) (done : List Part) (ps : List (Negation × Ratio)) (at 
   unfolding parts_of
   part_end h = ap (λ l. with_front (parts_meant t done) (parts_of (numbered_meant t l))) (drop_all at ps h) ∙ ap Ok (append-nil (parts_meant t done))
 
-pub part_variables : (t : TableView) (done new : List Part) (q : Part) → new ≡ done ++ q ∷ [] → HaveVariablesOf t done → HasVariablesOf t q → HaveVariablesOf t new
+pub part_variables : (t : TableView) (done new : List WeightedForm) (q : WeightedForm) → new ≡ done ++ q ∷ [] → HaveVariablesOf t done → HasVariablesOf t q → HaveVariablesOf t new
 part_variables t done new q e all here = subst (HaveVariablesOf t) (sym e) (All-push (HasVariablesOf t) done q all here)
 
 -- a clause with its arguments
@@ -177,7 +177,7 @@ pub parts_judged : (ns : List (sums.Negation × Fraction)) (qs : List sums.Part)
 unfolding judged_numbers ◌>>=◌
 parts_judged ns qs r e h = subst (λ a. JudgesSum a r) (sym (ap (λ a. as_failure a >>= λ qs. judged_parts qs) e)) h
 
-pub parts_fail : (ns : List (sums.Negation × Fraction)) (s : Stop) → FailsBy (parts_of ns) s → JudgesSum (judged_numbers ns) (Err (fault_by s))
+pub parts_fail : (ns : List (sums.Negation × Fraction)) (s : FormStop) → FailsBy (parts_of ns) s → JudgesSum (judged_numbers ns) (Err (fault_by s))
 unfolding judged_numbers ◌>>=◌
 parts_fail ns (stops.Wide w) e = ap (λ a. as_failure a >>= λ qs. judged_parts qs) e
 parts_fail ns stops.Memory e = tt
@@ -186,7 +186,7 @@ pub numbers_judged : (ps : List (sums.Negation × sums.Coefficient)) (ns : List 
 unfolding judged_numbers ◌>>=◌
 numbers_judged ps ns r e h = subst (λ a. JudgesSum a r) (sym (ap (λ a. as_failure a >>= λ ns. as_failure (parts_of ns) >>= λ qs. judged_parts qs) e)) h
 
-pub numbers_fail : (ps : List (sums.Negation × sums.Coefficient)) (s : Stop) → FailsBy (numbered ps) s → JudgesSum (judged_pairs (Some ps)) (Err (fault_by s))
+pub numbers_fail : (ps : List (sums.Negation × sums.Coefficient)) (s : FormStop) → FailsBy (numbered ps) s → JudgesSum (judged_pairs (Some ps)) (Err (fault_by s))
 unfolding ◌>>=◌
 numbers_fail ps (stops.Wide w) e = ap (λ a. as_failure a >>= λ ns. as_failure (parts_of ns) >>= λ qs. judged_parts qs) e
 numbers_fail ps stops.Memory e = tt

@@ -11,8 +11,8 @@ use Rattle.ratio128.specs.declared.ratio.Ratio.{Ratio}
 use Rattle.ratio128.specs.Meant.{fraction}
 use Rattle.term_core.specs.declared.ids.TermId.{TermId}
 use Rattle.term_core.specs.Tables.{TableView, term_at}
-use Rattle.linear_form.specs.declared.stop.Stop.{Stop}
-use Rattle.linear_form.specs.declared.stop.Stop.TheVariants as stops
+use Rattle.linear_form.specs.declared.stop.FormStop.{FormStop}
+use Rattle.linear_form.specs.declared.stop.FormStop.TheVariants as stops
 use Rattle.linear_form.specs.Meant.{FormView, form_meant}
 use Rattle.linear_form.specs.Entries.{unless_dead, live, variables_meant}
 use Rattle.linear_form.specs.Making.{FailsBy, Comes, ReturnsMade}
@@ -38,7 +38,7 @@ behind_err : (c : Fraction) (a : Answer (List (Term × Fraction))) (w : Overflow
 unfolding ◌>>=◌
 behind_err c a w e = ap (λ a. a >>= λ vs. Ok (let f : Form = record { constant = c; variables = vs } in f)) e
 
-pub combined_comes : (way : Way) (e f : Form) (c : Fraction) (r : Result (Unit {0}) Stop) (vs : List (Term × Fraction)) → way.both e.constant f.constant ≡ Ok c
+pub combined_comes : (way : Way) (e f : Form) (c : Fraction) (r : Result (Unit {0}) FormStop) (vs : List (Term × Fraction)) → way.both e.constant f.constant ≡ Ok c
     → Comes (all_joined way e.variables f.variables) r vs → Comes (combined way e f) r (record { constant = c; variables = vs })
 combined_comes way e f c (Ok u) vs h k = combined_ok way e f c h ∙ behind_ok c (all_joined way e.variables f.variables) vs k
 combined_comes way e f c (Err s) vs h k = fails_on (combined way e f) (all_joined way e.variables f.variables) s (λ w g. combined_ok way e f c h ∙ behind_err c (all_joined way e.variables f.variables) w g) k
@@ -56,7 +56,7 @@ changed_err change f w h = ap (λ a. a >>= λ c. each_number change f.variables 
 pub changed_makes : (change : Fraction → Answer Fraction) (f : Form) (c : Fraction) (vs : List (Term × Fraction)) → change f.constant ≡ Ok c → each_number change f.variables ≡ Ok vs → changed change f ≡ Ok (record { constant = c; variables = vs })
 changed_makes change f c vs h k = changed_ok change f c h ∙ behind_ok c (each_number change f.variables) vs k
 
-pub changed_fails : (change : Fraction → Answer Fraction) (f : Form) (c : Fraction) (s : Stop) → change f.constant ≡ Ok c → FailsBy (each_number change f.variables) s → FailsBy (changed change f) s
+pub changed_fails : (change : Fraction → Answer Fraction) (f : Form) (c : Fraction) (s : FormStop) → change f.constant ≡ Ok c → FailsBy (each_number change f.variables) s → FailsBy (changed change f) s
 changed_fails change f c s h k = fails_on (changed change f) (each_number change f.variables) s (λ w g. changed_ok change f c h ∙ behind_err c (each_number change f.variables) w g) k
 
 -- of numbers other than 0 the negatives are others than 0
@@ -101,18 +101,18 @@ changed_opposite t c ps v e = subst (λ (v : FormView). changed (λ k. Ok (oppos
 pub changed_same : (t : TableView) (c : Fraction) (ps : List (TermId × Ratio)) (v : FormView) → view_of c ps ≡ v → changed (λ k. Ok k) (form_meant t v) ≡ Ok (form_meant t v)
 changed_same t c ps v e = subst (λ (v : FormView). changed (λ k. Ok k) (form_meant t v) ≡ Ok (form_meant t v)) e (same_by t c ps)
 
-pub makes_as : (a b : Answer Form) (r : Result FormView Stop) (meant : FormView → Form) → a ≡ b → ReturnsMade a r meant → ReturnsMade b r meant
+pub makes_as : (a b : Answer Form) (r : Result FormView FormStop) (meant : FormView → Form) → a ≡ b → ReturnsMade a r meant → ReturnsMade b r meant
 makes_as a b r meant e h = subst (λ x. ReturnsMade x r meant) e h
 
 -- what always comes fails by memory alone
-pub made_alone : (a : TableView → Form) (r : Result FormView Stop) → ((t : TableView) → ReturnsMade (let x : Answer Form = Ok (a t) in x) r (form_meant t)) → IfOk r (λ g. (t : TableView) → form_meant t g ≡ a t)
+pub made_alone : (a : TableView → Form) (r : Result FormView FormStop) → ((t : TableView) → ReturnsMade (let x : Answer Form = Ok (a t) in x) r (form_meant t)) → IfOk r (λ g. (t : TableView) → form_meant t g ≡ a t)
 made_alone a (Ok g) h = λ t. by t (h t)
   where
     by : (t : TableView) → (let x : Answer Form = Ok (a t) in x) ≡ Ok (form_meant t g) → form_meant t g ≡ a t
     by t e = cc
 made_alone a (Err s) h = tt
 
-pub stops_alone : (a : Form) (t : TableView) (r : Result FormView Stop) → ReturnsMade (let x : Answer Form = Ok a in x) r (form_meant t) → IfErr r (λ e. e ≡ stops.Memory)
+pub stops_alone : (a : Form) (t : TableView) (r : Result FormView FormStop) → ReturnsMade (let x : Answer Form = Ok a in x) r (form_meant t) → IfErr r (λ e. e ≡ stops.Memory)
 stops_alone a t (Ok g) h = tt
 stops_alone a t (Err stops.Memory) h = refl
 stops_alone a t (Err (stops.Wide w)) h = cc

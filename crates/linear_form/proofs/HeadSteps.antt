@@ -11,22 +11,22 @@ use Rattle.spec_arithmetic.specs.Signs.{is_zero}
 use Rattle.spec_arithmetic.specs.Forms.{Answer, Form, adding, combined, scaled, shared_out, factor_of, variable_form, all_added, all_multiplied, divisor_of, divisor_by, quotient_form, form_by}
 use Rattle.term_core.specs.declared.ids.TermId.{TermId}
 use Rattle.term_core.specs.Tables.{TableView, term_at}
-use Rattle.linear_form.specs.declared.stop.Stop.{Stop}
-use Rattle.linear_form.specs.declared.stop.Stop.TheVariants as stops
+use Rattle.linear_form.specs.declared.stop.FormStop.{FormStop}
+use Rattle.linear_form.specs.declared.stop.FormStop.TheVariants as stops
 use Rattle.linear_form.specs.Meant.{FormView, pair_meant, form_meant, AreVariablesOf}
 use Rattle.linear_form.specs.Making.{FailsBy, ReturnsMade, forms_meant, HaveVariables, product_step}
 use Rattle.linear_form.proofs.Indexes.{left_at}
 use Rattle.linear_form.proofs.Joining.{fails_on}
 
 -- the term itself as a variable
-pub variable_made : (t : TableView) (id : TermId) (a : Answer Form) (r : Result FormView Stop) → a ≡ Ok (variable_form (term_at t id))
+pub variable_made : (t : TableView) (id : TermId) (a : Answer Form) (r : Result FormView FormStop) → a ≡ Ok (variable_form (term_at t id))
     → IfOk r (λ f. (t : TableView) → form_meant t f ≡ variable_form (term_at t id)) → IfErr r (λ e. e ≡ stops.Memory) → ReturnsMade a r (form_meant t)
 variable_made t id a (Ok f) e h k = e ∙ ap Ok (sym (h t))
 variable_made t id a (Err (stops.Wide w)) e h k = cc
 variable_made t id a (Err stops.Memory) e h k = tt
 
 -- a number or a negative, which only memory hinders
-pub alone_made : (t : TableView) (a : Answer Form) (b : TableView → Form) (r : Result FormView Stop) → a ≡ Ok (b t) → IfOk r (λ f. (t : TableView) → form_meant t f ≡ b t) → IfErr r (λ e. e ≡ stops.Memory) → ReturnsMade a r (form_meant t)
+pub alone_made : (t : TableView) (a : Answer Form) (b : TableView → Form) (r : Result FormView FormStop) → a ≡ Ok (b t) → IfOk r (λ f. (t : TableView) → form_meant t f ≡ b t) → IfErr r (λ e. e ≡ stops.Memory) → ReturnsMade a r (form_meant t)
 alone_made t a b (Ok f) e h k = e ∙ ap Ok (sym (h t))
 alone_made t a b (Err (stops.Wide w)) e h k = cc
 alone_made t a b (Err stops.Memory) e h k = tt
@@ -73,13 +73,13 @@ some_err a w e = ap (λ a. a >>= λ h. Ok (Some h)) e
 pub left_ok : (f g h : Form) → f.variables ≡ [] → scaled f.constant g ≡ Ok h → product_step f g ≡ Ok (Some h)
 left_ok f g h e k = left_by f.constant g.constant f.variables g.variables e ∙ some_ok (scaled f.constant g) h k
 
-pub left_fails : (f g : Form) (s : Stop) → f.variables ≡ [] → FailsBy (scaled f.constant g) s → FailsBy (product_step f g) s
+pub left_fails : (f g : Form) (s : FormStop) → f.variables ≡ [] → FailsBy (scaled f.constant g) s → FailsBy (product_step f g) s
 left_fails f g s e k = fails_on (product_step f g) (scaled f.constant g) s (λ w h. left_by f.constant g.constant f.variables g.variables e ∙ some_err (scaled f.constant g) w h) k
 
 pub right_ok : (f g h : Form) → f.variables ≢ [] → g.variables ≡ [] → scaled g.constant f ≡ Ok h → product_step f g ≡ Ok (Some h)
 right_ok f g h n e k = right_by f.constant g.constant f.variables g.variables n e ∙ some_ok (scaled g.constant f) h k
 
-pub right_fails : (f g : Form) (s : Stop) → f.variables ≢ [] → g.variables ≡ [] → FailsBy (scaled g.constant f) s → FailsBy (product_step f g) s
+pub right_fails : (f g : Form) (s : FormStop) → f.variables ≢ [] → g.variables ≡ [] → FailsBy (scaled g.constant f) s → FailsBy (product_step f g) s
 right_fails f g s n e k = fails_on (product_step f g) (scaled g.constant f) s (λ w h. right_by f.constant g.constant f.variables g.variables n e ∙ some_err (scaled g.constant f) w h) k
 
 pub neither_ok : (f g : Form) → f.variables ≢ [] → g.variables ≢ [] → product_step f g ≡ Ok None

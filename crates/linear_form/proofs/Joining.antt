@@ -15,10 +15,10 @@ use Rattle.ratio128.specs.declared.ratio.Ratio.{Ratio}
 use Rattle.ratio128.specs.Meant.{fraction, overflow}
 use Rattle.term_core.specs.declared.ids.TermId.{TermId}
 use Rattle.term_core.specs.Tables.{TableView, term_at, IsIn, AreDifferent}
-use Rattle.linear_form.specs.declared.entries.Way.{Way as CodeWay}
-use Rattle.linear_form.specs.declared.entries.Way.TheVariants as ways
-use Rattle.linear_form.specs.declared.stop.Stop.{Stop}
-use Rattle.linear_form.specs.declared.stop.Stop.TheVariants as stops
+use Rattle.linear_form.specs.declared.entries.FormJoin.{FormJoin as CodeWay}
+use Rattle.linear_form.specs.declared.entries.FormJoin.TheVariants as ways
+use Rattle.linear_form.specs.declared.stop.FormStop.{FormStop}
+use Rattle.linear_form.specs.declared.stop.FormStop.TheVariants as stops
 use Rattle.linear_form.specs.Meant.{pair_meant}
 use Rattle.linear_form.specs.Entries.{unless_dead, live, variables_meant, HasVariables, LacksNumber, IsLiveAt}
 use Rattle.linear_form.specs.Making.{way_meant, FailsBy, Comes, ReturnsMade}
@@ -26,18 +26,18 @@ use Rattle.linear_form.proofs.Indexes.{live-append, list_at, set_at, own_id}
 
 -- ---- why nothing comes
 
-pub fails_on : {A B : Type 0} (a : Answer A) (b : Answer B) (s : Stop) → ((w : Overflow) → b ≡ Err w → a ≡ Err w) → FailsBy b s → FailsBy a s
+pub fails_on : {A B : Type 0} (a : Answer A) (b : Answer B) (s : FormStop) → ((w : Overflow) → b ≡ Err w → a ≡ Err w) → FailsBy b s → FailsBy a s
 fails_on a b (stops.Wide w) h e = h (overflow w) e
 fails_on a b stops.Memory h e = tt
 
-pub fails_memory : {A : Type 0} (a : Answer A) (s : Stop) → s ≡ stops.Memory → FailsBy a s
+pub fails_memory : {A : Type 0} (a : Answer A) (s : FormStop) → s ≡ stops.Memory → FailsBy a s
 fails_memory a s e = subst (FailsBy a) (sym e) tt
 
-pub comes_err : {A : Type 0} (a : Answer A) (r : Result (Unit {0}) Stop) (s : Stop) (new : A) → FailsBy a s → IsErrAnd r (λ e. e ≡ s) → Comes a r new
+pub comes_err : {A : Type 0} (a : Answer A) (r : Result (Unit {0}) FormStop) (s : FormStop) (new : A) → FailsBy a s → IsErrAnd r (λ e. e ≡ s) → Comes a r new
 comes_err a (Ok u) s new f is = absurd is
 comes_err a (Err e) s new f is = subst (FailsBy a) (sym is) f
 
-pub makes_err : {A B : Type 0} (a : Answer A) (r : Result B Stop) (s : Stop) (meant : B → A) → FailsBy a s → IsErrAnd r (λ e. e ≡ s) → ReturnsMade a r meant
+pub makes_err : {A B : Type 0} (a : Answer A) (r : Result B FormStop) (s : FormStop) (meant : B → A) → FailsBy a s → IsErrAnd r (λ e. e ≡ s) → ReturnsMade a r meant
 makes_err a (Ok u) s meant f is = absurd is
 makes_err a (Err e) s meant f is = subst (FailsBy a) (sym is) f
 
@@ -173,7 +173,7 @@ lacking t way id k a ps new l n e f d there has =
     live_push ps new id a n f = ap live f ∙ live-append ps ((id, a) ∷ []) ∙ ap (λ b. live ps ++ unless_dead b id (fraction a) []) n
 
 -- the same by the result of the code's push
-pub lacking_comes : (t : TableView) (way : Way) (id : TermId) (k : Fraction) (a : Ratio) (ps new : List (TermId × Ratio)) (r : Result (Unit {0}) Stop) → OnOk r (new ≡ ps ++ (id, a) ∷ []) → IfErr r (λ e. e ≡ stops.Memory)
+pub lacking_comes : (t : TableView) (way : Way) (id : TermId) (k : Fraction) (a : Ratio) (ps new : List (TermId × Ratio)) (r : Result (Unit {0}) FormStop) → OnOk r (new ≡ ps ++ (id, a) ∷ []) → IfErr r (λ e. e ≡ stops.Memory)
     → LacksNumber id.0 (live ps) → is_zero (fraction a) ≡ false → fraction a ≡ way.alone k → AreDifferent t.terms → IsIn t id → HasVariables t (live ps)
     → Comes (joined way (term_at t id) k (variables_meant t (live ps))) r (variables_meant t (live new))
 lacking_comes t way id k a ps new (Ok u) pushed memory l n e d there has = lacking t way id k a ps new l n e pushed d there has

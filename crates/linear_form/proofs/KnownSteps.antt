@@ -16,8 +16,8 @@ use Rattle.term_core.specs.declared.nodes.Head.TheVariants as heads
 use Rattle.term_core.specs.declared.nodes.Node.{Node}
 use Rattle.term_core.specs.Tables.{TableView, term_at, clause_at, head_meant, node_term}
 use Rattle.term_walks.specs.Orders.{numbers_of}
-use Rattle.linear_form.specs.declared.known.Known.{Known}
-use Rattle.linear_form.specs.declared.known.Known.TheVariants as known
+use Rattle.linear_form.specs.declared.known.KnownForm.{KnownForm}
+use Rattle.linear_form.specs.declared.known.KnownForm.TheVariants as known
 use Rattle.linear_form.specs.Meant.{FormView, form_meant, AreVariablesOf}
 use Rattle.linear_form.specs.Making.{fault_meant, forms_meant, HaveVariables, with_front as forms_front}
 use Rattle.linear_form.specs.Walks.{needed_by, IsKnown, KnownVariables, known_meant, AreKnownForms, gathered}
@@ -107,35 +107,35 @@ gathered_after : (xs ys : List (Result Form Fault)) (fs : List Form) → gathere
 unfolding ◌>>=◌
 gathered_after xs ys fs e = gathered_parts xs ys ∙ ap (λ r. r >>= λ fs. forms_front fs (gathered ys)) e
 
-pub gathered_more : (t : TableView) (ys : List Known) (fs gs : List FormView) (x : Known) (f : FormView) → gathered (map (known_meant t) ys) ≡ Ok (forms_meant t fs) → x ≡ known.Form f → gs ≡ fs ++ f ∷ []
+pub gathered_more : (t : TableView) (ys : List KnownForm) (fs gs : List FormView) (x : KnownForm) (f : FormView) → gathered (map (known_meant t) ys) ≡ Ok (forms_meant t fs) → x ≡ known.Form f → gs ≡ fs ++ f ∷ []
     → gathered (map (known_meant t) (ys ++ x ∷ [])) ≡ Ok (forms_meant t gs)
 unfolding ◌>>=◌
 gathered_more t ys fs gs x f h e n =
     ap gathered (map-append (known_meant t) ys (x ∷ [])) ∙ gathered_after (map (known_meant t) ys) (known_meant t x ∷ []) (forms_meant t fs) h
     ∙ ap (λ y. forms_front (forms_meant t fs) (gathered (known_meant t y ∷ []))) e ∙ ap Ok (sym (map-append (form_meant t) fs (f ∷ []))) ∙ ap (λ l. Ok (forms_meant t l)) (sym n)
 
-pub gathered_stop : (t : TableView) (all ys rest : List Known) (fs : List FormView) (x : Known) (a : TermId) (w : Wide) → gathered (map (known_meant t) ys) ≡ Ok (forms_meant t fs) → x ≡ known.Wide a w → all ≡ ys ++ x ∷ rest
+pub gathered_stop : (t : TableView) (all ys rest : List KnownForm) (fs : List FormView) (x : KnownForm) (a : TermId) (w : Wide) → gathered (map (known_meant t) ys) ≡ Ok (forms_meant t fs) → x ≡ known.Wide a w → all ≡ ys ++ x ∷ rest
     → (let r : Result (List Form) Fault = Err (fault_meant t a w) in r) ≡ gathered (map (known_meant t) all)
 unfolding ◌>>=◌
 gathered_stop t all ys rest fs x a w h e split =
     sym (ap (λ l. gathered (map (known_meant t) l)) split ∙ ap gathered (map-append (known_meant t) ys (x ∷ rest)) ∙ gathered_after (map (known_meant t) ys) (known_meant t x ∷ map (known_meant t) rest) (forms_meant t fs) h
     ∙ ap (λ y. forms_front (forms_meant t fs) (gathered (known_meant t y ∷ map (known_meant t) rest))) e)
 
-pub named_more : (t : TableView) (ys : List Known) (fs gs : List FormView) (x : Known) (f : FormView) → (All (KnownVariables t) ys → HaveVariables t fs) → x ≡ known.Form f → gs ≡ fs ++ f ∷ [] → All (KnownVariables t) (ys ++ x ∷ []) → HaveVariables t gs
+pub named_more : (t : TableView) (ys : List KnownForm) (fs gs : List FormView) (x : KnownForm) (f : FormView) → (All (KnownVariables t) ys → HaveVariables t fs) → x ≡ known.Form f → gs ≡ fs ++ f ∷ [] → All (KnownVariables t) (ys ++ x ∷ []) → HaveVariables t gs
 named_more t ys fs gs x f h e n all =
     let last : KnownVariables t x = subst (KnownVariables t) (get_or-append_seam ys x [] x) (all (length ys) x (omega (arith, length-append ys (x ∷ [])))) in
     let front : All (KnownVariables t) ys = λ j d lt. subst (KnownVariables t) (get_or-append ys (x ∷ []) d j lt) (all j d (omega (arith, lt, length-append ys (x ∷ [])))) in
     subst (HaveVariables t) (sym n) (All-append (AreVariablesOf t) fs (f ∷ []) (h front) (All-cons (AreVariablesOf t) f [] (subst (KnownVariables t) e last) (λ k d lt. absurd (omega (arith, lt)))))
 
 -- what is known of the arguments, gathered, is their forms
-pub gathered_known : (t : TableView) (ids : List TermId) (xs : List Known) → AreKnownForms t (numbers_of ids) xs → gathered (map (known_meant t) xs) ≡ forms_of (map (term_at t) ids)
+pub gathered_known : (t : TableView) (ids : List TermId) (xs : List KnownForm) → AreKnownForms t (numbers_of ids) xs → gathered (map (known_meant t) xs) ≡ forms_of (map (term_at t) ids)
 unfolding forms
 gathered_known t [] [] h = refl
 gathered_known t [] (x ∷ xs) h = absurd h
 gathered_known t (a ∷ ids) [] h = absurd h
 gathered_known t (a ∷ ids) (x ∷ xs) h = λ i. h.0.same i >>= λ f. gathered_known t ids xs h.1 i >>= λ fs. Ok (f ∷ fs)
 
-pub all_named : (t : TableView) (ks : List ℕ) (xs : List Known) → AreKnownForms t ks xs → All (KnownVariables t) xs
+pub all_named : (t : TableView) (ks : List ℕ) (xs : List KnownForm) → AreKnownForms t ks xs → All (KnownVariables t) xs
 all_named t [] [] h = λ j d lt. absurd (omega (arith, lt))
 all_named t [] (x ∷ xs) h = absurd h
 all_named t (k ∷ ks) [] h = absurd h

@@ -9,28 +9,28 @@ use Rattle.std.proofs.lemmas.List.Concat.{flat_map-cons}
 use Rattle.term_core.specs.Tables.{TableView}
 use Rattle.term_walks.specs.Orders.{Ascends}
 use Rattle.term_walks.proofs.Places.{falls_before}
-use Rattle.linear_form.specs.declared.known.Known.{Known}
+use Rattle.linear_form.specs.declared.known.KnownForm.{KnownForm}
 use Rattle.linear_form.specs.Walks.{numbers_at, AreLast, IsKnown, AreKnownForms, SlotHolds, HeldBy, HoldsUsed}
 
-pub ready_here : (t : TableView) (order last uses : List ℕ) (slots : List (Option Known)) (tick p : ℕ) → HoldsUsed t order last slots tick → AreLast uses last → tick < length uses → p ≡ get_or uses tick p → get_or uses tick 0 < length slots → (k : ℕ) × SlotHolds t slots p k
+pub ready_here : (t : TableView) (order last uses : List ℕ) (slots : List (Option KnownForm)) (tick p : ℕ) → HoldsUsed t order last slots tick → AreLast uses last → tick < length uses → p ≡ get_or uses tick p → get_or uses tick 0 < length slots → (k : ℕ) × SlotHolds t slots p k
 ready_here t order last uses slots tick p ready are lt e there =
     let same : get_or uses tick 0 ≡ p = get_or_default uses tick 0 p lt ∙ sym e in
     (get_or order p 0, ready p (subst (λ n. n < length slots) same there) (subst (λ n. tick ≤ get_or last n 0) same (are tick lt)))
 
-pub ready_next : (t : TableView) (order last uses : List ℕ) (slots new : List (Option Known)) (tick p d : ℕ) → HoldsUsed t order last slots tick → d ≡ tick → d ≡ get_or last p d → p < length last → length new ≡ length slots → ((j k : ℕ) → j ≢ p → SlotHolds t slots j k → SlotHolds t new j k) → HoldsUsed t order last new (tick + 1)
+pub ready_next : (t : TableView) (order last uses : List ℕ) (slots new : List (Option KnownForm)) (tick p d : ℕ) → HoldsUsed t order last slots tick → d ≡ tick → d ≡ get_or last p d → p < length last → length new ≡ length slots → ((j k : ℕ) → j ≢ p → SlotHolds t slots j k → SlotHolds t new j k) → HoldsUsed t order last new (tick + 1)
 ready_next t order last uses slots new tick p d ready is e lt len others j in_new le =
     others j (get_or order j 0) (λ same. (let here : get_or last j 0 ≡ tick = ap (λ n. get_or last n 0) same ∙ get_or_default last p 0 d lt ∙ sym e ∙ is in omega (arith, here, le))) (ready j (subst (λ n. j < n) len in_new) (omega (arith, le)))
 
 pub p_fits : (uses : List ℕ) (tick p n m : ℕ) → tick < length uses → p ≡ get_or uses tick p → get_or uses tick 0 < n → n ≤ m → p < m
 p_fits uses tick p n m lt e low le = let same : get_or uses tick 0 ≡ p = get_or_default uses tick 0 p lt ∙ sym e in omega (arith, same, low, le)
 
-known_push : (t : TableView) (ks : List ℕ) (xs : List Known) (k : ℕ) (x : Known) → AreKnownForms t ks xs → IsKnown t k x → AreKnownForms t (ks ++ k ∷ []) (xs ++ x ∷ [])
+known_push : (t : TableView) (ks : List ℕ) (xs : List KnownForm) (k : ℕ) (x : KnownForm) → AreKnownForms t ks xs → IsKnown t k x → AreKnownForms t (ks ++ k ∷ []) (xs ++ x ∷ [])
 known_push t [] [] k x h p = (p, tt)
 known_push t [] (y ∷ xs) k x h p = absurd h
 known_push t (j ∷ ks) [] k x h p = absurd h
 known_push t (j ∷ ks) (y ∷ xs) k x h p = (h.0, known_push t ks xs k x h.1 p)
 
-pub known_more : (t : TableView) (order uses : List ℕ) (first done tick : ℕ) (xs new : List Known) (x : Known) → tick ≡ first + done → tick < length uses → new ≡ xs ++ x ∷ [] → IsKnown t (get_or order (get_or uses tick 0) 0) x
+pub known_more : (t : TableView) (order uses : List ℕ) (first done tick : ℕ) (xs new : List KnownForm) (x : KnownForm) → tick ≡ first + done → tick < length uses → new ≡ xs ++ x ∷ [] → IsKnown t (get_or order (get_or uses tick 0) 0) x
     → AreKnownForms t (take done (drop first (numbers_at order uses))) xs → AreKnownForms t (take (done + 1) (drop first (numbers_at order uses))) new
 known_more t order uses first done tick xs new x is lt e p h =
     let f : ℕ → ℕ = λ j. get_or order j 0 in
@@ -98,7 +98,7 @@ module _ (needed : ℕ → List ℕ) (order uses : List ℕ) (root at tick : ℕ
   end_root = sym (get_or-map (λ j. get_or order j 0) uses tick 0 0 end_fits) ∙ ap (λ n. get_or (numbers_at order uses) n 0) (let s : tick ≡ tick + 0 = omega arith in s) ∙ sym (get_or-drop tick (numbers_at order uses) 0 0) ∙ ap (λ l. get_or l 0 0) last_one
 
 -- one more stands there
-pub ready_more : (t : TableView) (order last : List ℕ) (slots new : List (Option Known)) (x : Known) (at tick : ℕ) → HoldsUsed t order last slots tick → new ≡ slots ++ Some x ∷ [] → length slots ≡ at → IsKnown t (get_or order at 0) x → HoldsUsed t order last new tick
+pub ready_more : (t : TableView) (order last : List ℕ) (slots new : List (Option KnownForm)) (x : KnownForm) (at tick : ℕ) → HoldsUsed t order last slots tick → new ≡ slots ++ Some x ∷ [] → length slots ≡ at → IsKnown t (get_or order at 0) x → HoldsUsed t order last new tick
 ready_more t order last slots new x at tick ready e len p j lt le = subst (λ l. SlotHolds t l j (get_or order j 0)) (sym e) (by (cases_lt j (length slots)))
   where
     by : (j < length slots) ⊎ (length slots ≤ j) → SlotHolds t (slots ++ Some x ∷ []) j (get_or order j 0)

@@ -11,15 +11,15 @@ use Rattle.ratio128.specs.declared.ratio.Ratio.{Ratio}
 use Rattle.ratio128.specs.Meant.{fraction}
 use Rattle.term_core.specs.declared.ids.TermId.{TermId}
 use Rattle.term_core.specs.Tables.{TableView, term_at, IsIn}
-use Rattle.linear_form.specs.declared.stop.Stop.{Stop}
-use Rattle.linear_form.specs.declared.stop.Stop.TheVariants as stops
+use Rattle.linear_form.specs.declared.stop.FormStop.{FormStop}
+use Rattle.linear_form.specs.declared.stop.FormStop.TheVariants as stops
 use Rattle.linear_form.specs.Meant.{pair_meant}
 use Rattle.linear_form.specs.Entries.{live, variables_meant, HasVariables, LacksNumber, IsIndex}
 use Rattle.linear_form.specs.Making.{Comes, with_front}
 use Rattle.linear_form.proofs.Indexes.{live-append, live_one, live_none, list_at, left_at, lacks-append, lacks-first, lacks-second, before_lacks}
 use Rattle.linear_form.proofs.Joining.{fails_memory, has_first, has_parts}
 
-pub comes_as : {A : Type 0} (a b : Answer A) (r : Result (Unit {0}) Stop) (new : A) → a ≡ b → Comes b r new → Comes a r new
+pub comes_as : {A : Type 0} (a b : Answer A) (r : Result (Unit {0}) FormStop) (new : A) → a ≡ b → Comes b r new → Comes a r new
 comes_as a b r new e h = subst (λ x. Comes x r new) (sym e) h
 
 -- ---- entries at places
@@ -169,7 +169,7 @@ pub changed_zero : (t : TableView) (change : Fraction → Answer Fraction) (es :
 unfolding ◌>>=◌
 changed_zero t change es p m e f z = ap (with_front es) (each_one t change p (Ok m) e f) ∙ ap (λ b. with_front es (let r : Answer (List (Term × Fraction)) = Ok (unless_zero b (term_at t p.0) m []) in r)) z ∙ ap Ok (append-nil es)
 
-pub changed_number : (t : TableView) (change : Fraction → Answer Fraction) (es new : List (TermId × Ratio)) (p : TermId × Ratio) (m : Ratio) (r : Result (Unit {0}) Stop) → is_zero (fraction p.1) ≡ false → change (fraction p.1) ≡ Ok (fraction m)
+pub changed_number : (t : TableView) (change : Fraction → Answer Fraction) (es new : List (TermId × Ratio)) (p : TermId × Ratio) (m : Ratio) (r : Result (Unit {0}) FormStop) → is_zero (fraction p.1) ≡ false → change (fraction p.1) ≡ Ok (fraction m)
     → is_zero (fraction m) ≡ false → OnOk r (new ≡ es ++ (p.0, m) ∷ []) → IfErr r (λ e. e ≡ stops.Memory)
     → Comes (with_front (variables_meant t (live es)) (each_number change (variables_meant t (live (p ∷ []))))) r (variables_meant t (live new))
 unfolding ◌>>=◌

@@ -17,9 +17,9 @@ use Rattle.term_core.specs.Tables.{TableView}
 use Rattle.linear_form.specs.declared.arith_fault.ArithFault.{ArithFault}
 use Rattle.linear_form.specs.declared.stop.FormFault.{FormFault}
 use Rattle.linear_form.specs.declared.stop.FormFault.TheVariants as faults
-use Rattle.linear_form.specs.declared.stop.Stop.{Stop}
-use Rattle.linear_form.specs.declared.stop.Stop.TheVariants as stops
-use Rattle.linear_form.specs.declared.sums.Part.{Part}
+use Rattle.linear_form.specs.declared.stop.FormStop.{FormStop}
+use Rattle.linear_form.specs.declared.stop.FormStop.TheVariants as stops
+use Rattle.linear_form.specs.declared.sums.WeightedForm.{WeightedForm}
 use Rattle.linear_form.specs.Meant.{form_meant}
 use Rattle.linear_form.specs.Making.{FailsBy, Comes, Finds, fault_meant}
 use Rattle.linear_form.specs.Sums.{part_meant, parts_meant, HasVariablesOf, HaveVariablesOf, added_part, stop_by, fault_by, JudgesSum, judged_turned}
@@ -27,7 +27,7 @@ use Rattle.linear_form.proofs.Indexes.{left_at}
 use Rattle.linear_form.proofs.Joining.{fails_on}
 
 -- an error from below says why the clause is not taken
-pub judges_failed : (a : Result (Unit {0}) Failure) (r : Result (Unit {0}) ArithFault) (s : Stop) → IsErrAnd r (λ e. e ≡ fault_by s) → JudgesSum a (Err (fault_by s)) → JudgesSum a r
+pub judges_failed : (a : Result (Unit {0}) Failure) (r : Result (Unit {0}) ArithFault) (s : FormStop) → IsErrAnd r (λ e. e ≡ fault_by s) → JudgesSum a (Err (fault_by s)) → JudgesSum a r
 judges_failed a (Ok b) s is h = absurd is
 judges_failed a (Err e) s is h = subst (λ f. JudgesSum a (Err f)) (sym is) h
 
@@ -60,11 +60,11 @@ added_err : (turned : Bool) (f : Form) (p : sums.Part) (w : Overflow) → scaled
 unfolding added_part ◌>>=◌
 added_err turned f p w e = ap (λ a. a >>= λ g. combined adding f g) e
 
-pub added_comes : (turned : Bool) (f g new : Form) (p : sums.Part) (r : Result (Unit {0}) Stop) (c : Fraction) → c ≡ weight_by turned p.relation p.weight → scaled c p.form ≡ Ok g
+pub added_comes : (turned : Bool) (f g new : Form) (p : sums.Part) (r : Result (Unit {0}) FormStop) (c : Fraction) → c ≡ weight_by turned p.relation p.weight → scaled c p.form ≡ Ok g
     → Comes (combined adding f g) r new → Comes (added_part turned f p) r new
 added_comes turned f g new p r c h e k = subst (λ a. Comes a r new) (sym (added_ok turned f g p (ap (λ c. scaled c p.form) (sym h) ∙ e))) k
 
-pub added_fails : (turned : Bool) (f : Form) (p : sums.Part) (s : Stop) (c : Fraction) → c ≡ weight_by turned p.relation p.weight → FailsBy (scaled c p.form) s → FailsBy (added_part turned f p) s
+pub added_fails : (turned : Bool) (f : Form) (p : sums.Part) (s : FormStop) (c : Fraction) → c ≡ weight_by turned p.relation p.weight → FailsBy (scaled c p.form) s → FailsBy (added_part turned f p) s
 added_fails turned f p s c h k = fails_on (added_part turned f p) (scaled c p.form) s (λ w e. added_err turned f p w (ap (λ c. scaled c p.form) (sym h) ∙ e)) k
 
 bind_again : {A B C : Type 0} (a : Answer A) (f : A → Answer B) (g : B → Answer C) → (a >>= λ x. f x >>= g) ≡ ((a >>= f) >>= g)
@@ -76,8 +76,8 @@ by_part : (turned : Bool) (f : Form) (p : sums.Part) (ps : List sums.Part) → s
 unfolding summed added_part
 by_part turned f p ps = bind_again (scaled (weight_by turned p.relation p.weight) p.form) (λ g. combined adding f g) (λ h. summed turned h ps)
 
-module _ (t : TableView) (ps : List Part) (at : ℕ) where
-  module _ (p : Part) (lt : at < length ps) (is : p ≡ get_or ps at p) where
+module _ (t : TableView) (ps : List WeightedForm) (at : ℕ) where
+  module _ (p : WeightedForm) (lt : at < length ps) (is : p ≡ get_or ps at p) where
     left : drop at ps ≡ p ∷ drop (at + 1) ps
     left = left_at ps at p lt is
 
@@ -123,7 +123,7 @@ module _ (atom s t : Term) where
   pub difference_made : (f g new : Form) → form s ≡ Ok f → form t ≡ Ok g → combined subtracting f g ≡ Ok new → without_term (difference atom s t) ≡ Ok new
   difference_made f g new e k h = ap without_term (opened f g e k) ∙ untermed_ok atom (combined subtracting f g) new h
 
-  pub difference_fails : (f g : Form) (x : Stop) → form s ≡ Ok f → form t ≡ Ok g → FailsBy (combined subtracting f g) x → FailsBy (without_term (difference atom s t)) x
+  pub difference_fails : (f g : Form) (x : FormStop) → form s ≡ Ok f → form t ≡ Ok g → FailsBy (combined subtracting f g) x → FailsBy (without_term (difference atom s t)) x
   difference_fails f g x e k h = fails_on (without_term (difference atom s t)) (combined subtracting f g) x (λ w q. ap without_term (opened f g e k) ∙ untermed_err atom (combined subtracting f g) w q) h
 
   right_fails : (f : Form) (w : Fault) → form s ≡ Ok f → form t ≡ Err w → without_term (difference atom s t) ≡ Err w.overflow
@@ -151,7 +151,7 @@ module _ (ps : List sums.Part) where
   pub first_taken : (f : Form) → sum_of false ps ≡ Ok f → cannot_hold (is_strict ps) f ≡ true → judged_parts ps ≡ Ok tt
   first_taken f e h = first f true e h
 
-  pub first_fails : (s : Stop) → FailsBy (sum_of false ps) s → JudgesSum (judged_parts ps) (Err (fault_by s))
+  pub first_fails : (s : FormStop) → FailsBy (sum_of false ps) s → JudgesSum (judged_parts ps) (Err (fault_by s))
   unfolding ◌>>=◌
   first_fails (stops.Wide w) e = ap (λ a. as_failure a >>= λ f. judged_first ps f) e
   first_fails stops.Memory e = tt
@@ -164,7 +164,7 @@ module _ (ps : List sums.Part) where
   unfolding ◌>>=◌ judged_turned
   turned_taken g b k l = ap (λ a. as_failure a >>= λ g. judged_last ps g) k ∙ ap taken_if l
 
-  pub turned_fails : (s : Stop) → FailsBy (sum_of true ps) s → JudgesSum (judged_turned ps) (Err (fault_by s))
+  pub turned_fails : (s : FormStop) → FailsBy (sum_of true ps) s → JudgesSum (judged_turned ps) (Err (fault_by s))
   unfolding ◌>>=◌ judged_turned
   turned_fails (stops.Wide w) k = ap (λ a. as_failure a >>= λ g. judged_last ps g) k
   turned_fails stops.Memory k = tt
@@ -175,5 +175,5 @@ variable_left t strict k [] n = absurd (n refl)
 variable_left t strict k (v ∷ vs) n = refl
 
 -- the code's two tests are those of the definition
-pub test_is : (t : TableView) (ps : List Part) (strict b : Bool) (f : Form) → strict ≡ is_strict (parts_meant t ps) → b ≡ cannot_hold strict f → cannot_hold (is_strict (parts_meant t ps)) f ≡ b
+pub test_is : (t : TableView) (ps : List WeightedForm) (strict b : Bool) (f : Form) → strict ≡ is_strict (parts_meant t ps) → b ≡ cannot_hold strict f → cannot_hold (is_strict (parts_meant t ps)) f ≡ b
 test_is t ps strict b f e h = ap (λ s. cannot_hold s f) (sym e) ∙ sym h

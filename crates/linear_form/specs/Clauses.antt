@@ -11,8 +11,8 @@ use Rattle.term_core.specs.Tables.{TableView}
 use Rattle.linear_form.specs.declared.coeff.Coeff.{Coeff}
 use Rattle.linear_form.specs.declared.coeff.Coeff.TheVariants as coeffs
 use Rattle.linear_form.specs.declared.literals.Negation.{Negation}
-use Rattle.linear_form.specs.declared.stop.Stop.{Stop}
-use Rattle.linear_form.specs.declared.stop.Stop.TheVariants as stops
+use Rattle.linear_form.specs.declared.stop.FormStop.{FormStop}
+use Rattle.linear_form.specs.declared.stop.FormStop.TheVariants as stops
 use Rattle.linear_form.specs.Coefficients.{coefficient_meant}
 use Rattle.linear_form.specs.Literals.{one_meant, AreSidesIn}
 
@@ -76,7 +76,7 @@ option_front xs None = None
 option_front xs (Some ys) = Some (xs ++ ys)
 
 -- a number is put after those that are there, or the result is its overflow; out of memory says nothing
-abbrev pub PushesBy : Negation → Coeff → Result (Unit {0}) Stop → List (Negation × Ratio) → List (Negation × Ratio) → Type 0
+abbrev pub PushesBy : Negation → Coeff → Result (Unit {0}) FormStop → List (Negation × Ratio) → List (Negation × Ratio) → Type 0
 PushesBy n (coeffs.Number k) (Ok u) old new = new ≡ old ++ (n, k) ∷ []
 PushesBy n (coeffs.Wide w) (Err (stops.Wide v)) old new = w ≡ v
 PushesBy n coeffs.Shape (Ok u) old new = new ≡ old
@@ -84,7 +84,7 @@ PushesBy n c (Err stops.Memory) old new = Unit {0}
 PushesBy n c r old new = ⊥
 
 -- the same of a pair
-abbrev pub Pushes : Negation × Coeff → Result (Unit {0}) Stop → List (Negation × Ratio) → List (Negation × Ratio) → Type 0
+abbrev pub Pushes : Negation × Coeff → Result (Unit {0}) FormStop → List (Negation × Ratio) → List (Negation × Ratio) → Type 0
 Pushes p r old new = PushesBy p.0 p.1 r old new
 
 -- the clause by its negations with their numbers

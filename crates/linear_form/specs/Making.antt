@@ -8,12 +8,12 @@ use Rattle.ratio128.specs.declared.wide.Wide.{Wide}
 use Rattle.ratio128.specs.Meant.{fraction, overflow}
 use Rattle.term_core.specs.declared.ids.TermId.{TermId}
 use Rattle.term_core.specs.Tables.{TableView, term_at}
-use Rattle.linear_form.specs.declared.entries.Way.{Way as CodeWay}
-use Rattle.linear_form.specs.declared.entries.Way.TheVariants as ways
-use Rattle.linear_form.specs.declared.entries.Change.{Change}
-use Rattle.linear_form.specs.declared.entries.Change.TheVariants as changes
-use Rattle.linear_form.specs.declared.stop.Stop.{Stop}
-use Rattle.linear_form.specs.declared.stop.Stop.TheVariants as stops
+use Rattle.linear_form.specs.declared.entries.FormJoin.{FormJoin as CodeWay}
+use Rattle.linear_form.specs.declared.entries.FormJoin.TheVariants as ways
+use Rattle.linear_form.specs.declared.entries.FormChange.{FormChange}
+use Rattle.linear_form.specs.declared.entries.FormChange.TheVariants as changes
+use Rattle.linear_form.specs.declared.stop.FormStop.{FormStop}
+use Rattle.linear_form.specs.declared.stop.FormStop.TheVariants as stops
 use Rattle.linear_form.specs.declared.stop.FormFault.{FormFault}
 use Rattle.linear_form.specs.declared.stop.FormFault.TheVariants as faults
 use Rattle.linear_form.specs.Meant.{FormView, form_meant, AreVariablesOf}
@@ -24,31 +24,31 @@ way_meant ways.Adding = adding
 way_meant ways.Subtracting = subtracting
 
 -- what becomes of a number by the code's word
-abbrev pub change_meant : Change → Fraction → Answer Fraction
+abbrev pub change_meant : FormChange → Fraction → Answer Fraction
 change_meant (changes.Times c) k = multiplied (fraction c) k
 change_meant (changes.Over d) k = divided k (fraction d)
 change_meant changes.Negative k = Ok (opposite k)
 change_meant changes.Nothing k = Ok k
 
 -- a divisor is not 0
-abbrev pub CanChange : Change → Type 0
+abbrev pub CanChange : FormChange → Type 0
 CanChange (changes.Times c) = Unit {0}
 CanChange (changes.Over d) = fraction d ≢ zero_fraction
 CanChange changes.Negative = Unit {0}
 CanChange changes.Nothing = Unit {0}
 
 -- its overflow is given; out of memory says nothing
-abbrev pub FailsBy : {A : Type 0} → Answer A → Stop → Type 0
+abbrev pub FailsBy : {A : Type 0} → Answer A → FormStop → Type 0
 FailsBy a (stops.Wide w) = a ≡ Err (overflow w)
 FailsBy a stops.Memory = Unit {0}
 
 -- what was to be made was made, or why it was not is said
-abbrev pub Comes : {A : Type 0} → Answer A → Result (Unit {0}) Stop → A → Type 0
+abbrev pub Comes : {A : Type 0} → Answer A → Result (Unit {0}) FormStop → A → Type 0
 Comes a (Ok u) new = a ≡ Ok new
 Comes a (Err s) new = FailsBy a s
 
 -- what was to be made is returned, or why it was not is said
-abbrev pub ReturnsMade : {A B : Type 0} → Answer A → Result B Stop → (B → A) → Type 0
+abbrev pub ReturnsMade : {A B : Type 0} → Answer A → Result B FormStop → (B → A) → Type 0
 ReturnsMade a (Ok b) meant = a ≡ Ok (meant b)
 ReturnsMade a (Err s) meant = FailsBy a s
 

@@ -11,26 +11,26 @@ use Rattle.linear_form.specs.declared.arith_fault.ArithFault.TheVariants as verd
 use Rattle.linear_form.specs.declared.literals.Negation.{Negation}
 use Rattle.linear_form.specs.declared.stop.FormFault.{FormFault}
 use Rattle.linear_form.specs.declared.stop.FormFault.TheVariants as faults
-use Rattle.linear_form.specs.declared.stop.Stop.{Stop}
-use Rattle.linear_form.specs.declared.stop.Stop.TheVariants as stops
-use Rattle.linear_form.specs.declared.sums.Part.{Part}
+use Rattle.linear_form.specs.declared.stop.FormStop.{FormStop}
+use Rattle.linear_form.specs.declared.stop.FormStop.TheVariants as stops
+use Rattle.linear_form.specs.declared.sums.WeightedForm.{WeightedForm}
 use Rattle.linear_form.specs.Meant.{form_meant, AreVariablesOf}
 use Rattle.linear_form.specs.Literals.{relation_meant}
 
 -- what a literal brings to the sum, by the terms of a table
-abbrev pub part_meant : TableView → Part → sums.Part
+abbrev pub part_meant : TableView → WeightedForm → sums.Part
 part_meant t p = record { relation = relation_meant p.relation; form = form_meant t p.form; weight = fraction p.weight }
 
 -- what literals bring, in their order
-abbrev pub parts_meant : TableView → List Part → List sums.Part
+abbrev pub parts_meant : TableView → List WeightedForm → List sums.Part
 parts_meant t ps = map (part_meant t) ps
 
 -- the variables of a part are of the table
-abbrev pub HasVariablesOf : TableView → Part → Type 0
+abbrev pub HasVariablesOf : TableView → WeightedForm → Type 0
 HasVariablesOf t p = AreVariablesOf t p.form
 
 -- and so are those of all
-abbrev pub HaveVariablesOf : TableView → List Part → Type 0
+abbrev pub HaveVariablesOf : TableView → List WeightedForm → Type 0
 HaveVariablesOf t ps = All (HasVariablesOf t) ps
 
 -- the form of the difference that a negation speaks of
@@ -42,12 +42,12 @@ unfoldable pub added_part : Bool → Form → sums.Part → Answer Form
 added_part turned f p = scaled (weight_by turned p.relation p.weight) p.form >>= λ g. combined adding f g
 
 -- why a form is not made, without its term
-abbrev pub stop_by : FormFault → Stop
+abbrev pub stop_by : FormFault → FormStop
 stop_by (faults.Wide id w) = stops.Wide w
 stop_by faults.Memory = stops.Memory
 
 -- why a clause is not taken whose forms are not made
-abbrev pub fault_by : Stop → ArithFault
+abbrev pub fault_by : FormStop → ArithFault
 fault_by (stops.Wide w) = verdicts.Wide w
 fault_by stops.Memory = verdicts.Memory
 

@@ -9,8 +9,8 @@ use Rattle.term_core.specs.declared.nodes.Head.{Head}
 use Rattle.term_core.specs.declared.nodes.Head.TheVariants as heads
 use Rattle.term_core.specs.Tables.{TableView}
 use Rattle.term_walks.specs.Orders.{number_term, In, Ascends}
-use Rattle.linear_form.specs.declared.known.Known.{Known}
-use Rattle.linear_form.specs.declared.known.Known.TheVariants as known
+use Rattle.linear_form.specs.declared.known.KnownForm.{KnownForm}
+use Rattle.linear_form.specs.declared.known.KnownForm.TheVariants as known
 use Rattle.linear_form.specs.declared.known.Forms.{Forms}
 use Rattle.linear_form.specs.declared.known.Forms.TheVariants as made
 use Rattle.linear_form.specs.Meant.{form_meant, AreVariablesOf}
@@ -74,40 +74,40 @@ pub record IsPlan (t : TableView) (root : ℕ) (order uses last : List ℕ) : Ty
   pub are_last : AreLast uses last
 
 -- what the code's word knows of a term
-abbrev pub known_meant : TableView → Known → Result Form Fault
+abbrev pub known_meant : TableView → KnownForm → Result Form Fault
 known_meant t (known.Form f) = Ok (form_meant t f)
 known_meant t (known.Wide id w) = Err (fault_meant t id w)
 
 -- its variables are terms of the table
-abbrev pub KnownVariables : TableView → Known → Type 0
+abbrev pub KnownVariables : TableView → KnownForm → Type 0
 KnownVariables t (known.Form f) = AreVariablesOf t f
 KnownVariables t (known.Wide id w) = Unit {0}
 
 -- What is known of a number's term is its form or its fault.
-pub record IsKnown (t : TableView) (k : ℕ) (x : Known) : Type 0 where
+pub record IsKnown (t : TableView) (k : ℕ) (x : KnownForm) : Type 0 where
   -- it is the form or the fault
   pub same : known_meant t x ≡ form (number_term t k)
   -- the variables are terms of the table
   pub there : KnownVariables t x
 
 -- what is known of each of these terms, in order
-abbrev pub AreKnownForms : TableView → List ℕ → List Known → Type 0
+abbrev pub AreKnownForms : TableView → List ℕ → List KnownForm → Type 0
 AreKnownForms t [] [] = Unit {0}
 AreKnownForms t [] (x ∷ xs) = ⊥
 AreKnownForms t (k ∷ ks) [] = ⊥
 AreKnownForms t (k ∷ ks) (x ∷ xs) = IsKnown t k x × AreKnownForms t ks xs
 
 -- something is there, and is known of a term
-abbrev pub HeldBy : TableView → ℕ → Option Known → Type 0
+abbrev pub HeldBy : TableView → ℕ → Option KnownForm → Type 0
 HeldBy t k None = ⊥
 HeldBy t k (Some x) = IsKnown t k x
 
 -- what is known of a term stands at the place
-abbrev pub SlotHolds : TableView → List (Option Known) → ℕ → ℕ → Type 0
+abbrev pub SlotHolds : TableView → List (Option KnownForm) → ℕ → ℕ → Type 0
 SlotHolds t slots j k = HeldBy t k (get_or slots j None)
 
 -- what is still used stands at its place
-abbrev pub HoldsUsed : TableView → (order last : List ℕ) → List (Option Known) → ℕ → Type 0
+abbrev pub HoldsUsed : TableView → (order last : List ℕ) → List (Option KnownForm) → ℕ → Type 0
 HoldsUsed t order last slots tick = (j : ℕ) → j < length slots → tick ≤ get_or last j 0 → SlotHolds t slots j (get_or order j 0)
 
 -- all forms, or the first fault

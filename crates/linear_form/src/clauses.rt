@@ -11,8 +11,8 @@ ghost use Rattle.linear_form.specs.Clauses.{pairs_meant, pairs_option, HasPairIn
 use crate::arith_fault::ArithFault;
 use crate::coeff::Coeff;
 use crate::literals::{Negation, negation_of};
-use crate::stop::Stop;
-use crate::sums::{Part, difference_of, judge_parts};
+use crate::stop::FormStop;
+use crate::sums::{WeightedForm, difference_of, judge_parts};
 use ratio128::Ratio;
 use std::alloc::{AllocError, Global};
 use term_core::{TermId, TermTable};
@@ -65,7 +65,10 @@ fn pairs_of(
 }
 
 /// Puts a pair's number after those that are there.
-fn push_number(numbers: &mut Vec<(Negation, Ratio)>, pair: (Negation, Coeff)) -> Result<(), Stop>
+fn push_number(
+    numbers: &mut Vec<(Negation, Ratio)>,
+    pair: (Negation, Coeff),
+) -> Result<(), FormStop>
     ensures { Pushes pair result numbers.old.items numbers.new.items }
 {
     match pair.1 {
@@ -73,13 +76,16 @@ fn push_number(numbers: &mut Vec<(Negation, Ratio)>, pair: (Negation, Coeff)) ->
             numbers.push((pair.0, number))?;
             Ok(())
         }
-        Coeff::Wide(wide) => Err(Stop::Wide(wide)),
+        Coeff::Wide(wide) => Err(FormStop::Wide(wide)),
         Coeff::Shape => Ok(()),
     }
 }
 
 /// Gives the arguments' numbers, or the first that leaves the bound.
-fn numbers_of(alloc: Global, pairs: &[(Negation, Coeff)]) -> Result<Vec<(Negation, Ratio)>, Stop>
+fn numbers_of(
+    alloc: Global,
+    pairs: &[(Negation, Coeff)],
+) -> Result<Vec<(Negation, Ratio)>, FormStop>
     ensures comes { (t : TableView) → ReturnsMade (numbered (pairs_meant t pairs.now)) result
         (λ v. numbered_meant t v.items) }
     ensures there { IfOk result (λ v. (t : TableView) → HavePairsIn t pairs.now → HaveNumbersIn t v.items) }
@@ -96,7 +102,7 @@ fn make_parts(
     alloc: Global,
     table: &TermTable,
     numbers: &[(Negation, Ratio)],
-) -> Result<Vec<Part>, Stop>
+) -> Result<Vec<WeightedForm>, FormStop>
     requires there { HaveNumbersIn table.now numbers.now }
     ensures comes { ReturnsMade (parts_of (numbered_meant table.now numbers.now)) result
         (λ v. parts_meant table.now v.items) }
@@ -106,7 +112,7 @@ fn make_parts(
     for pair in numbers {
         let (negation, weight) = *pair;
         let form = difference_of(alloc, table, negation)?;
-        parts.push(Part {
+        parts.push(WeightedForm {
             relation: negation.relation,
             form,
             weight,

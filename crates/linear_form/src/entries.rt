@@ -13,14 +13,14 @@ ghost use Rattle.term_core.specs.declared.ids.TermId.{TermId as Number};
 ghost use Rattle.linear_form.specs.Entries.{live, variables_meant, HasVariables, LacksNumber, IsLiveAt, IsIndex};
 ghost use Rattle.linear_form.specs.Making.{way_meant, change_meant, CanChange, Comes, with_front};
 
-use crate::stop::Stop;
+use crate::stop::FormStop;
 use ratio128::{Ratio, Wide};
 use std::collections::HashMap;
 use term_core::TermId;
 
 /// Says how two forms are joined.
 #[derive(Clone, Copy, Debug, PartialEq, Eq)]
-pub enum Way {
+pub enum FormJoin {
     /// The second is added to the first.
     Adding,
     /// The second is subtracted from the first.
@@ -29,7 +29,7 @@ pub enum Way {
 
 /// Says what becomes of each number of a form.
 #[derive(Clone, Copy, Debug, PartialEq, Eq)]
-pub enum Change {
+pub enum FormChange {
     /// It is multiplied by a factor, which stands on the left.
     Times(Ratio),
     /// It is divided by a divisor.
@@ -41,22 +41,22 @@ pub enum Change {
 }
 
 /// Joins two numbers in one place.
-pub fn both(way: Way, a: Ratio, b: Ratio) -> Result<Ratio, Wide>
+pub fn both(way: FormJoin, a: Ratio, b: Ratio) -> Result<Ratio, Wide>
     ensures { outcome result ≡ (way_meant way).both (fraction a) (fraction b) }
 {
     match way {
-        Way::Adding => a.add(b),
-        Way::Subtracting => a.sub(b),
+        FormJoin::Adding => a.add(b),
+        FormJoin::Subtracting => a.sub(b),
     }
 }
 
 /// Says what becomes of a number of the second form that has none in the first.
-pub fn alone(way: Way, k: Ratio) -> Ratio
+pub fn alone(way: FormJoin, k: Ratio) -> Ratio
     ensures { fraction result ≡ (way_meant way).alone (fraction k) }
 {
     match way {
-        Way::Adding => k,
-        Way::Subtracting => k.neg(),
+        FormJoin::Adding => k,
+        FormJoin::Subtracting => k.neg(),
     }
 }
 
@@ -69,15 +69,15 @@ pub fn is_zero(k: Ratio) -> bool
 }
 
 /// Says what becomes of a number.
-pub fn changed_number(change: Change, k: Ratio) -> Result<Ratio, Wide>
+pub fn changed_number(change: FormChange, k: Ratio) -> Result<Ratio, Wide>
     requires { CanChange change }
     ensures { outcome result ≡ change_meant change (fraction k) }
 {
     match change {
-        Change::Times(c) => c.mul(k),
-        Change::Over(d) => k.div(d),
-        Change::Negative => Ok(k.neg()),
-        Change::Nothing => Ok(k),
+        FormChange::Times(c) => c.mul(k),
+        FormChange::Over(d) => k.div(d),
+        FormChange::Negative => Ok(k.neg()),
+        FormChange::Nothing => Ok(k),
     }
 }
 
@@ -87,14 +87,14 @@ pub fn push_entry(
     places: &mut HashMap<u64, usize>,
     id: TermId,
     k: Ratio,
-) -> Result<(), Stop>
+) -> Result<(), FormStop>
     requires index { IsIndex (get nat_eq places.old) entries.old.items }
     requires not_zero { is_zero (fraction k) ≡ false }
     requires new { LacksNumber id.0 (live entries.old.items) }
     ensures index { IsIndex (get nat_eq places.new) entries.new.items }
     ensures pushed { OnOk result (entries.new.items ≡ entries.old.items ++ (id, k) ∷ []) }
     ensures memory { OnErr result (entries.new.items ≡ entries.old.items) }
-    ensures stop { IfErr result (λ e. e ≡ Stop.Memory) }
+    ensures stop { IfErr result (λ e. e ≡ FormStop.Memory) }
 {
     entries.reserve(1)?;
     places.insert(id.0, entries.len())?;
@@ -106,10 +106,10 @@ pub fn push_entry(
 pub fn join(
     entries: &mut Vec<(TermId, Ratio)>,
     places: &mut HashMap<u64, usize>,
-    way: Way,
+    way: FormJoin,
     id: TermId,
     k: Ratio,
-) -> Result<(), Stop>
+) -> Result<(), FormStop>
     requires index { IsIndex (get nat_eq places.old) entries.old.items }
     requires not_zero { is_zero (fraction k) ≡ false }
     ensures index { IsIndex (get nat_eq places.new) entries.new.items }
@@ -132,10 +132,10 @@ pub fn join(
 fn join_at(
     entries: &mut Vec<(TermId, Ratio)>,
     places: &mut HashMap<u64, usize>,
-    way: Way,
+    way: FormJoin,
     at: usize,
     k: Ratio,
-) -> Result<(), Stop>
+) -> Result<(), FormStop>
     requires index { IsIndex (get nat_eq places.old) entries.old.items }
     requires live { (q : ℕ) × IsLiveAt q entries.old.items at }
     ensures index { IsIndex (get nat_eq places.new) entries.new.items }
@@ -160,9 +160,9 @@ fn join_at(
 fn join_entry(
     entries: &mut Vec<(TermId, Ratio)>,
     places: &mut HashMap<u64, usize>,
-    way: Way,
+    way: FormJoin,
     entry: (TermId, Ratio),
-) -> Result<(), Stop>
+) -> Result<(), FormStop>
     requires index { IsIndex (get nat_eq places.old) entries.old.items }
     ensures index { IsIndex (get nat_eq places.new) entries.new.items }
     ensures comes { (t : TableView) → AreDifferent t.terms → HasVariables t (live entries.old.items)
@@ -183,9 +183,9 @@ fn join_entry(
 pub fn join_all(
     entries: &mut Vec<(TermId, Ratio)>,
     places: &mut HashMap<u64, usize>,
-    way: Way,
+    way: FormJoin,
     others: &[(TermId, Ratio)],
-) -> Result<(), Stop>
+) -> Result<(), FormStop>
     requires index { IsIndex (get nat_eq places.old) entries.old.items }
     ensures index { IsIndex (get nat_eq places.new) entries.new.items }
     ensures comes { (t : TableView) → AreDifferent t.terms → HasVariables t (live entries.old.items)
@@ -205,9 +205,9 @@ pub fn join_all(
 fn change_entry(
     entries: &mut Vec<(TermId, Ratio)>,
     places: &mut HashMap<u64, usize>,
-    change: Change,
+    change: FormChange,
     entry: (TermId, Ratio),
-) -> Result<(), Stop>
+) -> Result<(), FormStop>
     requires index { IsIndex (get nat_eq places.old) entries.old.items }
     requires change { CanChange change }
     requires new { is_zero (fraction entry.1) ≡ false → LacksNumber entry.0.0 (live entries.old.items) }
@@ -235,9 +235,9 @@ fn change_entry(
 pub fn change_all(
     entries: &mut Vec<(TermId, Ratio)>,
     places: &mut HashMap<u64, usize>,
-    change: Change,
+    change: FormChange,
     others: &[(TermId, Ratio)],
-) -> Result<(), Stop>
+) -> Result<(), FormStop>
     requires empty { entries.old.items ≡ [] }
     requires index { IsIndex (get nat_eq places.old) entries.old.items }
     requires change { CanChange change }

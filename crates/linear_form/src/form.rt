@@ -9,9 +9,9 @@ ghost use Rattle.linear_form.specs.Entries.{live, pair_view};
 ghost use Rattle.linear_form.specs.Making.{way_meant, change_meant, CanChange, Comes, ReturnsMade};
 
 use crate::entries::{both, change_all, changed_number, is_zero, join_all, push_entry};
-pub use crate::entries::{Change, Way};
+pub use crate::entries::{FormChange, FormJoin};
 use crate::numbers::{one, zero};
-use crate::stop::Stop;
+use crate::stop::FormStop;
 use ratio128::Ratio;
 use std::alloc::Global;
 use std::collections::HashMap;
@@ -108,10 +108,10 @@ fn push_live(variables: &mut Vec<(TermId, Ratio)>, entry: (TermId, Ratio)) -> Re
 }
 
 /// Makes the form of a number.
-pub fn constant_alone(alloc: Global, q: Ratio) -> Result<Form, Stop>
+pub fn constant_alone(alloc: Global, q: Ratio) -> Result<Form, FormStop>
     ensures comes { IfOk result (λ f. (t : TableView) → form_meant t f ≡ constant_form (fraction q)) }
     ensures there { IfOk result (λ f. (t : TableView) → AreVariablesOf t f) }
-    ensures stop { IfErr result (λ e. e ≡ Stop.Memory) }
+    ensures stop { IfErr result (λ e. e ≡ FormStop.Memory) }
 {
     Ok(Form {
         constant: q,
@@ -121,10 +121,10 @@ pub fn constant_alone(alloc: Global, q: Ratio) -> Result<Form, Stop>
 }
 
 /// Makes the form of a variable, once.
-pub fn variable_alone(alloc: Global, id: TermId) -> Result<Form, Stop>
+pub fn variable_alone(alloc: Global, id: TermId) -> Result<Form, FormStop>
     ensures comes { IfOk result (λ f. (t : TableView) → form_meant t f ≡ variable_form (term_at t id)) }
     ensures there { IfOk result (λ f. (t : TableView) → IsIn t id → AreVariablesOf t f) }
-    ensures stop { IfErr result (λ e. e ≡ Stop.Memory) }
+    ensures stop { IfErr result (λ e. e ≡ FormStop.Memory) }
 {
     let mut entries = Vec::new(alloc);
     let mut places = HashMap::new(alloc);
@@ -139,7 +139,7 @@ pub fn variable_alone(alloc: Global, id: TermId) -> Result<Form, Stop>
 /// Joins the second form to the first: the constants, then the variables of the second in their order.
 ///
 /// On an error the first form is lost: what it then holds is left open.
-pub fn combine(e: &mut Form, way: Way, f: &Form) -> Result<(), Stop>
+pub fn combine(e: &mut Form, way: FormJoin, f: &Form) -> Result<(), FormStop>
     ensures comes { (t : TableView) → AreDifferent t.terms → AreVariablesOf t e.old → AreVariablesOf t f.now
         → Comes (combined (way_meant way) (form_meant t e.old) (form_meant t f.now)) result (form_meant t e.new) }
     ensures there { OnOk result ((t : TableView) → AreVariablesOf t e.old → AreVariablesOf t f.now
@@ -150,7 +150,7 @@ pub fn combine(e: &mut Form, way: Way, f: &Form) -> Result<(), Stop>
 }
 
 /// Makes a form by a change of each number: the constant, then the coefficients in their order.
-pub fn made_by(alloc: Global, f: &Form, change: Change) -> Result<Form, Stop>
+pub fn made_by(alloc: Global, f: &Form, change: FormChange) -> Result<Form, FormStop>
     requires { CanChange change }
     ensures comes { (t : TableView)
         → ReturnsMade (changed (change_meant change) (form_meant t f.now)) result (form_meant t) }
@@ -168,23 +168,23 @@ pub fn made_by(alloc: Global, f: &Form, change: Change) -> Result<Form, Stop>
 }
 
 /// Makes the form whose numbers are the negatives of another's.
-pub fn negative(alloc: Global, f: &Form) -> Result<Form, Stop>
+pub fn negative(alloc: Global, f: &Form) -> Result<Form, FormStop>
     ensures comes { IfOk result (λ g. (t : TableView) → form_meant t g ≡ opposite_form (form_meant t f.now)) }
     ensures there { IfOk result (λ g. (t : TableView) → AreVariablesOf t f.now → AreVariablesOf t g) }
-    ensures stop { IfErr result (λ e. e ≡ Stop.Memory) }
+    ensures stop { IfErr result (λ e. e ≡ FormStop.Memory) }
 {
     // No coefficient of a form is 0, and so no negative of one is.
     let _ = &f.entries;
-    made_by(alloc, f, Change::Negative)
+    made_by(alloc, f, FormChange::Negative)
 }
 
 /// Copies a form.
-pub fn copy(alloc: Global, f: &Form) -> Result<Form, Stop>
+pub fn copy(alloc: Global, f: &Form) -> Result<Form, FormStop>
     ensures same { IfOk result (λ g. (t : TableView) → form_meant t g ≡ form_meant t f.now) }
     ensures there { IfOk result (λ g. (t : TableView) → AreVariablesOf t f.now → AreVariablesOf t g) }
-    ensures stop { IfErr result (λ e. e ≡ Stop.Memory) }
+    ensures stop { IfErr result (λ e. e ≡ FormStop.Memory) }
 {
     // No coefficient of a form is 0, and so all stay.
     let _ = &f.entries;
-    made_by(alloc, f, Change::Nothing)
+    made_by(alloc, f, FormChange::Nothing)
 }

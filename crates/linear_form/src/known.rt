@@ -6,7 +6,7 @@ ghost use Rattle.linear_form.specs.Walks.{needed_at, known_meant, KnownVariables
 
 use crate::form::{Form, copy};
 use crate::heads::by_head;
-use crate::stop::Stop;
+use crate::stop::FormStop;
 use ratio128::Wide;
 use std::alloc::Global;
 use term_core::{TermId, TermTable};
@@ -14,7 +14,7 @@ use world_io::NoMemory;
 
 /// Says what is known of a term.
 #[derive(Drop)]
-pub enum Known {
+pub enum KnownForm {
     /// Its form.
     Form(Form),
     /// Its first operation that leaves the bound on fractions, with the term whose head makes it.
@@ -31,15 +31,15 @@ pub enum Forms {
 }
 
 /// Copies what is known of a term.
-pub fn copy_known(alloc: Global, known: &Known) -> Result<Known, NoMemory>
+pub fn copy_known(alloc: Global, known: &KnownForm) -> Result<KnownForm, NoMemory>
     ensures { (t : TableView) (k : ℕ) → IsKnown t k known.now → IfOk result (IsKnown t k) }
 {
     match known {
-        Known::Form(form) => match copy(alloc, form) {
-            Ok(copied) => Ok(Known::Form(copied)),
+        KnownForm::Form(form) => match copy(alloc, form) {
+            Ok(copied) => Ok(KnownForm::Form(copied)),
             Err(_) => Err(NoMemory),
         },
-        Known::Wide(term, wide) => Ok(Known::Wide(*term, *wide)),
+        KnownForm::Wide(term, wide) => Ok(KnownForm::Wide(*term, *wide)),
     }
 }
 
@@ -52,7 +52,7 @@ fn push_form(forms: &mut Vec<Form>, form: Form) -> Result<(), NoMemory>
 }
 
 /// Takes the forms out of what is known of arguments.
-fn forms_in(alloc: Global, arguments: Vec<Known>) -> Result<Forms, NoMemory>
+fn forms_in(alloc: Global, arguments: Vec<KnownForm>) -> Result<Forms, NoMemory>
     ensures comes { IfOk result (λ r. (t : TableView)
         → forms_made t r ≡ gathered (map (known_meant t) arguments.items)) }
     ensures there { IfOk result (λ r. (t : TableView) → All (KnownVariables t) arguments.items → MadeVariables t r) }
@@ -60,8 +60,8 @@ fn forms_in(alloc: Global, arguments: Vec<Known>) -> Result<Forms, NoMemory>
     let mut forms = Vec::new(alloc);
     'arguments: for known in arguments {
         match known {
-            Known::Form(form) => push_form(&mut forms, form)?,
-            Known::Wide(term, wide) => return Ok(Forms::Wide(term, wide)),
+            KnownForm::Form(form) => push_form(&mut forms, form)?,
+            KnownForm::Wide(term, wide) => return Ok(Forms::Wide(term, wide)),
         }
     }
     Ok(Forms::All(forms))
@@ -72,8 +72,8 @@ pub fn known_of(
     alloc: Global,
     table: &TermTable,
     id: TermId,
-    arguments: Vec<Known>,
-) -> Result<Known, NoMemory>
+    arguments: Vec<KnownForm>,
+) -> Result<KnownForm, NoMemory>
     requires there { IsIn table.now id }
     requires known { AreKnownForms table.now (needed_at table.now id.0) arguments.items }
     ensures { IfOk result (IsKnown table.now id.0) }
@@ -82,10 +82,10 @@ pub fn known_of(
     let node = table.node(id);
     match forms_in(alloc, arguments)? {
         Forms::All(forms) => match by_head(alloc, id, node.head, forms) {
-            Ok(form) => Ok(Known::Form(form)),
-            Err(Stop::Wide(wide)) => Ok(Known::Wide(id, wide)),
-            Err(Stop::Memory) => Err(NoMemory),
+            Ok(form) => Ok(KnownForm::Form(form)),
+            Err(FormStop::Wide(wide)) => Ok(KnownForm::Wide(id, wide)),
+            Err(FormStop::Memory) => Err(NoMemory),
         },
-        Forms::Wide(term, wide) => Ok(Known::Wide(term, wide)),
+        Forms::Wide(term, wide) => Ok(KnownForm::Wide(term, wide)),
     }
 }

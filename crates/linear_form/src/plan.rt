@@ -13,7 +13,7 @@ use world_io::NoMemory;
 
 /// Holds the plan of a walk.
 #[derive(Drop)]
-pub struct Plan {
+pub struct WalkPlan {
     /// The numbers of the terms, arguments before their users.
     pub order: Vec<u64>,
     /// The places of the arguments of each in turn, and then that of the last term.
@@ -85,12 +85,12 @@ fn last_uses(alloc: Global, uses: &[usize], places: usize) -> Result<Vec<usize>,
 }
 
 /// Plans the walk to a term.
-pub fn plan_of(alloc: Global, table: &TermTable, id: TermId) -> Result<Plan, NoMemory>
+pub fn plan_of(alloc: Global, table: &TermTable, id: TermId) -> Result<WalkPlan, NoMemory>
     requires { IsIn table.now id }
     ensures { IfOk result (λ p. IsPlan table.now id.0 p.order.items p.uses.items p.last.items) }
 {
     let order = order_of(alloc, table, id)?;
     let uses = uses_of(alloc, table, order.as_slice(), id)?;
     let last = last_uses(alloc, uses.as_slice(), order.len())?;
-    Ok(Plan { order, uses, last })
+    Ok(WalkPlan { order, uses, last })
 }

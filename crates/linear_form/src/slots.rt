@@ -4,13 +4,17 @@ ghost use Rattle.std.specs.Prelude.{◌≡◌, ◌≢◌, ℕ, ◌+◌, ◌<◌,
 ghost use Rattle.term_core.specs.Tables.{TableView};
 ghost use Rattle.linear_form.specs.Walks.{numbers_at, AreLast, IsKnown, AreKnownForms, SlotHolds, HoldsUsed};
 
-use crate::known::{Known, copy_known};
-use crate::plan::Plan;
+use crate::known::{KnownForm, copy_known};
+use crate::plan::WalkPlan;
 use std::alloc::Global;
 use world_io::NoMemory;
 
 /// Copies what stands at a place.
-fn copied(alloc: Global, slots: &Vec<Option<Known>>, place: usize) -> Result<Known, NoMemory>
+fn copied(
+    alloc: Global,
+    slots: &Vec<Option<KnownForm>>,
+    place: usize,
+) -> Result<KnownForm, NoMemory>
     requires there { (t : TableView) × (k : ℕ) × SlotHolds t slots.now.items place k }
     ensures known { (t : TableView) (k : ℕ) → SlotHolds t slots.now.items place k → IfOk result (IsKnown t k) }
 {
@@ -21,7 +25,7 @@ fn copied(alloc: Global, slots: &Vec<Option<Known>>, place: usize) -> Result<Kno
 }
 
 /// Takes what stands at a place.
-fn taken(slots: &mut Vec<Option<Known>>, place: usize) -> Known
+fn taken(slots: &mut Vec<Option<KnownForm>>, place: usize) -> KnownForm
     requires there { (t : TableView) × (k : ℕ) × SlotHolds t slots.old.items place k }
     ensures known { (t : TableView) (k : ℕ) → SlotHolds t slots.old.items place k → IsKnown t k result }
     ensures len { length slots.new.items ≡ length slots.old.items }
@@ -37,10 +41,10 @@ fn taken(slots: &mut Vec<Option<Known>>, place: usize) -> Known
 /// Takes what stands at the next place that is used, or copies it where it is used again.
 pub fn fetch(
     alloc: Global,
-    plan: &Plan,
-    slots: &mut Vec<Option<Known>>,
+    plan: &WalkPlan,
+    slots: &mut Vec<Option<KnownForm>>,
     tick: usize,
-) -> Result<Known, NoMemory>
+) -> Result<KnownForm, NoMemory>
     requires tick { tick < length plan.now.uses.items }
     requires place { get_or plan.now.uses.items tick 0 < length slots.old.items }
     requires len { length slots.old.items ≤ length plan.now.last.items }
@@ -62,11 +66,11 @@ pub fn fetch(
 /// Fetches what is known of some arguments, one after the other.
 pub fn fetch_all(
     alloc: Global,
-    plan: &Plan,
-    slots: &mut Vec<Option<Known>>,
+    plan: &WalkPlan,
+    slots: &mut Vec<Option<KnownForm>>,
     first: usize,
     count: usize,
-) -> Result<Vec<Known>, NoMemory>
+) -> Result<Vec<KnownForm>, NoMemory>
     requires tick { first + count ≤ length plan.now.uses.items }
     requires places { (i : ℕ) → first ≤ i → i < first + count
         → get_or plan.now.uses.items i 0 < length slots.old.items }

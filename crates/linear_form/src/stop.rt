@@ -9,7 +9,7 @@ use thiserror::Error;
 
 /// Says why forms are not joined or changed.
 #[derive(Clone, Copy, Debug, PartialEq, Eq, Error)]
-pub enum Stop {
+pub enum FormStop {
     /// An operation that leaves the bound on fractions.
     #[error("an operation leaves the bound on numbers")]
     Wide(Wide),
@@ -18,33 +18,33 @@ pub enum Stop {
     Memory,
 }
 
-impl From<Wide> for Stop {
-    ghost use Rattle.linear_form.specs.declared.stop.Stop.TheVariants as stops;
+impl From<Wide> for FormStop {
+    ghost use Rattle.linear_form.specs.declared.stop.FormStop.TheVariants as stops;
 
     ghost from_gives = { λ w r. r ≡ stops.Wide w };
 
-    fn from(wide: Wide) -> Stop {
-        Stop::Wide(wide)
+    fn from(wide: Wide) -> FormStop {
+        FormStop::Wide(wide)
     }
 }
 
-impl From<AllocError> for Stop {
-    ghost use Rattle.linear_form.specs.declared.stop.Stop.TheVariants as stops;
+impl From<AllocError> for FormStop {
+    ghost use Rattle.linear_form.specs.declared.stop.FormStop.TheVariants as stops;
 
     ghost from_gives = { λ _ r. r ≡ stops.Memory };
 
-    fn from(_error: AllocError) -> Stop {
-        Stop::Memory
+    fn from(_error: AllocError) -> FormStop {
+        FormStop::Memory
     }
 }
 
-impl<T: Drop> From<AllocFailed<T>> for Stop {
-    ghost use Rattle.linear_form.specs.declared.stop.Stop.TheVariants as stops;
+impl<T: Drop> From<AllocFailed<T>> for FormStop {
+    ghost use Rattle.linear_form.specs.declared.stop.FormStop.TheVariants as stops;
 
     ghost from_gives = { λ _ r. r ≡ stops.Memory };
 
-    fn from(_error: AllocFailed<T>) -> Stop {
-        Stop::Memory
+    fn from(_error: AllocFailed<T>) -> FormStop {
+        FormStop::Memory
     }
 }
 

@@ -13,44 +13,44 @@ ghost use Rattle.linear_form.specs.Sums.{part_meant, parts_meant, HaveVariablesO
 
 use crate::arith_fault::ArithFault;
 use crate::entries::is_zero;
-use crate::form::{Change, Form, Way, combine, constant_alone, made_by};
+use crate::form::{Form, FormChange, FormJoin, combine, constant_alone, made_by};
 use crate::literals::{Negation, Relation};
 use crate::numbers::zero;
-use crate::stop::{FormFault, Stop};
+use crate::stop::{FormFault, FormStop};
 use crate::walk::form_of;
 use ratio128::Ratio;
 use std::alloc::Global;
 use term_core::TermTable;
 
-impl From<FormFault> for Stop {
+impl From<FormFault> for FormStop {
     ghost use Rattle.linear_form.specs.Sums.{stop_by};
 
     ghost from_gives = { λ f r. r ≡ stop_by f };
 
-    fn from(fault: FormFault) -> Stop {
+    fn from(fault: FormFault) -> FormStop {
         match fault {
-            FormFault::Wide(_, wide) => Stop::Wide(wide),
-            FormFault::Memory => Stop::Memory,
+            FormFault::Wide(_, wide) => FormStop::Wide(wide),
+            FormFault::Memory => FormStop::Memory,
         }
     }
 }
 
-impl From<Stop> for ArithFault {
+impl From<FormStop> for ArithFault {
     ghost use Rattle.linear_form.specs.Sums.{fault_by};
 
     ghost from_gives = { λ s r. r ≡ fault_by s };
 
-    fn from(stop: Stop) -> ArithFault {
+    fn from(stop: FormStop) -> ArithFault {
         match stop {
-            Stop::Wide(wide) => ArithFault::Wide(wide),
-            Stop::Memory => ArithFault::Memory,
+            FormStop::Wide(wide) => ArithFault::Wide(wide),
+            FormStop::Memory => ArithFault::Memory,
         }
     }
 }
 
 /// Holds what a literal brings to the sum.
 #[derive(Drop)]
-pub(crate) struct Part {
+pub(crate) struct WeightedForm {
     /// How its form stands to 0 where the literal is false.
     pub relation: Relation,
     /// Its form.
@@ -60,7 +60,7 @@ pub(crate) struct Part {
 }
 
 /// Makes the form of the difference of a negation's two numbers.
-pub(crate) fn difference_of(alloc: Global, table: &TermTable, n: Negation) -> Result<Form, Stop>
+pub(crate) fn difference_of(alloc: Global, table: &TermTable, n: Negation) -> Result<Form, FormStop>
     requires there { AreSidesIn table.now n }
     ensures comes { ReturnsMade (difference_meant table.now n) result (form_meant table.now) }
     ensures there { IfOk result (AreVariablesOf table.now) }
@@ -68,7 +68,7 @@ pub(crate) fn difference_of(alloc: Global, table: &TermTable, n: Negation) -> Re
     table.ids_are_unique();
     let mut left = form_of(alloc, table, n.left)?;
     let right = form_of(alloc, table, n.right)?;
-    combine(&mut left, Way::Subtracting, &right)?;
+    combine(&mut left, FormJoin::Subtracting, &right)?;
     Ok(left)
 }
 
@@ -113,19 +113,24 @@ fn weight_of(turned: bool, relation: Relation, k: Ratio) -> Ratio
 }
 
 /// Adds a part to a sum, multiplied by its weight.
-fn add_part(alloc: Global, sum: &mut Form, part: &Part, turned: bool) -> Result<(), Stop>
+fn add_part(
+    alloc: Global,
+    sum: &mut Form,
+    part: &WeightedForm,
+    turned: bool,
+) -> Result<(), FormStop>
     ensures comes { (t : TableView) → AreDifferent t.terms → AreVariablesOf t sum.old → AreVariablesOf t part.now.form
         → Comes (added_part turned (form_meant t sum.old) (part_meant t part.now)) result (form_meant t sum.new) }
     ensures there { OnOk result ((t : TableView) → AreVariablesOf t sum.old → AreVariablesOf t part.now.form
         → AreVariablesOf t sum.new) }
 {
     let weight = weight_of(turned, part.relation, part.weight);
-    let scaled = made_by(alloc, &part.form, Change::Times(weight))?;
-    combine(sum, Way::Adding, &scaled)
+    let scaled = made_by(alloc, &part.form, FormChange::Times(weight))?;
+    combine(sum, FormJoin::Adding, &scaled)
 }
 
 /// Sums parts, each multiplied by its weight, in their order.
-fn sum_of(alloc: Global, parts: &[Part], turned: bool) -> Result<Form, Stop>
+fn sum_of(alloc: Global, parts: &[WeightedForm], turned: bool) -> Result<Form, FormStop>
     ensures { (t : TableView) → AreDifferent t.terms → HaveVariablesOf t parts.now
         → ReturnsMade (sum_of turned (parts_meant t parts.now)) result (form_meant t) }
 {
@@ -137,7 +142,7 @@ fn sum_of(alloc: Global, parts: &[Part], turned: bool) -> Result<Form, Stop>
 }
 
 /// Tells whether a part's form is below 0, and its argument other than 0.
-fn is_strict_part(part: &Part) -> bool
+fn is_strict_part(part: &WeightedForm) -> bool
     ensures { (t : TableView) → result
         ≡ is_strict_part (part_meant t part.now).relation (part_meant t part.now).weight }
 {
@@ -148,7 +153,7 @@ fn is_strict_part(part: &Part) -> bool
 }
 
 /// Tells whether a part is strict.
-fn is_strict(parts: &[Part]) -> bool
+fn is_strict(parts: &[WeightedForm]) -> bool
     ensures { (t : TableView) → result ≡ is_strict (parts_meant t parts.now) }
 {
     for part in parts {
@@ -174,7 +179,7 @@ fn cannot_hold(strict: bool, sum: &Form) -> bool
 }
 
 /// Judges parts by their sum with the equalities turned.
-fn judge_turned(alloc: Global, parts: &[Part]) -> Result<(), ArithFault>
+fn judge_turned(alloc: Global, parts: &[WeightedForm]) -> Result<(), ArithFault>
     ensures { (t : TableView) → AreDifferent t.terms → HaveVariablesOf t parts.now
         → JudgesSum (judged_turned (parts_meant t parts.now)) result }
 {
@@ -186,7 +191,7 @@ fn judge_turned(alloc: Global, parts: &[Part]) -> Result<(), ArithFault>
 }
 
 /// Judges parts by their sum; where that is no contradiction, by the one with the equalities turned.
-pub(crate) fn judge_parts(alloc: Global, parts: &[Part]) -> Result<(), ArithFault>
+pub(crate) fn judge_parts(alloc: Global, parts: &[WeightedForm]) -> Result<(), ArithFault>
     ensures { (t : TableView) → AreDifferent t.terms → HaveVariablesOf t parts.now
         → JudgesSum (judged_parts (parts_meant t parts.now)) result }
 {

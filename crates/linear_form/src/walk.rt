@@ -8,7 +8,7 @@ ghost use Rattle.linear_form.specs.Making.{Finds};
 ghost use Rattle.linear_form.specs.Walks.{IsKnown};
 
 use crate::form::Form;
-use crate::known::{Known, known_of};
+use crate::known::{KnownForm, known_of};
 use crate::needed::needed;
 use crate::plan::plan_of;
 use crate::slots::{fetch, fetch_all};
@@ -29,8 +29,8 @@ pub fn form_of(alloc: Global, table: &TermTable, id: TermId) -> Result<Form, For
     ensures there { IfOk result (AreVariablesOf table.now) }
 {
     match walk(alloc, table, id) {
-        Ok(Known::Form(form)) => Ok(form),
-        Ok(Known::Wide(term, wide)) => Err(FormFault::Wide(term, wide)),
+        Ok(KnownForm::Form(form)) => Ok(form),
+        Ok(KnownForm::Wide(term, wide)) => Err(FormFault::Wide(term, wide)),
         Err(_) => Err(FormFault::Memory),
     }
 }
@@ -38,7 +38,7 @@ pub fn form_of(alloc: Global, table: &TermTable, id: TermId) -> Result<Form, For
 /// Says what is known of a term, by a walk over the terms of which its form is made, each once.
 ///
 /// What is known of a term is moved to its last user, and copied for those before: so one form goes up along nested sums.
-fn walk(alloc: Global, table: &TermTable, id: TermId) -> Result<Known, NoMemory>
+fn walk(alloc: Global, table: &TermTable, id: TermId) -> Result<KnownForm, NoMemory>
     requires { IsIn table.now id }
     ensures { IfOk result (IsKnown table.now id.0) }
 {

@@ -10,7 +10,7 @@ use Rattle.term_core.specs.declared.sorts.Sort.{Sort as TableSort}
 use Rattle.term_core.specs.Symbols.{sort_meant, sorts_meant, no_symbol, symbol_at}
 use Rattle.term_core.specs.Tables.{TableView}
 use Rattle.term_walks.specs.declared.values.Value.{Value as CodeValue}
-use Rattle.term_walks.specs.declared.values.Row.{Row as CodeRow}
+use Rattle.term_walks.specs.declared.values.ValueRow.{ValueRow as CodeRow}
 use Rattle.term_walks.specs.declared.values.Table.{Table as CodeTable}
 use Rattle.term_walks.specs.declared.values.Interp.{Interp}
 use Rattle.term_walks.specs.Valuations.{value_meant, values_meant, row_meant, table_meant, tables_meant, no_table, HasSymbolTables, HasTables}

@@ -13,7 +13,7 @@ use crate::sorts::{write_parameters, write_sort, write_value};
 use reply_text::{name, write_numeral};
 use spec_models::laws::bodies_are_printed_by_rows;
 use term_core::{SymbolId, Symbols};
-use term_walks::{Row, Table, Value};
+use term_walks::{Table, Value, ValueRow};
 use world_io::{Failed, Sink, write_all};
 
 /// Writes that a parameter has a value.
@@ -89,7 +89,7 @@ fn write_condition<K: Sink>(
 }
 
 /// Writes a row up to where the next one begins.
-fn write_front<K: Sink>(symbols: &Symbols, row: &Row, out: &mut K) -> Result<(), Failed>
+fn write_front<K: Sink>(symbols: &Symbols, row: &ValueRow, out: &mut K) -> Result<(), Failed>
     requires { IsRowNamed symbols.now.sorts row.now }
     ensures { Sends (row_front (row_meant symbols.now.sorts row.now)) result (K.state out.old) (K.state out.new) }
 {
@@ -101,7 +101,7 @@ fn write_front<K: Sink>(symbols: &Symbols, row: &Row, out: &mut K) -> Result<(),
 }
 
 /// Writes rows up to where the default begins.
-fn write_fronts<K: Sink>(symbols: &Symbols, rows: &[Row], out: &mut K) -> Result<(), Failed>
+fn write_fronts<K: Sink>(symbols: &Symbols, rows: &[ValueRow], out: &mut K) -> Result<(), Failed>
     requires { AreRowsNamed symbols.now.sorts rows.now }
     ensures { Sends (body_front (map (row_meant symbols.now.sorts) rows.now)) result
         (K.state out.old) (K.state out.new) }
@@ -113,7 +113,7 @@ fn write_fronts<K: Sink>(symbols: &Symbols, rows: &[Row], out: &mut K) -> Result
 }
 
 /// Writes what closes rows.
-fn write_backs<K: Sink>(symbols: &Symbols, rows: &[Row], out: &mut K) -> Result<(), Failed>
+fn write_backs<K: Sink>(symbols: &Symbols, rows: &[ValueRow], out: &mut K) -> Result<(), Failed>
     ensures { Sends (body_back (map (row_meant symbols.now.sorts) rows.now)) result
         (K.state out.old) (K.state out.new) }
 {

@@ -6,7 +6,7 @@ ghost use Rattle.term_core.specs.Tables.{TableView};
 ghost use Rattle.proof_log.specs.Logs.{AreFormulasIn, IsLogOf, named, stepped, logged_at, inference_of, derivation_in, IsAssumed, AreEarlier};
 ghost use Rattle.proof_log.specs.Adding.{Assumes, AddsClause, IsAdded, JudgesClause, Collects};
 
-use crate::entry::Entry;
+use crate::entry::LogEntry;
 use crate::log_fault::LogFault;
 use crate::premises::StepId;
 use crate::step::Step;
@@ -24,7 +24,7 @@ use world_io::NoMemory;
 #[derive(Drop)]
 pub struct ProofLog {
     alloc: Global,
-    entries: Vec<Entry>,
+    entries: Vec<LogEntry>,
 }
 
 impl Model for ProofLog {
@@ -63,8 +63,8 @@ impl ProofLog {
         ensures { result.now ≡ named (logged_at self.now step) }
     {
         match &self.entries[step.0 as usize] {
-            Entry::Assumed(term) => slice::from_ref(term),
-            Entry::Stepped(step) => step.clause.as_slice(),
+            LogEntry::Assumed(term) => slice::from_ref(term),
+            LogEntry::Stepped(step) => step.clause.as_slice(),
         }
     }
 
@@ -78,8 +78,8 @@ impl ProofLog {
             return None;
         }
         match &self.entries[step.0 as usize] {
-            Entry::Assumed(_) => None,
-            Entry::Stepped(step) => Some(step),
+            LogEntry::Assumed(_) => None,
+            LogEntry::Stepped(step) => Some(step),
         }
     }
 
@@ -92,7 +92,7 @@ impl ProofLog {
         ensures { Assumes self.old t result self.new }
     {
         let id = StepId(self.len());
-        self.entries.push(Entry::Assumed(t))?;
+        self.entries.push(LogEntry::Assumed(t))?;
         Ok(id)
     }
 
@@ -113,7 +113,7 @@ impl ProofLog {
     {
         self.follows(table, &step)?;
         let id = StepId(self.len());
-        self.entries.push(Entry::Stepped(step))?;
+        self.entries.push(LogEntry::Stepped(step))?;
         Ok(id)
     }
 
@@ -135,7 +135,7 @@ impl ProofLog {
     {
         let _ = table;
         let id = StepId(self.len());
-        self.entries.push(Entry::Stepped(step))?;
+        self.entries.push(LogEntry::Stepped(step))?;
         Ok(id)
     }
 

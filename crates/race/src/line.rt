@@ -4,7 +4,7 @@ use crate::families::{Family, fill};
 use crate::fault::Fault;
 use crate::system::System;
 use sat_budget::{Budget, Limits, Stop, Wide};
-use simplex_check::Outcome;
+use simplex_check::CheckOutcome;
 use spec_numbers::Op;
 use std::alloc::Global;
 
@@ -39,11 +39,11 @@ fn stop_text(alloc: Global, stop: &Stop) -> Result<String, Fault> {
 }
 
 /// Says how a check ended.
-fn answer_text(alloc: Global, ended: &Result<Outcome, Stop>) -> Result<String, Fault> {
+fn answer_text(alloc: Global, ended: &Result<CheckOutcome, Stop>) -> Result<String, Fault> {
     let word = match ended {
-        Ok(Outcome::Fine) => "fine",
-        Ok(Outcome::Conflict(_)) => "conflict",
-        Ok(Outcome::Crossed(_)) => "crossed",
+        Ok(CheckOutcome::Fine) => "fine",
+        Ok(CheckOutcome::Conflict(_)) => "conflict",
+        Ok(CheckOutcome::Crossed(_)) => "crossed",
         Err(stop) => return stop_text(alloc, stop),
     };
     Ok(String::from_str(alloc, word)?)

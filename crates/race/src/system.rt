@@ -8,7 +8,7 @@ use crate::fault::Fault;
 use delta_num::Delta;
 use sat_budget::{Budget, Stop};
 use simplex_bounds::{Bound, Bounds, Lit, Side};
-use simplex_check::{Board, Outcome};
+use simplex_check::{Board, CheckOutcome};
 use std::alloc::Global;
 use tableau::{Entry, Ratio};
 use term_core::TermId;
@@ -131,7 +131,10 @@ impl System {
     /// Checks the bounds.
     ///
     /// `Refused` comes where bounds are of more variables than there are.
-    pub(crate) fn check(&mut self, budget: &mut Budget) -> Result<Result<Outcome, Stop>, Fault> {
+    pub(crate) fn check(
+        &mut self,
+        budget: &mut Budget,
+    ) -> Result<Result<CheckOutcome, Stop>, Fault> {
         if self.bounds.variables() > self.board.tableau().variables_len() {
             return Err(Fault::Refused);
         }

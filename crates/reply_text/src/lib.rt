@@ -11,7 +11,7 @@ mod values;
 use itoa::Buffer;
 pub use reasons::{overflow, pivots_spent, spent};
 use smt_lexer::Place;
-pub use spec_replies::Word;
+pub use spec_replies::ResponseWord;
 pub use values::{name, value, write_numeral};
 use world_io::{Failed, Sink, write_pieces};
 
@@ -39,15 +39,15 @@ pub fn error<K: Sink>(place: Place, name: &[u8], out: &mut K) -> Result<(), Fail
 }
 
 /// Gives the letters of a response of one word.
-fn letters(w: Word) -> &'static [u8]
+fn letters(w: ResponseWord) -> &'static [u8]
     ensures { result.now ≡ word_of w }
 {
     match w {
-        Word::Success => b"success",
-        Word::Unsupported => b"unsupported",
-        Word::Sat => b"sat",
-        Word::Unsat => b"unsat",
-        Word::Unknown => b"unknown",
+        ResponseWord::Success => b"success",
+        ResponseWord::Unsupported => b"unsupported",
+        ResponseWord::Sat => b"sat",
+        ResponseWord::Unsat => b"unsat",
+        ResponseWord::Unknown => b"unknown",
     }
 }
 
@@ -55,7 +55,7 @@ fn letters(w: Word) -> &'static [u8]
 ///
 /// It takes no memory. `Failed` comes only where the sink's count of faults rose in this call; a prefix was then appended.
 /// Source: SMT-LIB 2.6, sections 3.9 and 4.1.8.
-pub fn word<K: Sink>(w: Word, out: &mut K) -> Result<(), Failed>
+pub fn word<K: Sink>(w: ResponseWord, out: &mut K) -> Result<(), Failed>
     ensures { Sends (word_line w) result (K.state out.old) (K.state out.new) }
 {
     write_pieces(out, &[letters(w), b"\n"])

@@ -9,11 +9,11 @@ ghost use Rattle.rule_bool.specs.Schemes.{HasPlaces, HasRest};
 
 use crate::within::{alone, has_number, same_number};
 use clause_literals::without_sign;
-use spec_proofs::{Rest, Side};
+use spec_proofs::{ArgumentLiteral, Rest};
 use term_core::{TermId, TermTable};
 
 /// Tells whether a term is the argument of a place, as it stands or negated.
-fn is_side(table: &TermTable, arguments: &[TermId], side: Side, id: TermId) -> bool
+fn is_side(table: &TermTable, arguments: &[TermId], side: ArgumentLiteral, id: TermId) -> bool
     requires arguments { AreIn table.now arguments.now }
     requires id { IsIn table.now id }
     requires place { side.place < length arguments.now }
@@ -36,7 +36,7 @@ fn are_each(table: &TermTable, arguments: &[TermId], positive: bool, ids: &[Term
         return false;
     }
     for at in 0..ids.len() {
-        let side = Side {
+        let side = ArgumentLiteral {
             place: at,
             positive,
         };
@@ -67,7 +67,7 @@ fn is_innermost(table: &TermTable, arguments: &[TermId], ids: &[TermId]) -> bool
 }
 
 /// Tells whether there is one term, the argument of a place, as it stands or negated.
-fn is_one(table: &TermTable, arguments: &[TermId], side: Side, ids: &[TermId]) -> bool
+fn is_one(table: &TermTable, arguments: &[TermId], side: ArgumentLiteral, ids: &[TermId]) -> bool
     requires arguments { AreIn table.now arguments.now }
     requires ids { AreIn table.now ids.now }
     requires place { side.place < length arguments.now }
@@ -83,8 +83,8 @@ fn is_one(table: &TermTable, arguments: &[TermId], side: Side, ids: &[TermId]) -
 fn are_two(
     table: &TermTable,
     arguments: &[TermId],
-    first: Side,
-    second: Side,
+    first: ArgumentLiteral,
+    second: ArgumentLiteral,
     ids: &[TermId],
 ) -> bool
     requires arguments { AreIn table.now arguments.now }

@@ -4,7 +4,7 @@ ghost use Rattle.std.specs.Prelude.{MatchOption};
 ghost use Rattle.rule_bool.specs.Schemes.{StatesNothing, StatesScheme, TurnsNothing, Turns, EquatesNothing, Equates};
 
 use spec_equality::EqualityRule;
-use spec_proofs::{Rest, Rule, Side};
+use spec_proofs::{ArgumentLiteral, Rest, Rule};
 use term_core::Head;
 
 /// Says which clauses a term gives: its head, how it comes first, and what stands after it. The term's arguments have the sort Bool.
@@ -21,37 +21,37 @@ pub struct Scheme {
 }
 
 /// The first argument as it stands.
-const FIRST: Side = Side {
+const FIRST: ArgumentLiteral = ArgumentLiteral {
     place: 0,
     positive: true,
 };
 
 /// The negation of the first argument.
-const NOT_FIRST: Side = Side {
+const NOT_FIRST: ArgumentLiteral = ArgumentLiteral {
     place: 0,
     positive: false,
 };
 
 /// The second argument as it stands.
-const SECOND: Side = Side {
+const SECOND: ArgumentLiteral = ArgumentLiteral {
     place: 1,
     positive: true,
 };
 
 /// The negation of the second argument.
-const NOT_SECOND: Side = Side {
+const NOT_SECOND: ArgumentLiteral = ArgumentLiteral {
     place: 1,
     positive: false,
 };
 
 /// The third argument as it stands.
-const THIRD: Side = Side {
+const THIRD: ArgumentLiteral = ArgumentLiteral {
     place: 2,
     positive: true,
 };
 
 /// The negation of the third argument.
-const NOT_THIRD: Side = Side {
+const NOT_THIRD: ArgumentLiteral = ArgumentLiteral {
     place: 2,
     positive: false,
 };

@@ -8,7 +8,7 @@ use Rattle.spec_equality.specs.Reasons.{equal, denied, HaveJoinedArguments}
 use Rattle.term_core.specs.declared.ids.TermId.{TermId}
 use Rattle.term_core.specs.declared.rule_fails.RuleFails.{RuleFails}
 use Rattle.term_core.specs.Tables.{TableView, IsIn, AreIn, term_at, clause_at}
-use Rattle.rule_eq.specs.declared.choices.Choice.{Choice}
+use Rattle.rule_eq.specs.declared.choices.IteEquality.{IteEquality}
 use Rattle.rule_eq.specs.declared.endings.Ending.{Ending}
 
 -- a result is a success exactly where the statement is so
@@ -54,7 +54,7 @@ abbrev pub IsNoChoice : Term → Type 0
 IsNoChoice e = (c s t u : Term) → e ≡ equal (of Ite (c ∷ s ∷ t ∷ [])) u → sort_of u ≢ Truth → ⊥
 
 -- The term is the equality of a choice with a term of another sort than Bool, by numbers.
-pub record IsIteEquality (table : TableView) (e : Term) (x : Choice) : Type 0 where
+pub record IsIteEquality (table : TableView) (e : Term) (x : IteEquality) : Type 0 where
   -- the numbers are of the table's
   pub condition_there : IsIn table x.condition
   pub first_there : IsIn table x.first

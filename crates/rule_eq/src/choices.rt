@@ -10,7 +10,7 @@ use term_core::{Clause, Head, RuleFails, TermId, TermTable};
 
 /// Holds the terms of an equality of a choice with another term.
 #[derive(Clone, Copy)]
-pub(crate) struct Choice {
+pub(crate) struct IteEquality {
     /// The condition.
     pub condition: TermId,
     /// The branch that is chosen where it holds.
@@ -22,7 +22,7 @@ pub(crate) struct Choice {
 }
 
 /// Gives the terms of an equality of a choice with a term of another sort than Bool, or nothing where the term is none.
-fn choice_of(table: &TermTable, id: TermId) -> Option<Choice>
+fn choice_of(table: &TermTable, id: TermId) -> Option<IteEquality>
     requires { IsIn table.now id }
     ensures { MatchOption result (IsNoChoice (term_at table.now id)) (IsIteEquality table.now (term_at table.now id)) }
 {
@@ -37,7 +37,7 @@ fn choice_of(table: &TermTable, id: TermId) -> Option<Choice>
         return None;
     };
     match node.head {
-        Head::Ite => Some(Choice {
+        Head::Ite => Some(IteEquality {
             condition: *condition,
             first: *first,
             second: *second,

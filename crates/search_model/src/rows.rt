@@ -16,7 +16,7 @@ use crate::values::values_at;
 use ratio128::Ratio;
 use std::alloc::Global;
 use term_core::{Head, Sort, SymbolId, TermId, TermTable};
-use term_walks::{Row, Table, Value};
+use term_walks::{Table, Value, ValueRow};
 use world_io::NoMemory;
 
 /// Gives the symbol that a head is; nothing where it is none.
@@ -64,7 +64,7 @@ pub(crate) fn blank_tables(alloc: Global, table: &TermTable) -> Result<Vec<Table
 }
 
 /// Puts a row last in one of the tables.
-fn add_row(tables: &mut Vec<Table>, at: usize, row: Row) -> Result<(), NoMemory>
+fn add_row(tables: &mut Vec<Table>, at: usize, row: ValueRow) -> Result<(), NoMemory>
     requires { at < length tables.old.items }
     ensures means { OnOk result ((sorts : List Name) → meant sorts tables.new.items
         ≡ row_put (meant sorts tables.old.items) at (row_meant sorts row)) }
@@ -116,6 +116,6 @@ pub(crate) fn note(
         return Ok(());
     }
     let arguments = values_at(alloc, values, node.arguments.as_slice())?;
-    add_row(tables, at, Row { arguments, value })?;
+    add_row(tables, at, ValueRow { arguments, value })?;
     Ok(())
 }

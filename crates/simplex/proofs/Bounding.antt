@@ -25,7 +25,7 @@ use Rattle.simplex_bounds.specs.declared.bounds.Side.TheVariants.{Lower, Upper}
 use Rattle.simplex_bounds.specs.Deltas.{pair_of}
 use Rattle.simplex_bounds.specs.Held.{strongest, value_in, ranges_in}
 use Rattle.simplex_bounds.proofs.Keeping.{strongest_is_held}
-use Rattle.simplex_atoms.specs.declared.place.Place.{Place}
+use Rattle.simplex_atoms.specs.declared.place.Slack.{Slack}
 use Rattle.simplex_atoms.specs.Owners.{owner_at, AreOwned}
 use Rattle.simplex_atoms.specs.Places.{IsFormOf, place_in, relation_by}
 use Rattle.simplex_atoms.specs.Atoms.{ground_of, setting_of}
@@ -70,13 +70,13 @@ bound_same Lower held y = refl
 bound_same Upper held y = refl
 
 -- What a bound of a place says, whose form stands so to 0.
-record IsLimit (place : Place) (r : Relation) (x : Limit) : Type 0 where
+record IsLimit (place : Slack) (r : Relation) (x : Limit) : Type 0 where
   pub variable : x.variable ≡ place.variable
   pub on_side : IsSideOf r (is_positive numbers (number_of place.factor)) (side_in x.side)
   pub value : x.value ≡ record { base = number_of place.bound; tilt = tilt_by (side_in x.side) (is_strict r) }
 
 -- a bound on one side
-limit_is : (place : Place) (l : Lit) (r : Relation) (s : CodeSide) (strict : Bool) → IsSideOf r (is_positive numbers (number_of place.factor)) (side_in s) → strict ≡ is_strict r
+limit_is : (place : Slack) (l : Lit) (r : Relation) (s : CodeSide) (strict : Bool) → IsSideOf r (is_positive numbers (number_of place.factor)) (side_in s) → strict ≡ is_strict r
     → (x : Limit) → Contains (limit_on place l s strict ∷ []) x → IsLimit place r x
 limit_is place l r s strict on e x c = subst (IsLimit place r) (only (limit_on place l s strict) x c) (record {
   variable = refl;
@@ -85,7 +85,7 @@ limit_is place l r s strict on e x c = subst (IsLimit place r) (only (limit_on p
 })
 
 -- what each bound says that a literal states
-limit_says : (place : Place) (l : Lit) (r : Option Relation) → (x : Limit) → Contains (limits_where r (is_positive numbers (number_of place.factor)) place l) x
+limit_says : (place : Slack) (l : Lit) (r : Option Relation) → (x : Limit) → Contains (limits_where r (is_positive numbers (number_of place.factor)) place l) x
     → (s : Relation) × (r ≡ Some s) × IsLimit place s x
 limit_says place l None x c = absurd (no_member x c)
 limit_says place l (Some below) x c = (below, refl, limit_is place l below _ true (side_same _) refl x c)
@@ -105,7 +105,7 @@ module _ (t : TableView) (v : SimplexView) (is : IsOf v t) where
   abbrev s : Standing
   s = standing_of t v
 
-  multiple : (place : Place) (f : Form) → IsFormOf (setting_of t (ground_of v.atoms.owners v.board)) place f → IsMultiple s f (number_of place.factor) place.variable
+  multiple : (place : Slack) (f : Form) → IsFormOf (setting_of t (ground_of v.atoms.owners v.board)) place f → IsMultiple s f (number_of place.factor) place.variable
   multiple place f m = record {
     nonzero = m.factor;
     there = subst (λ n. place.variable < n) (sym (length-map v.atoms.owners (owner_meant t))) m.variable;
@@ -114,11 +114,11 @@ module _ (t : TableView) (v : SimplexView) (is : IsOf v t) where
   }
 
   -- A literal of an atom with this place bounds the variable, by the factor of the place.
-  abbrev pub States : Lit → Place → ℕ → Side → Pair Number → Type 0
+  abbrev pub States : Lit → Slack → ℕ → Side → Pair Number → Type 0
   States l place y side b =
       (x : IsBound s (literal_at t l) y side b) × (x.factor ≡ number_of place.factor) × (relation_by place.kind l.positive ≡ Some x.constraint.relation)
 
-  states_limit : (l : Lit) (place : Place) → place_in v.atoms.placed l.term ≡ Some place → (x : Limit) → Contains (limits_by place l) x → States l place x.variable (side_in x.side) x.value
+  states_limit : (l : Lit) (place : Slack) → place_in v.atoms.placed l.term ≡ Some place → (x : Limit) → Contains (limits_by place l) x → States l place x.variable (side_in x.side) x.value
   states_limit l place there x c =
       let p = (is.right.are_placed l.term place there).is in
       let says = limit_says place l (relation_by place.kind l.positive) x c in (
@@ -139,7 +139,7 @@ module _ (t : TableView) (v : SimplexView) (is : IsOf v t) where
       )
 
   module _ (fits : SimplexFits v) where
-    states_bound : (b : Bound) → Contains v.bounds.held b → (place : Place) → place_in v.atoms.placed b.literal.term ≡ Some place
+    states_bound : (b : Bound) → Contains v.bounds.held b → (place : Slack) → place_in v.atoms.placed b.literal.term ≡ Some place
         → States b.literal place b.variable (side_in b.side) (pair_of b.value)
     states_bound b c place there =
         let stated = All-contains (IsStatedBound v.atoms.placed) v.bounds.held b (bounds_stated v.atoms.placed v.theory.held v.bounds.held fits.bounds_are) c in
@@ -147,7 +147,7 @@ module _ (t : TableView) (v : SimplexView) (is : IsOf v t) where
         states_limit b.literal place there (limit_of b) (subst (λ p. Contains (limits_by p b.literal) (limit_of b)) same stated.states)
 
     -- the strongest bound on a side
-    pub states_strongest : (side : CodeSide) (y : ℕ) (b : Bound) → strongest side y v.bounds.held ≡ Some b → (place : Place) → place_in v.atoms.placed b.literal.term ≡ Some place
+    pub states_strongest : (side : CodeSide) (y : ℕ) (b : Bound) → strongest side y v.bounds.held ≡ Some b → (place : Slack) → place_in v.atoms.placed b.literal.term ≡ Some place
         → States b.literal place y (side_in side) (pair_of b.value)
     states_strongest side y b e place there =
         let h = strongest_is_held side y v.bounds.held b e in

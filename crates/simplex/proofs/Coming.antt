@@ -33,9 +33,9 @@ use Rattle.simplex_bounds.specs.Held.{BoundsView, ranges_in}
 use Rattle.simplex_bounds.proofs.Fewer.{fewer_kept}
 use Rattle.simplex_check.specs.Boards.{BoardView, state_of}
 use Rattle.simplex_check.specs.Ends.{EndsCheck}
-use Rattle.simplex_check.specs.declared.check.Outcome.{Outcome}
-use Rattle.simplex_check.specs.declared.check.Outcome.TheVariants.{Fine, Crossed, Conflict}
-use Rattle.simplex_atoms.specs.declared.place.Place.{Place}
+use Rattle.simplex_check.specs.declared.check.CheckOutcome.{CheckOutcome}
+use Rattle.simplex_check.specs.declared.check.CheckOutcome.TheVariants.{Fine, Crossed, Conflict}
+use Rattle.simplex_atoms.specs.declared.place.Slack.{Slack}
 use Rattle.simplex_atoms.specs.Atoms.{AtomsView}
 use Rattle.simplex_atoms.specs.Places.{place_in}
 use Rattle.simplex_atoms.specs.Standings.{owner_meant, standing_in}
@@ -103,7 +103,7 @@ keeps_same v w b held keeps =
     (subst (λ (bs : List Bound). Meets deltas v.board.tableau.rows (ranges_in bs) (point_in v.board.values)) (sym held) keeps)
 
 -- a term that says nothing of numbers has no place
-pub no_place_known : (o : Option Place) (c : Option Constraint) → IsWatched o c → c ≡ None → o ≡ None
+pub no_place_known : (o : Option Slack) (c : Option Constraint) → IsWatched o c → c ≡ None → o ≡ None
 no_place_known None c known e = refl
 no_place_known (Some place) c known e = absurd (false≢true (subst IsSome e known))
 
@@ -310,7 +310,7 @@ module _ (t : TableView) (ts : List Term) (v : SimplexView) (c : BoardView) (is 
 
   module _ (n : ℕ) (old new : BudgetView) (came : CameBy t ts n old.exchanges v) where
     -- it comes where a check ends
-    onward : (o : Outcome) → EndsCheck ranges v.board c old new (Ok o) → Onward ts n new.exchanges (standing_of t after)
+    onward : (o : CheckOutcome) → EndsCheck ranges v.board c old new (Ok o) → Onward ts n new.exchanges (standing_of t after)
     onward Fine e = ran_on n old.exchanges came new.exchanges e.0
     onward (Conflict y) e = ran_on n old.exchanges came new.exchanges e.0
     onward (Crossed y) e = record {
@@ -321,17 +321,17 @@ module _ (t : TableView) (ts : List Term) (v : SimplexView) (c : BoardView) (is 
     }
 
     -- with bounds that are kept then, the next check needs none
-    pub came_fine : (o : Outcome) → EndsCheck ranges v.board c old new (Ok o) → KeepsBounds after → CameBy t ts n new.exchanges after
+    pub came_fine : (o : CheckOutcome) → EndsCheck ranges v.board c old new (Ok o) → KeepsBounds after → CameBy t ts n new.exchanges after
     came_fine o e keeps =
         let on = onward o e in
         record { watched = came.watched; held = came.held; runs = on.runs; reached = on.reached; few = inl (keeps, on.few) }
 
     -- and else it may need one
-    pub came_found : (o : Outcome) → EndsCheck ranges v.board c old new (Ok o) → CameBy t ts (suc n) new.exchanges after
+    pub came_found : (o : CheckOutcome) → EndsCheck ranges v.board c old new (Ok o) → CameBy t ts (suc n) new.exchanges after
     came_found o e = onward_came n old.exchanges came new.exchanges (onward o e)
 
     -- it may be stopped after the check
-    pub stopped_found : (o : Outcome) → EndsCheck ranges v.board c old new (Ok o) → StoppedBy t ts n new.exchanges after
+    pub stopped_found : (o : CheckOutcome) → EndsCheck ranges v.board c old new (Ok o) → StoppedBy t ts n new.exchanges after
     stopped_found o e =
         let on = onward o e in
         record { runs = on.runs; stopped = reached.between on.runs new.exchanges (standing_of t after) on.reached; few = on.few }

@@ -10,7 +10,7 @@ use Rattle.proof_log.specs.Theories.{TheoryView, Mark, no_mark, mark_now, with_h
 use Rattle.held_literals.specs.Room.{AreHeldMarks, IsHeldOver, without_mark}
 use Rattle.simplex_bounds.specs.Held.{BoundsView}
 use Rattle.simplex_check.specs.Boards.{BoardView}
-use Rattle.simplex_atoms.specs.declared.place.Place.{Place}
+use Rattle.simplex_atoms.specs.declared.place.Slack.{Slack}
 use Rattle.simplex_atoms.specs.Limits.{Limit, limit_of}
 use Rattle.simplex_atoms.specs.Atoms.{AtomsView, AtomsFit}
 use Rattle.simplex.specs.declared.starts.Start.{Start}
@@ -44,7 +44,7 @@ map_more f [] x = refl
 map_more f (y ∷ ys) x = ap (λ l. f y ∷ l) (map_more f ys x)
 
 -- a start by what literals and terms there were
-abbrev start_from : List (ℕ × Place) → List Lit → List TermId → Start
+abbrev start_from : List (ℕ × Slack) → List Lit → List TermId → Start
 start_from p held watched = record { bounds = length (all_stated p held); placed = placed_count p watched }
 
 -- as many bounds are held as are stated
@@ -90,7 +90,7 @@ module _ (v : SimplexView) (f : SimplexFits v) where
   }
 
 module _ (v : SimplexView) (f : SimplexFits v) (m : AreHeldMarks v.theory.held v.theory.watched v.theory.marks) where
-  abbrev p : List (ℕ × Place)
+  abbrev p : List (ℕ × Slack)
   p = v.atoms.placed
 
   -- there is room for what a literal states that is new
@@ -193,6 +193,6 @@ gone_is v (suc n) kept lt e = ap (at_mark v) (sym e)
 pub as_many : (v : SimplexView) → SimplexFits v → length v.starts ≡ length v.theory.marks
 as_many v f = ap (λ (ss : List Start). length ss) f.starts_are ∙ length-map v.theory.marks (start_of v.atoms.placed v.theory)
 
-pub no_place : (o p : Option Place) → o ≡ p → ((x : Place) → o ≡ Some x → ⊥) → p ≡ None
+pub no_place : (o p : Option Slack) → o ≡ p → ((x : Slack) → o ≡ Some x → ⊥) → p ≡ None
 no_place o None e not = refl
 no_place o (Some x) e not = absurd (not x e)

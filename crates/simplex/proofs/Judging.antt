@@ -29,8 +29,8 @@ use Rattle.simplex_check.specs.Boards.{BoardView, state_of, IsBasisOf}
 use Rattle.spec_strains.specs.Points.{Ranges, BoardState}
 use Rattle.simplex_check.specs.Ends.{EndsCheck}
 use Rattle.spec_strains.specs.Runs.{Stopped, settling, exchanging}
-use Rattle.simplex_check.specs.declared.check.Outcome.{Outcome}
-use Rattle.simplex_check.specs.declared.check.Outcome.TheVariants.{Fine, Crossed, Conflict}
+use Rattle.simplex_check.specs.declared.check.CheckOutcome.{CheckOutcome}
+use Rattle.simplex_check.specs.declared.check.CheckOutcome.TheVariants.{Fine, Crossed, Conflict}
 use Rattle.simplex_explain.specs.declared.weighted.Weighted.{Weighted}
 use Rattle.simplex_explain.specs.Reasons.{AreAtomReasons, AreHeld, Refutes}
 use Rattle.simplex_reasons.specs.Reasons.{AreOfHeld}
@@ -51,7 +51,7 @@ use Rattle.simplex.specs.Checks.{KeepsBounds, Found, AnswersOutcome}
 use Rattle.simplex.specs.Coming.{standing_of, IsStrainAt}
 
 -- what a check says that something is wrong with is so
-pub found : (v : SimplexView) (b : BoardView) (old new : BudgetView) (o : Outcome) → (o ≡ Fine → ⊥) → EndsCheck (ranges_in v.bounds.held) b v.board old new (Ok o) → Found v o
+pub found : (v : SimplexView) (b : BoardView) (old new : BudgetView) (o : CheckOutcome) → (o ≡ Fine → ⊥) → EndsCheck (ranges_in v.bounds.held) b v.board old new (Ok o) → Found v o
 found v b old new Fine n e = absurd (n refl)
 found v b old new (Crossed y) n e = e.2
 found v b old new (Conflict y) n e = (ran_settled (ranges_in v.bounds.held) (state_of b) (state_of v.board) old.exchanges new.exchanges e.1.0 e.0, e.1)
@@ -61,7 +61,7 @@ stopped_more ranges t u old new (settling n s e) = ([], e ∙ sym (append-nil ol
 stopped_more ranges t u old new (exchanging r) = (r.ran.made ++ r.last ∷ [], r.kept ∙ ap (λ es. es ++ r.last ∷ []) r.ran.kept ∙ append_assoc old r.ran.made (r.last ∷ []))
 
 -- a check keeps exchanges after those that there were
-pub spent : (ranges : Ranges) (b c : BoardView) (old new : BudgetView) (r : Result Outcome Stop) → EndsCheck ranges b c old new r → (more : List (ℕ × ℕ)) × (new.exchanges ≡ old.exchanges ++ more)
+pub spent : (ranges : Ranges) (b c : BoardView) (old new : BudgetView) (r : Result CheckOutcome Stop) → EndsCheck ranges b c old new r → (more : List (ℕ × ℕ)) × (new.exchanges ≡ old.exchanges ++ more)
 spent ranges b c old new (Ok Fine) e = (e.0.made, e.0.kept)
 spent ranges b c old new (Ok (Crossed y)) e = ([], ap (λ (x : BudgetView). x.exchanges) e.1 ∙ sym (append-nil old.exchanges))
 spent ranges b c old new (Ok (Conflict y)) e = (e.0.made, e.0.kept)
@@ -152,7 +152,7 @@ nothing_came ts t log right = record {
 }
 
 -- another answer than that nothing is wrong
-pub answers : (o : Outcome) (r : Result Verdict Stop) → (o ≡ Fine → ⊥) → (r ≡ Ok verdicts.Fine → ⊥) → AnswersOutcome (Ok o) r
+pub answers : (o : CheckOutcome) (r : Result Verdict Stop) → (o ≡ Fine → ⊥) → (r ≡ Ok verdicts.Fine → ⊥) → AnswersOutcome (Ok o) r
 answers Fine r n d = absurd (n refl)
 answers (Crossed y) r n d = d
 answers (Conflict y) r n d = d

@@ -14,7 +14,7 @@ use Rattle.term_core.specs.Tables.{TableView, term_at}
 use Rattle.proof_log.specs.Theories.{TheoryView, no_mark, with_watched, terms_watched}
 use Rattle.held_literals.specs.Room.{AreHeldMarks, AreOverWatched}
 use Rattle.simplex_check.specs.Boards.{BoardView, IsBasisOf}
-use Rattle.simplex_atoms.specs.declared.place.Place.{Place}
+use Rattle.simplex_atoms.specs.declared.place.Slack.{Slack}
 use Rattle.simplex_atoms.specs.Places.{place_in}
 use Rattle.simplex_atoms.specs.Limits.{limit_of}
 use Rattle.simplex_atoms.specs.Atoms.{AtomsView, AtomsFit, KeepBounds}
@@ -40,10 +40,10 @@ pub record GivesPlace (t : TableView) (v : SimplexView) (id : TermId) (w : Simpl
   pub others : (other : TermId) → (id.0 ≡ other.0 → ⊥) → place_in w.atoms.placed other ≡ place_in v.atoms.placed other
 
 module _ (t : TableView) (v : SimplexView) (id : TermId) (new : Contains v.theory.watched id → ⊥) (w : SimplexView) (g : GivesPlace t v id w) where
-  abbrev p : List (ℕ × Place)
+  abbrev p : List (ℕ × Slack)
   p = v.atoms.placed
 
-  abbrev q : List (ℕ × Place)
+  abbrev q : List (ℕ × Slack)
   q = w.atoms.placed
 
   unwatched : (other : TermId) → Contains v.theory.watched other → place_in q other ≡ place_in p other

@@ -25,9 +25,9 @@ use Rattle.tableau.specs.Numbers.{number_of}
 use Rattle.simplex_bounds.specs.declared.bounds.Bound.{Bound}
 use Rattle.simplex_bounds.specs.Deltas.{pair_of}
 use Rattle.simplex_bounds.specs.Held.{value_in, ranges_in}
-use Rattle.simplex_check.specs.declared.check.Outcome.{Outcome}
-use Rattle.simplex_check.specs.declared.check.Outcome.TheVariants.{Fine, Crossed, Conflict}
-use Rattle.simplex_atoms.specs.declared.place.Place.{Place}
+use Rattle.simplex_check.specs.declared.check.CheckOutcome.{CheckOutcome}
+use Rattle.simplex_check.specs.declared.check.CheckOutcome.TheVariants.{Fine, Crossed, Conflict}
+use Rattle.simplex_atoms.specs.declared.place.Slack.{Slack}
 use Rattle.simplex_atoms.specs.Places.{place_in, relation_by}
 use Rattle.simplex_atoms.specs.Limits.{weight_of}
 use Rattle.simplex_atoms.specs.Limits as limits
@@ -53,7 +53,7 @@ weights_same : (t : TableView) (ws : List Weighted) → weights_in (map (reason_
 weights_same t ws = map-map (λ (x : Literal × Fraction). x.1) (reason_meant t) ws ∙ sym (map-map fraction (λ (w : Weighted). w.weight) ws)
 
 -- the weight of a literal that says this
-weight_says : (o : Option Relation) (r : Relation) (place : Place) (q : Number) → o ≡ Some r → code.weight_by o place q ≡ weight_by r (numbers.times q (numbers.inverse (number_of place.factor)))
+weight_says : (o : Option Relation) (r : Relation) (place : Slack) (q : Number) → o ≡ Some r → code.weight_by o place q ≡ weight_by r (numbers.times q (numbers.inverse (number_of place.factor)))
 weight_says o r place q e = ap (λ z. code.weight_by z place q) e ∙ by r
   where
     by : (r : Relation) → weight_of r place q ≡ weight_by r (numbers.times q (numbers.inverse (number_of place.factor)))
@@ -74,11 +74,11 @@ module _ (t : TableView) (v : SimplexView) (is : IsOf v t) (fits : SimplexFits v
   held = literals_held t v.theory
 
   -- A literal whose atom has this place stops the variable of an entry, by the factor of the place.
-  abbrev Stops : Bool → Entry Number → Lit → Place → Type 0
+  abbrev Stops : Bool → Entry Number → Lit → Slack → Type 0
   Stops up e l place =
       (x : IsStop s held ranges up e (literal_at t l)) × (x.states.factor ≡ number_of place.factor) × (relation_by place.kind l.positive ≡ Some x.states.constraint.relation)
 
-  stops : (up : Bool) (e : Entry Number) (b : Bound) → stop_of v.bounds.held up e ≡ Some b → (place : Place) → place_in v.atoms.placed b.literal.term ≡ Some place
+  stops : (up : Bool) (e : Entry Number) (b : Bound) → stop_of v.bounds.held up e ≡ Some b → (place : Slack) → place_in v.atoms.placed b.literal.term ≡ Some place
       → Stops up e b.literal place
   stops up e b stop place there =
       let q = cond (is_positive numbers e.coefficient) up (not up) in
@@ -129,13 +129,13 @@ module _ (t : TableView) (v : SimplexView) (is : IsOf v t) (fits : SimplexFits v
     bounds = are_bounds t v is fits ts atoms
 
     -- a weight of the reasons for what was found
-    pub found_weighs : (outcome : Outcome) (o : Overflow) → Found v outcome → StrainsFound v outcome o → StrainsAt ts s o
+    pub found_weighs : (outcome : CheckOutcome) (o : Overflow) → Found v outcome → StrainsFound v outcome o → StrainsAt ts s o
     found_weighs Fine o found h = absurd found
     found_weighs (Crossed y) o found h = explaining ranges bounds true _ (crossing y found) (weight_strains true _ o h)
     found_weighs (Conflict b) o found h = explaining ranges bounds _ _ (sticking b found.0 found.1) (weight_strains _ _ o h)
 
     -- their sum
-    pub found_adds : (outcome : Outcome) (ws : List Weighted) (o : Overflow) → Found v outcome → AreReasonsOf v outcome ws → judged t ws ≡ Err (wide o) → StrainsAt ts s o
+    pub found_adds : (outcome : CheckOutcome) (ws : List Weighted) (o : Overflow) → Found v outcome → AreReasonsOf v outcome ws → judged t ws ≡ Err (wide o) → StrainsAt ts s o
     found_adds Fine ws o found h e = absurd found
     found_adds (Crossed y) ws o found h e = explaining ranges bounds true _ (crossing y found) (sum_strains true _ ws o h e)
     found_adds (Conflict b) ws o found h e = explaining ranges bounds _ _ (sticking b found.0 found.1) (sum_strains _ _ ws o h e)

@@ -14,7 +14,7 @@ use Rattle.spec_tableaux.specs.Fields.{is_positive}
 use Rattle.spec_tableaux.specs.Numbers.{numbers}
 use Rattle.tableau.specs.Numbers.{number_of}
 use Rattle.spec_simplex.specs.Constraints.{Relation, below, at_most, equals, at_least, above}
-use Rattle.simplex_atoms.specs.declared.place.Place.{Place}
+use Rattle.simplex_atoms.specs.declared.place.Slack.{Slack}
 use Rattle.simplex_atoms.specs.Places.{place_in, relation_by}
 use Rattle.simplex_atoms.specs.Limits.{limits_by, limits_where}
 use Rattle.simplex_held.specs.Stated.{stated_at, stated_by, all_stated}
@@ -34,19 +34,19 @@ none : {A : Type 0} (xs : List A) → take 0 xs ≡ []
 none [] = refl
 none (x ∷ xs) = refl
 
-pub stated_append : (p : List (ℕ × Place)) (ls ms : List Lit) → all_stated p (ls ++ ms) ≡ all_stated p ls ++ all_stated p ms
+pub stated_append : (p : List (ℕ × Slack)) (ls ms : List Lit) → all_stated p (ls ++ ms) ≡ all_stated p ls ++ all_stated p ms
 stated_append p [] ms = refl
 stated_append p (l ∷ ls) ms = ap (λ bs. stated_by p l ++ bs) (stated_append p ls ms) ∙ joined (stated_by p l) (all_stated p ls) (all_stated p ms)
 
-pub stated_more : (p : List (ℕ × Place)) (ls : List Lit) (l : Lit) → all_stated p (ls ++ l ∷ []) ≡ all_stated p ls ++ stated_by p l
+pub stated_more : (p : List (ℕ × Slack)) (ls : List Lit) (l : Lit) → all_stated p (ls ++ l ∷ []) ≡ all_stated p ls ++ stated_by p l
 stated_more p ls l = stated_append p ls (l ∷ []) ∙ ap (λ bs. all_stated p ls ++ bs) (append-nil (stated_by p l))
 
-pub stated_same : (p q : List (ℕ × Place)) (ls : List Lit) → All (λ (l : Lit). place_in q l.term ≡ place_in p l.term) ls → all_stated q ls ≡ all_stated p ls
+pub stated_same : (p q : List (ℕ × Slack)) (ls : List Lit) → All (λ (l : Lit). place_in q l.term ≡ place_in p l.term) ls → all_stated q ls ≡ all_stated p ls
 stated_same p q [] same = refl
 stated_same p q (l ∷ ls) same = λ i. stated_at (All-head (λ (m : Lit). place_in q m.term ≡ place_in p m.term) l ls same i) l
     ++ stated_same p q ls (All-tail (λ (m : Lit). place_in q m.term ≡ place_in p m.term) l ls same) i
 
-pub stated_first : (p : List (ℕ × Place)) (m : ℕ) (ls : List Lit) → take (length (all_stated p (take m ls))) (all_stated p ls) ≡ all_stated p (take m ls)
+pub stated_first : (p : List (ℕ × Slack)) (m : ℕ) (ls : List Lit) → take (length (all_stated p (take m ls))) (all_stated p ls) ≡ all_stated p (take m ls)
 stated_first p zero [] = refl
 stated_first p (suc m) [] = refl
 stated_first p zero (l ∷ ls) = none (all_stated p (l ∷ ls))
@@ -54,7 +54,7 @@ stated_first p (suc m) (l ∷ ls) =
     past (stated_by p l) (all_stated p ls) (length (all_stated p (take m ls))) _ (length-append (stated_by p l) (all_stated p (take m ls)))
     ∙ ap (λ bs. stated_by p l ++ bs) (stated_first p m ls)
 
-pub first_states_less : (p : List (ℕ × Place)) (m : ℕ) (ls : List Lit) → length (all_stated p (take m ls)) ≤ length (all_stated p ls)
+pub first_states_less : (p : List (ℕ × Slack)) (m : ℕ) (ls : List Lit) → length (all_stated p (take m ls)) ≤ length (all_stated p ls)
 first_states_less p zero [] = omega arith
 first_states_less p (suc m) [] = omega arith
 first_states_less p zero (l ∷ ls) = omega arith
@@ -67,7 +67,7 @@ first_states_less p (suc m) (l ∷ ls) = omega (
 
 -- how many have a place
 
-pub count_same : (p q : List (ℕ × Place)) (ids : List TermId) → All (λ id. place_in q id ≡ place_in p id) ids → placed_count q ids ≡ placed_count p ids
+pub count_same : (p q : List (ℕ × Slack)) (ids : List TermId) → All (λ id. place_in q id ≡ place_in p id) ids → placed_count q ids ≡ placed_count p ids
 count_same p q [] same = refl
 count_same p q (id ∷ ids) same = by
     (ap is_some (All-head (λ i. place_in q i ≡ place_in p i) id ids same))
@@ -81,7 +81,7 @@ count_same p q (id ∷ ids) same = by
     by e same_rest = ap (λ b. length (cond b (id ∷ filter (has_place q) ids) (filter (has_place q) ids))) e
         ∙ each (has_place p id) (filter (has_place q) ids) (filter (has_place p) ids) same_rest
 
-pub count_first : (p : List (ℕ × Place)) (n : ℕ) (ids : List TermId) → placed_count p (take n ids) ≤ placed_count p ids
+pub count_first : (p : List (ℕ × Slack)) (n : ℕ) (ids : List TermId) → placed_count p (take n ids) ≤ placed_count p ids
 count_first p zero [] = omega arith
 count_first p (suc n) [] = omega arith
 count_first p zero (id ∷ ids) = omega arith
@@ -94,7 +94,7 @@ count_first p (suc n) (id ∷ ids) = by (has_place p id) (count_first p n ids)
 
 -- how many bounds they are
 
-two_where : (r : Option Relation) (up : Bool) (place : Place) (l : Lit) → length (limits_where r up place l) ≤ 2
+two_where : (r : Option Relation) (up : Bool) (place : Slack) (l : Lit) → length (limits_where r up place l) ≤ 2
 two_where None up place l = omega arith
 two_where (Some below) up place l = omega arith
 two_where (Some at_most) up place l = omega arith
@@ -103,21 +103,21 @@ two_where (Some at_least) up place l = omega arith
 two_where (Some above) up place l = omega arith
 
 -- the literals whose term has a place
-abbrev with_place : List (ℕ × Place) → List Lit → List Lit
+abbrev with_place : List (ℕ × Slack) → List Lit → List Lit
 with_place p ls = filter (λ (l : Lit). has_place p l.term) ls
 
-stated_twice : (p : List (ℕ × Place)) (ls : List Lit) → length (all_stated p ls) ≤ 2 * length (with_place p ls)
+stated_twice : (p : List (ℕ × Slack)) (ls : List Lit) → length (all_stated p ls) ≤ 2 * length (with_place p ls)
 stated_twice p [] = omega arith
 stated_twice p (l ∷ ls) = by (place_in p l.term) (stated_twice p ls)
   where
     rest : List Lit
     rest = filter (λ (m : Lit). has_place p m.term) ls
 
-    by : (o : Option Place) → length (all_stated p ls) ≤ 2 * length rest → length (stated_at o l ++ all_stated p ls) ≤ 2 * length (cond (is_some o) (l ∷ rest) rest)
+    by : (o : Option Slack) → length (all_stated p ls) ≤ 2 * length rest → length (stated_at o l ++ all_stated p ls) ≤ 2 * length (cond (is_some o) (l ∷ rest) rest)
     by None le = le
     by (Some place) le = omega (arith, le, length-append (limits_by place l) (all_stated p ls), two_where (relation_by place.kind l.positive) (is_positive numbers (number_of place.factor)) place l)
 
-pub stated_bounded : (p : List (ℕ × Place)) (held : List Lit) (watched : List TermId) → IsHeldOver held watched → length (all_stated p held) ≤ 4 * placed_count p watched
+pub stated_bounded : (p : List (ℕ × Slack)) (held : List Lit) (watched : List TermId) → IsHeldOver held watched → length (all_stated p held) ≤ 4 * placed_count p watched
 stated_bounded p held watched h =
     let passes = filter_passes (λ (l : Lit). has_place p l.term) held in
     let over = All-filter (λ (l : Lit). has_place p l.term) (λ (l : Lit). Contains watched l.term) held h.over in

@@ -12,8 +12,8 @@ use Rattle.proof_log.specs.declared.theory.Verdict.TheVariants as verdicts
 use Rattle.spec_strains.specs.Points.{deltas, point_in}
 use Rattle.simplex_bounds.specs.Held.{ranges_in}
 use Rattle.simplex_check.specs.Boards.{state_of}
-use Rattle.simplex_check.specs.declared.check.Outcome.{Outcome}
-use Rattle.simplex_check.specs.declared.check.Outcome.TheVariants.{Fine, Crossed, Conflict}
+use Rattle.simplex_check.specs.declared.check.CheckOutcome.{CheckOutcome}
+use Rattle.simplex_check.specs.declared.check.CheckOutcome.TheVariants.{Fine, Crossed, Conflict}
 use Rattle.simplex_explain.specs.declared.weighted.Weighted.{Weighted}
 use Rattle.spec_causes.specs.Reasons.{with_basic, unit_entries}
 use Rattle.simplex_reasons.specs.Reasons.{footing, AreReasonsFor, StrainsReasons}
@@ -41,7 +41,7 @@ KeepsBounds v = Meets deltas v.board.tableau.rows (ranges_in v.bounds.held) (poi
 
 -- what a check found is wrong at the rows, the values and the bounds: those of a variable cross; or a basic variable is
 -- stuck, and nonbasic ones keep their bounds
-abbrev pub Found : SimplexView → Outcome → Type 0
+abbrev pub Found : SimplexView → CheckOutcome → Type 0
 Found v Fine = ⊥
 Found v (Crossed y) = RuleSays deltas (ranges_in v.bounds.held) (state_of v.board) (crossed y)
 Found v (Conflict b) =
@@ -49,7 +49,7 @@ Found v (Conflict b) =
     × RuleSays deltas (ranges_in v.bounds.held) (state_of v.board) (stuck b)
 
 -- a weight of the reasons for what was found comes to the overflow
-abbrev pub StrainsFound : SimplexView → Outcome → Overflow → Type 0
+abbrev pub StrainsFound : SimplexView → CheckOutcome → Overflow → Type 0
 StrainsFound v Fine o = ⊥
 StrainsFound v (Crossed y) o = StrainsReasons (footing v.atoms v.bounds) true (with_basic y (unit_entries y)) o
 StrainsFound v (Conflict b) o =
@@ -57,7 +57,7 @@ StrainsFound v (Conflict b) o =
     (with_basic b (row_of b v.board.tableau.rows).entries) o
 
 -- these are the reasons for what was found
-abbrev pub AreReasonsOf : SimplexView → Outcome → List Weighted → Type 0
+abbrev pub AreReasonsOf : SimplexView → CheckOutcome → List Weighted → Type 0
 AreReasonsOf v Fine rs = ⊥
 AreReasonsOf v (Crossed y) rs = AreReasonsFor (footing v.atoms v.bounds) true (with_basic y (unit_entries y)) rs
 AreReasonsOf v (Conflict b) rs =
@@ -66,7 +66,7 @@ AreReasonsOf v (Conflict b) rs =
 
 -- what is answered to what a check of the rows found: that nothing is wrong, where it found nothing wrong; something
 -- else, where it did; and its own stop
-abbrev pub AnswersOutcome : Result Outcome Stop → Result Verdict Stop → Type 0
+abbrev pub AnswersOutcome : Result CheckOutcome Stop → Result Verdict Stop → Type 0
 AnswersOutcome (Ok Fine) result = result ≡ Ok verdicts.Fine
 AnswersOutcome (Ok (Crossed y)) result = result ≡ Ok verdicts.Fine → ⊥
 AnswersOutcome (Ok (Conflict b)) result = result ≡ Ok verdicts.Fine → ⊥

@@ -9,7 +9,7 @@ use Rattle.simplex_bounds.specs.Held.{BoundsView}
 use Rattle.simplex_check.specs.Boards.{BoardView}
 use Rattle.simplex_atoms.specs.Atoms.{AtomsView, AtomsFit}
 use Rattle.simplex_atoms.specs.Places.{place_in}
-use Rattle.simplex_atoms.specs.declared.place.Place.{Place}
+use Rattle.simplex_atoms.specs.declared.place.Slack.{Slack}
 use Rattle.simplex.specs.declared.starts.Start.{Start}
 use Rattle.simplex_held.specs.Stated.{all_stated, AreBoundsOf, IsKnownIn}
 
@@ -27,15 +27,15 @@ pub record SimplexView : Type 0 where
   pub starts : List Start
 
 -- an atom has a place
-abbrev pub has_place : List (ℕ × Place) → TermId → Bool
+abbrev pub has_place : List (ℕ × Slack) → TermId → Bool
 has_place placed id = is_some (place_in placed id)
 
 -- how many of these have a place
-abbrev pub placed_count : List (ℕ × Place) → List TermId → ℕ
+abbrev pub placed_count : List (ℕ × Slack) → List TermId → ℕ
 placed_count placed ids = length (filter (has_place placed) ids)
 
 -- how many bounds the literals at a mark state, and how many terms watched there have a place
-abbrev pub start_of : List (ℕ × Place) → TheoryView → Mark → Start
+abbrev pub start_of : List (ℕ × Slack) → TheoryView → Mark → Start
 start_of placed theory m = record {
   bounds = length (all_stated placed (take m.held theory.held));
   placed = placed_count placed (take m.watched theory.watched);
@@ -50,7 +50,7 @@ pub record SimplexFits (v : SimplexView) : Type 0 where
   -- there is room for the bounds of both literals of each watched atom
   pub room : 4 * placed_count v.atoms.placed v.theory.watched ≤ v.bounds.room + length v.bounds.held
   -- bounds can be held of the variables of places
-  pub reached : (id : TermId) (place : Place) → place_in v.atoms.placed id ≡ Some place
+  pub reached : (id : TermId) (place : Slack) → place_in v.atoms.placed id ≡ Some place
       → place.variable < v.bounds.variables
 
 -- What it keeps of the terms that it watches is right over a table.

@@ -14,7 +14,7 @@ ghost use Rattle.proof_log.specs.Theories.{IsTheoryOver, terms_watched, literals
 ghost use Rattle.simplex_bounds.specs.Held.{ranges_in};
 ghost use Rattle.simplex_check.specs.Boards.{IsBasisOf};
 ghost use Rattle.simplex_check.specs.Ends.{EndsCheck};
-ghost use Rattle.simplex_check.specs.declared.check.Outcome.{Outcome};
+ghost use Rattle.simplex_check.specs.declared.check.CheckOutcome.{CheckOutcome};
 ghost use Rattle.simplex_explain.specs.Reasons.{Refutes};
 ghost use Rattle.simplex_explain.specs.Steps.{derived};
 ghost use Rattle.simplex_reasons.specs.Reasons.{AreOfHeld, OnReasonOverflow};
@@ -26,7 +26,7 @@ use crate::simplex::Simplex;
 use proof_log::{ProofLog, StepId, Verdict};
 use ratio128::Wide;
 use sat_budget::{Budget, Stop, Strain};
-use simplex_check::Outcome;
+use simplex_check::CheckOutcome;
 use simplex_explain::{ExplainStop, Weighted, explain};
 use simplex_reasons::{ReasonStop, crossing_reasons, row_reasons};
 use term_core::TermTable;
@@ -46,7 +46,7 @@ impl Simplex {
     /// Gives literals that cannot all hold, with their weights, where bounds cross or a basic variable is stuck.
     ///
     /// `Wide` comes where a weight leaves the bound on fractions, and `Memory` where there is no memory.
-    fn reasons(&self, outcome: Outcome) -> Result<Vec<Weighted>, ReasonStop>
+    fn reasons(&self, outcome: CheckOutcome) -> Result<Vec<Weighted>, ReasonStop>
         ghost of: { Case }
         requires of { of.simplex ≡ self.now }
         requires with { IsOf self.now of.table }
@@ -57,9 +57,9 @@ impl Simplex {
         ensures wide { IfErr result (OnReasonOverflow (StrainsFound self.now outcome)) }
     {
         match outcome {
-            Outcome::Fine => unreachable!(),
-            Outcome::Crossed(y) => crossing_reasons(self.alloc, &self.bounds, &self.atoms, y),
-            Outcome::Conflict(b) => {
+            CheckOutcome::Fine => unreachable!(),
+            CheckOutcome::Crossed(y) => crossing_reasons(self.alloc, &self.bounds, &self.atoms, y),
+            CheckOutcome::Conflict(b) => {
                 row_reasons(self.alloc, &self.board, &self.bounds, &self.atoms, b)
             }
         }
@@ -75,7 +75,7 @@ impl Simplex {
         &self,
         table: &mut TermTable,
         log: &mut ProofLog,
-        outcome: Outcome,
+        outcome: CheckOutcome,
     ) -> Result<StepId, Stop>
         ghost of: { Case }
         requires of { of ≡ record { table = table.old; simplex = self.now } }
@@ -124,7 +124,7 @@ impl Simplex {
         ensures with { IsOf self.new table.new }
         ensures same { self.new ≡ record self.old { board = self.new.board } }
         ensures budget { Spends budget.old budget.new }
-        ensures ends { (found : Result Outcome Stop) × AnswersOutcome found result
+        ensures ends { (found : Result CheckOutcome Stop) × AnswersOutcome found result
             × EndsCheck (ranges_in self.old.bounds.held) self.old.board self.new.board budget.old budget.new found }
         ensures checks { Checks (HaveForms (literals_held table.old self.old.theory)
             × IsFeasible (literals_held table.old self.old.theory) × KeepsBounds self.new)
@@ -152,7 +152,7 @@ impl Simplex {
             }
         };
         self.board.values_solve_the_rows();
-        if let Outcome::Fine = outcome {
+        if let CheckOutcome::Fine = outcome {
             self.board.tableau().rows_are_in_solved_form();
             self.kept = self.bounds.held_len();
             return Ok(Verdict::Fine);

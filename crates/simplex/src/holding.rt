@@ -12,7 +12,7 @@ ghost use Rattle.simplex.specs.Views.{IsOf};
 use crate::simplex::Simplex;
 use crate::starts::Start;
 use simplex_atoms::laws::bounds_have_weights;
-use simplex_atoms::{Place, bounds_by};
+use simplex_atoms::{Slack, bounds_by};
 use simplex_bounds::{Bound, Bounds};
 use term_core::Lit;
 use world_io::NoMemory;
@@ -31,7 +31,7 @@ fn hold_one(bounds: &mut Bounds, bound: Option<Bound>)
 }
 
 /// Holds the bounds that a literal states whose atom has this place. It takes no memory.
-fn hold_by(bounds: &mut Bounds, place: Place, lit: Lit)
+fn hold_by(bounds: &mut Bounds, place: Slack, lit: Lit)
     requires there { place.variable < bounds.old.variables }
     requires room { length (limits_by place lit) ≤ bounds.old.room }
     ensures held { map limit_of bounds.new.held ≡ map limit_of bounds.old.held ++ limits_by place lit }

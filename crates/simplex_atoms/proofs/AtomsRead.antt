@@ -13,12 +13,12 @@ use Rattle.term_core.specs.declared.nodes.Head.TheVariants as heads
 use Rattle.term_core.specs.Tables.{TableView, term_at, head_meant}
 use Rattle.linear_form.specs.declared.stop.FormFault.{FormFault}
 use Rattle.linear_form.specs.declared.stop.FormFault.TheVariants as faults
-use Rattle.linear_form.specs.declared.stop.Stop.{Stop}
-use Rattle.linear_form.specs.declared.stop.Stop.TheVariants as joins
+use Rattle.linear_form.specs.declared.stop.FormStop.{FormStop}
+use Rattle.linear_form.specs.declared.stop.FormStop.TheVariants as joins
 use Rattle.linear_form.specs.Meant.{FormView}
 use Rattle.linear_form.specs.Making.{Finds, FailsBy}
-use Rattle.simplex_atoms.specs.declared.place.Kind.{Kind}
-use Rattle.simplex_atoms.specs.declared.place.Kind.TheVariants as kinds
+use Rattle.simplex_atoms.specs.declared.place.Comparison.{Comparison}
+use Rattle.simplex_atoms.specs.declared.place.Comparison.TheVariants as kinds
 use Rattle.simplex_atoms.specs.declared.stop.AtomStop.{AtomStop}
 use Rattle.simplex_atoms.specs.Stops.{of_fault, of_join}
 use Rattle.simplex_atoms.specs.Watching.{kind_by, constraint_meant, Forms}
@@ -51,11 +51,11 @@ other_heads t heads.Equal s u e = cc
 other_heads t h s u e = refl
 
 module _ (t : TableView) (left right a : TermId) (numbers : true ≡ are_numbers (term_at t left) (term_at t right)) where
-  as_read : Kind → Option Constraint
+  as_read : Comparison → Option Constraint
   as_read k = Some (constraint_meant t (record { kind = k; atom = a; left = left; right = right }))
 
   -- what the code reads of an atom of two numbers
-  pub read : (h : NodeHead) (k : Kind) → kind_by h ≡ Some k → term_at t a ≡ pair (head_meant t h) (term_at t left) (term_at t right)
+  pub read : (h : NodeHead) (k : Comparison) → kind_by h ≡ Some k → term_at t a ≡ pair (head_meant t h) (term_at t left) (term_at t right)
       → (let o : Option Constraint = Some (constraint_meant t (record { kind = k; atom = a; left = left; right = right })) in o) ≡ constraint_by true (pair (head_meant t h) (term_at t left) (term_at t right))
   unfolding constraint_by as_read
   read heads.Less k h e = ap as_read (sym (same_Some kinds.Less k h)) ∙ (λ i. where_true (numbers i) (saying below (e i) (term_at t left) (term_at t right)))
@@ -63,7 +63,7 @@ module _ (t : TableView) (left right a : TermId) (numbers : true ≡ are_numbers
   read heads.Equal k h e = ap as_read (sym (same_Some kinds.Equal k h)) ∙ (λ i. where_true (numbers i) (saying equals (e i) (term_at t left) (term_at t right)))
   read h k e is = absurd (none_kind k e)
     where
-      none_kind : (k : Kind) → (let o : Option Kind = None in o) ≡ Some k → ⊥
+      none_kind : (k : Comparison) → (let o : Option Comparison = None in o) ≡ Some k → ⊥
       none_kind k e = cc
 
 -- the form of a difference
@@ -93,7 +93,7 @@ module _ (a s u : Term) (t : TableView) where
       unfolding ◌>>=◌
       on_both = on_left ∙ ap (λ r. r >>= λ g. at_term a (combined subtracting f g)) right
 
-      pub join_stops : (x : Stop) → FailsBy (combined subtracting f g) x → Forms t (difference a s u) (Err (of_join x))
+      pub join_stops : (x : FormStop) → FailsBy (combined subtracting f g) x → Forms t (difference a s u) (Err (of_join x))
       join_stops (joins.Wide w) h = (_, on_both ∙ ap (at_term a) h, refl)
       join_stops joins.Memory h = tt
 

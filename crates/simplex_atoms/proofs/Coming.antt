@@ -22,8 +22,8 @@ use Rattle.linear_form.specs.Entries.{pair_view}
 use Rattle.tableau.specs.declared.entries.Entry.{Entry}
 use Rattle.tableau.specs.Entries.{entries_of}
 use Rattle.simplex_check.specs.Boards.{BoardView, board_with_variable, board_with_sum}
-use Rattle.simplex_atoms.specs.declared.place.Place.{Place}
-use Rattle.simplex_atoms.specs.declared.reading.Sides.{Sides}
+use Rattle.simplex_atoms.specs.declared.place.Slack.{Slack}
+use Rattle.simplex_atoms.specs.declared.reading.AtomSides.{AtomSides}
 use Rattle.simplex_atoms.specs.declared.stop.AtomStop.{AtomStop}
 use Rattle.simplex_atoms.specs.declared.stop.AtomStop.TheVariants as stops
 use Rattle.simplex_atoms.specs.Owners.{owner_at, IsNumberOf}
@@ -117,7 +117,7 @@ form_variables t f xs vs all =
     variables_all t (form_meant t f) xs (λ x c. subst (λ (l : List (TermId × Fraction)). Contains (map (pair_meant t) l) x) vs c) all
 
 -- the form of an atom
-form_among : (t : TableView) (id : TermId) (sides : Sides) (f : FormView) → (let o : Option Constraint = Some (constraint_meant t sides) in o) ≡ constraint_of (positive_literal (term_at t id))
+form_among : (t : TableView) (id : TermId) (sides : AtomSides) (f : FormView) → (let o : Option Constraint = Some (constraint_meant t sides) in o) ≡ constraint_of (positive_literal (term_at t id))
     → form_of (constraint_meant t sides) ≡ Ok (form_meant t f) → (ts : List Term) → Contains ts (term_at t id) → IsFormAmong ts (form_meant t f)
 form_among t id sides f says has ts there =
     record { atom = term_at t id; there = there; constraint = constraint_meant t sides; says = sym says; has = has }
@@ -144,13 +144,13 @@ module _ (form : FormView) (os us vs : List (Option TermId)) (a b c : BoardView)
       summed t (form_meant t form) (form_entries t us es xs form are numbered) ts n made among
       (named t (form_meant t form) tells (form_variables t form xs are (are_in t xs form are all)) ts n made among h)
 
-  pub place_comes : (r : Result Place AtomStop) → ButForMemory Summed r → ButForMemory Placed r
+  pub place_comes : (r : Result Slack AtomStop) → ButForMemory Summed r → ButForMemory Placed r
   place_comes (Ok place) h = placed h
   place_comes (Err (stops.Wide w)) h = placed h
   place_comes (Err stops.Memory) h = tt
 
 -- so does that of an atom
-module _ (t : TableView) (id : TermId) (sides : Sides) (f : FormView) (os us : List (Option TermId)) (b c : BoardView) (says : (let o : Option Constraint = Some (constraint_meant t sides) in o) ≡ constraint_of (positive_literal (term_at t id)))
+module _ (t : TableView) (id : TermId) (sides : AtomSides) (f : FormView) (os us : List (Option TermId)) (b c : BoardView) (says : (let o : Option Constraint = Some (constraint_meant t sides) in o) ≡ constraint_of (positive_literal (term_at t id)))
     (has : form_of (constraint_meant t sides) ≡ Ok (form_meant t f)) (all : AreVariablesOf t f) (tells : TellsOwners t os) (ts : List Term) (n : ℕ) (es : List (ℕ × ℕ)) (there : Contains ts (term_at t id))
     (before : IsReached ts n es (standing_in t os b)) where
   abbrev Comes : Type 0
@@ -162,10 +162,10 @@ module _ (t : TableView) (id : TermId) (sides : Sides) (f : FormView) (os us : L
   pub atom_comes : Comes → After
   atom_comes come = come t all tells ts n es (form_among t id sides f says has ts there) before
 
-  pub atom_stops : (s : AtomStop) (r : Result (Unit {0}) AtomStop) → ButForMemory Comes (let o : Result Place AtomStop = Err s in o) → IsErrAnd r (λ e. e ≡ s) → ButForMemory After r
+  pub atom_stops : (s : AtomStop) (r : Result (Unit {0}) AtomStop) → ButForMemory Comes (let o : Result Slack AtomStop = Err s in o) → IsErrAnd r (λ e. e ≡ s) → ButForMemory After r
   atom_stops s (Ok u) come is = absurd is
   atom_stops s (Err e) come is = subst (λ (x : AtomStop). ButForMemory After (let o : Result (Unit {0}) AtomStop = Err x in o)) (sym is) (by s come)
     where
-      by : (s : AtomStop) → ButForMemory Comes (let o : Result Place AtomStop = Err s in o) → ButForMemory After (let o : Result (Unit {0}) AtomStop = Err s in o)
+      by : (s : AtomStop) → ButForMemory Comes (let o : Result Slack AtomStop = Err s in o) → ButForMemory After (let o : Result (Unit {0}) AtomStop = Err s in o)
       by (stops.Wide w) come = atom_comes come
       by stops.Memory come = tt

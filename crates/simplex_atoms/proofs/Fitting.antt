@@ -14,7 +14,7 @@ use Rattle.term_core.specs.Tables.{TableView, Extends}
 use Rattle.term_core.proofs.TermsExtend.{IsIn-kept, term_at-kept}
 use Rattle.simplex_bounds.specs.Held.{BoundsView}
 use Rattle.simplex_check.specs.Boards.{BoardView, empty_board}
-use Rattle.simplex_atoms.specs.declared.place.Place.{Place}
+use Rattle.simplex_atoms.specs.declared.place.Slack.{Slack}
 use Rattle.simplex_atoms.specs.Owners.{owner_at, AreOwned, AreOwnersIn}
 use Rattle.simplex_atoms.specs.Places.{AtomSetting, IsFormOf, IsPlaced, place_in}
 use Rattle.simplex_atoms.specs.Sums.{sign_by, Sum}
@@ -37,7 +37,7 @@ multiple_on g h es k y grows m = record {
 pub sums_on : (g h : Ground) (sums : List Sum) → GroundGrows g h → AreSums g sums → AreSums h sums
 sums_on g h sums grows all = All-weaker (IsSum g) (IsSum h) (λ s m. multiple_on g h s.entries (sign_by s.opposite) s.variable grows m) sums all
 
-form_on : (t : TableView) (g h : Ground) (place : Place) (f : Form) → GroundGrows g h → IsFormOf (setting_of t g) place f → IsFormOf (setting_of t h) place f
+form_on : (t : TableView) (g h : Ground) (place : Slack) (f : Form) → GroundGrows g h → IsFormOf (setting_of t g) place f → IsFormOf (setting_of t h) place f
 form_on t g h place f grows is = record {
   factor = is.factor;
   bound = is.bound;
@@ -49,7 +49,7 @@ form_on t g h place f grows is = record {
       (solves_first (as_space numbers) v g.board.tableau.listed grows.more_rows (subst (λ (l : List (Row Number)). Solves (as_space numbers) v l) grows.listed s));
 }
 
-pub place_on : (t : TableView) (g h : Ground) (a b : ℕ) (id : TermId) (place : Place) → GroundGrows g h → a ≤ b → IsPlaceOf (setting_of t g) a id place → IsPlaceOf (setting_of t h) b id place
+pub place_on : (t : TableView) (g h : Ground) (a b : ℕ) (id : TermId) (place : Slack) → GroundGrows g h → a ≤ b → IsPlaceOf (setting_of t g) a id place → IsPlaceOf (setting_of t h) b id place
 place_on t g h a b id place grows le p = record {
   is_in = p.is_in;
   is = record {
@@ -63,11 +63,11 @@ place_on t g h a b id place grows le p = record {
   reached = omega (arith, p.reached, le);
 }
 
-pub placed_on : (t : TableView) (g h : Ground) (a b : ℕ) (placed : List (ℕ × Place)) → GroundGrows g h → a ≤ b → ArePlaced (setting_of t g) a placed → ArePlaced (setting_of t h) b placed
+pub placed_on : (t : TableView) (g h : Ground) (a b : ℕ) (placed : List (ℕ × Slack)) → GroundGrows g h → a ≤ b → ArePlaced (setting_of t g) a placed → ArePlaced (setting_of t h) b placed
 placed_on t g h a b placed grows le all id place e = place_on t g h a b id place grows le (all id place e)
 
 -- one place more
-pub placed_more : (s : AtomSetting) (reach : ℕ) (old new : List (ℕ × Place)) (id : TermId) (place : Place) → ArePlaced s reach old → IsPlaceOf s reach id place
+pub placed_more : (s : AtomSetting) (reach : ℕ) (old new : List (ℕ × Slack)) (id : TermId) (place : Slack) → ArePlaced s reach old → IsPlaceOf s reach id place
     → ((q : ℕ) → place_in new (record { 0 = q }) ≡ cond (nat_eq id.0 q) (Some place) (place_in old (record { 0 = q }))) → ArePlaced s reach new
 placed_more s reach old new id place all one updates other p e = by (nat_eq id.0 other.0) refl
   where
@@ -75,7 +75,7 @@ placed_more s reach old new id place all one updates other p e = by (nat_eq id.0
     by true h =
         let same : id ≡ other = λ i. record { 0 = eqb-true id.0 other.0 h i } in
         let mine : place ≡ p = same_Some place p (sym (ap (λ b. cond b (Some place) (place_in old other)) h) ∙ sym (updates other.0) ∙ e) in
-        subst (λ (x : Place). IsPlaceOf s reach other x) mine (subst (λ (x : TermId). IsPlaceOf s reach x place) same one)
+        subst (λ (x : Slack). IsPlaceOf s reach other x) mine (subst (λ (x : TermId). IsPlaceOf s reach x place) same one)
     by false h = all other p (sym (ap (λ b. cond b (Some place) (place_in old other)) h) ∙ sym (updates other.0) ∙ e)
 
 -- over a table that has grown
@@ -84,7 +84,7 @@ module _ (old new : TableView) (x : Extends old new) (g : Ground) (owners : AreO
   owned_before : {V : Type 0} (n : Term → V) (v : ℕ → V) → AreOwned new g.owners n v → AreOwned old g.owners n v
   owned_before n v o y id e = o y id e ∙ ap n (term_at-kept old new x id (owners y id e))
 
-  form_after : (place : Place) (f : Form) → IsFormOf (setting_of old g) place f → IsFormOf (setting_of new g) place f
+  form_after : (place : Slack) (f : Form) → IsFormOf (setting_of old g) place f → IsFormOf (setting_of new g) place f
   form_after place f is = record {
     factor = is.factor;
     bound = is.bound;
@@ -94,7 +94,7 @@ module _ (old new : TableView) (x : Extends old new) (g : Ground) (owners : AreO
     value = λ n v o s. is.value n v (owned_before n v o) s;
   }
 
-  place_after : (reach : ℕ) (id : TermId) (place : Place) → IsPlaceOf (setting_of old g) reach id place → IsPlaceOf (setting_of new g) reach id place
+  place_after : (reach : ℕ) (id : TermId) (place : Slack) → IsPlaceOf (setting_of old g) reach id place → IsPlaceOf (setting_of new g) reach id place
   place_after reach id place p = record {
     is_in = IsIn-kept old new x id p.is_in;
     is = subst (λ (u : Term). IsPlaced (setting_of new g) place u) (sym (term_at-kept old new x id p.is_in)) (record {
@@ -142,5 +142,5 @@ right_first t = record {
     none_here : (y : ℕ) (id : TermId) → owner_at [] y ≡ Some id → ⊥
     none_here y id e = let lt = owner_below [] y id e in omega (arith, lt)
 
-    no_place : (place : Place) → (let o : Option Place = None in o) ≡ Some place → ⊥
+    no_place : (place : Slack) → (let o : Option Slack = None in o) ≡ Some place → ⊥
     no_place place e = cc

@@ -21,9 +21,9 @@ use Rattle.simplex_bounds.specs.declared.bounds.Side.{Side}
 use Rattle.simplex_bounds.specs.declared.bounds.Side.TheVariants.{Lower, Upper}
 use Rattle.spec_strains.specs.Points.{deltas}
 use Rattle.simplex_check.proofs.Points.{deltas_are_space, deltas_are_ordered}
-use Rattle.simplex_atoms.specs.declared.place.Kind.{Kind}
-use Rattle.simplex_atoms.specs.declared.place.Kind.TheVariants as kinds
-use Rattle.simplex_atoms.specs.declared.place.Place.{Place}
+use Rattle.simplex_atoms.specs.declared.place.Comparison.{Comparison}
+use Rattle.simplex_atoms.specs.declared.place.Comparison.TheVariants as kinds
+use Rattle.simplex_atoms.specs.declared.place.Slack.{Slack}
 use Rattle.simplex_atoms.specs.Owners.{AreOwned}
 use Rattle.simplex_atoms.specs.Places.{AtomSetting, relation_meant, relation_by, IsPlaced}
 use Rattle.simplex_atoms.specs.Limits.{Limit, limit_on, limits_where, limits_by, KeepsLimit, AreLimitsKept}
@@ -118,7 +118,7 @@ over_lower : (q : Number) (x : Pair Number) → deltas.less x (record { base = q
 over_lower q x h = less_from_right _ x (flat q) h (tilt_decides q numbers.zero numbers.one one_is_above)
 
 -- where the bounds of a relation are kept, the form stands so
-module _ (place : Place) (l : Lit) (v : ℕ → Pair Number) (z : numbers.is_zero (number_of place.factor) ≡ false)
+module _ (place : Slack) (l : Lit) (v : ℕ → Pair Number) (z : numbers.is_zero (number_of place.factor) ≡ false)
     (e : number_of place.bound ≡ numbers.times (numbers.opposite (number_of place.constant)) (numbers.inverse (number_of place.factor))) where
   abbrev value : Pair Number
   value = come (number_of place.factor) (v place.variable) (number_of place.constant)
@@ -161,23 +161,23 @@ module _ (place : Place) (l : Lit) (v : ℕ → Pair Number) (z : numbers.is_zer
 
 -- what a literal says of the form of its atom
 
-pub kind_below : (k : Kind) → below ≡ relation_meant k → k ≡ kinds.Less
+pub kind_below : (k : Comparison) → below ≡ relation_meant k → k ≡ kinds.Less
 kind_below kinds.Less e = refl
 kind_below kinds.AtMost e = cc
 kind_below kinds.Equal e = cc
 
-pub kind_at_most : (k : Kind) → at_most ≡ relation_meant k → k ≡ kinds.AtMost
+pub kind_at_most : (k : Comparison) → at_most ≡ relation_meant k → k ≡ kinds.AtMost
 kind_at_most kinds.Less e = cc
 kind_at_most kinds.AtMost e = refl
 kind_at_most kinds.Equal e = cc
 
-pub positively : (k : Kind) → relation_by k true ≡ Some (relation_meant k)
+pub positively : (k : Comparison) → relation_by k true ≡ Some (relation_meant k)
 positively kinds.Less = refl
 positively kinds.AtMost = refl
 positively kinds.Equal = refl
 
 -- an atom's constraint, and that of its negation, have one form
-less_agrees : (b : Bool) (s u : Term) (c d : Constraint) (k : Kind) → where_true b (saying below (pair Less s u) s u) ≡ Some c → c.relation ≡ relation_meant k
+less_agrees : (b : Bool) (s u : Term) (c d : Constraint) (k : Comparison) → where_true b (saying below (pair Less s u) s u) ≡ Some c → c.relation ≡ relation_meant k
     → where_true b (saying at_least (pair Less s u) s u) ≡ Some d → (relation_by k false ≡ Some d.relation) × (form_of d ≡ form_of c)
 less_agrees false s u c d k p r q = absurd (none-some c p)
 less_agrees true s u c d k p r q =
@@ -186,7 +186,7 @@ less_agrees true s u c d k p r q =
     let kind = kind_below k (ap (λ (x : Constraint). x.relation) mine ∙ r) in
     (ap (λ j. relation_by j false) kind ∙ ap (λ (x : Constraint). Some x.relation) other, sym (ap form_of other) ∙ ap form_of mine)
 
-at_most_agrees : (b : Bool) (s u : Term) (c d : Constraint) (k : Kind) → where_true b (saying at_most (pair AtMost s u) s u) ≡ Some c → c.relation ≡ relation_meant k
+at_most_agrees : (b : Bool) (s u : Term) (c d : Constraint) (k : Comparison) → where_true b (saying at_most (pair AtMost s u) s u) ≡ Some c → c.relation ≡ relation_meant k
     → where_true b (saying above (pair AtMost s u) s u) ≡ Some d → (relation_by k false ≡ Some d.relation) × (form_of d ≡ form_of c)
 at_most_agrees false s u c d k p r q = absurd (none-some c p)
 at_most_agrees true s u c d k p r q =
@@ -195,14 +195,14 @@ at_most_agrees true s u c d k p r q =
     let kind = kind_at_most k (ap (λ (x : Constraint). x.relation) mine ∙ r) in
     (ap (λ j. relation_by j false) kind ∙ ap (λ (x : Constraint). Some x.relation) other, sym (ap form_of other) ∙ ap form_of mine)
 
-negatively : (t : Term) (c d : Constraint) (k : Kind) → constraint_by true t ≡ Some c → c.relation ≡ relation_meant k → constraint_by false t ≡ Some d
+negatively : (t : Term) (c d : Constraint) (k : Comparison) → constraint_by true t ≡ Some c → c.relation ≡ relation_meant k → constraint_by false t ≡ Some d
     → (relation_by k false ≡ Some d.relation) × (form_of d ≡ form_of c)
 unfolding constraint_by
 negatively (app Less (cons s (cons u nil))) c d k p r q = less_agrees (are_numbers s u) s u c d k p r q
 negatively (app AtMost (cons s (cons u nil))) c d k p r q = at_most_agrees (are_numbers s u) s u c d k p r q
 negatively t c d k p r q = absurd (none-some d q)
 
-agree : (t : Term) (b : Bool) (c d : Constraint) (k : Kind) → constraint_by true t ≡ Some c → c.relation ≡ relation_meant k → constraint_by b t ≡ Some d
+agree : (t : Term) (b : Bool) (c d : Constraint) (k : Comparison) → constraint_by true t ≡ Some c → c.relation ≡ relation_meant k → constraint_by b t ≡ Some d
     → (relation_by k b ≡ Some d.relation) × (form_of d ≡ form_of c)
 agree t true c d k p r q =
     let same = same_Some c d (sym p ∙ q) in
@@ -210,7 +210,7 @@ agree t true c d k p r q =
 agree t false c d k p r q = negatively t c d k p r q
 
 -- the law
-pub kept : (s : AtomSetting) (place : Place) (atom : Term) → IsPlaced s place atom → (p : Point) (v : ℕ → Pair Number) → AreOwned s.table s.owners p v → Solves deltas v s.listed
+pub kept : (s : AtomSetting) (place : Slack) (atom : Term) → IsPlaced s place atom → (p : Point) (v : ℕ → Pair Number) → AreOwned s.table s.owners p v → Solves deltas v s.listed
     → (l : Lit) → AreLimitsKept v (limits_by place l) → KeepsLiteral p (record { atom = atom; positive = l.positive })
 kept s place atom is p v o h l bounds d says f has =
     let both = agree atom l.positive is.constraint d place.kind is.says is.kind says in

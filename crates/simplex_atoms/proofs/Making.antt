@@ -28,8 +28,8 @@ use Rattle.tableau.specs.Entries.{entry_of, entries_of}
 use Rattle.tableau.specs.Views as views
 use Rattle.simplex_check.specs.Boards.{BoardView, board_with_sum, state_of}
 use Rattle.spec_strains.specs.Strains.{StrainsNew}
-use Rattle.simplex_atoms.specs.declared.place.Kind.{Kind}
-use Rattle.simplex_atoms.specs.declared.place.Place.{Place}
+use Rattle.simplex_atoms.specs.declared.place.Comparison.{Comparison}
+use Rattle.simplex_atoms.specs.declared.place.Slack.{Slack}
 use Rattle.simplex_atoms.specs.declared.stop.AtomStop.{AtomStop}
 use Rattle.simplex_atoms.specs.declared.stop.AtomStop.TheVariants as stops
 use Rattle.simplex_atoms.specs.Standings.{owner_meant}
@@ -49,7 +49,7 @@ opposite_of a b e = ap (λ (n : Number). n.fraction) e
 
 -- why a place is not made
 
-pub wide_as : (x y d : Fraction) (r : Result Place Wide) (w : Wide) → x ≡ y → divided x d ≡ Err (overflow w) → IsErrAnd r (λ e. e ≡ w) → IfErr r (λ u. divided y d ≡ Err (overflow u))
+pub wide_as : (x y d : Fraction) (r : Result Slack Wide) (w : Wide) → x ≡ y → divided x d ≡ Err (overflow w) → IsErrAnd r (λ e. e ≡ w) → IfErr r (λ u. divided y d ≡ Err (overflow u))
 wide_as x y d (Ok p) w e h is = absurd is
 wide_as x y d (Err v) w e h is = subst (λ (u : Wide). divided y d ≡ Err (overflow u)) (sym is) (ap (λ z. divided z d) (sym e) ∙ h)
 
@@ -62,11 +62,11 @@ row_strains b c constant es s (Err a) e h is = subst (OnAtomOverflow (StrainsEnt
     by (rows.Wide w) h = made.row (subst (λ (x : BoardView). StrainsNew (state_of x) (entries_of es) (overflow w)) (sym e) h)
     by rows.Memory h = tt
 
-pub stop_wide : (P : Overflow → Type 0) (s : AtomStop) (r : Result Place AtomStop) → OnAtomOverflow P s → IsErrAnd r (λ e. e ≡ s) → IfErr r (OnAtomOverflow P)
+pub stop_wide : (P : Overflow → Type 0) (s : AtomStop) (r : Result Slack AtomStop) → OnAtomOverflow P s → IsErrAnd r (λ e. e ≡ s) → IfErr r (OnAtomOverflow P)
 stop_wide P s (Ok p) h is = absurd is
 stop_wide P s (Err e) h is = subst (OnAtomOverflow P) (sym is) h
 
-pub variable_strains : (b : BoardView) (constant : Ratio) (es : List Entry) (e : Entry) (w : Wide) (r : Result Place AtomStop) → es ≡ e ∷ []
+pub variable_strains : (b : BoardView) (constant : Ratio) (es : List Entry) (e : Entry) (w : Wide) (r : Result Slack AtomStop) → es ≡ e ∷ []
     → divided (opposite (fraction constant)) (fraction e.coefficient) ≡ Err (overflow w) → IsErrAnd r (λ s. s ≡ stops.Wide w) → IfErr r (OnAtomOverflow (StrainsEntries b constant es))
 variable_strains b constant es e w (Ok p) is h k = absurd k
 variable_strains b constant es e w (Err a) is h k = subst (OnAtomOverflow (StrainsEntries b constant es)) (sym k) (made.bound e is h)
@@ -89,7 +89,7 @@ row_is_sum os us b c es y count e f is = record {
 
 -- a place on a variable
 
-pub variable_covers : (os : List (Option TermId)) (b : BoardView) (es : List Entry) (e : Entry) (p : Place) → length os ≡ b.tableau.variables
+pub variable_covers : (os : List (Option TermId)) (b : BoardView) (es : List Entry) (e : Entry) (p : Slack) → length os ≡ b.tableau.variables
     → AllVariables (λ y. y < b.tableau.variables) (entries_of es) → es ≡ e ∷ [] → p.variable ≡ e.variable → p.factor ≡ e.coefficient → Covers (ground_of os b) es p
 variable_covers os b es e p count over is y k = record {
   variable =
@@ -111,7 +111,7 @@ longer_entries (x ∷ []) none g e z = none x refl (ap (λ (k : RowEntry Number)
 longer_entries (x ∷ y ∷ es) none g e z = cc
 
 -- a place on a row, by the result of a call
-pub row_on : (es : List Entry) (r : Result Place AtomStop) → IfOk r (λ p. IsSign (number_of p.factor)) → IfOk r (IsOnEntry es)
+pub row_on : (es : List Entry) (r : Result Slack AtomStop) → IfOk r (λ p. IsSign (number_of p.factor)) → IfOk r (IsOnEntry es)
 row_on es (Ok p) h = inr h
 row_on es (Err s) h = tt
 
@@ -123,7 +123,7 @@ one_of os e (x ∷ []) h = (x, refl, h.0.coefficient, h.0.owner)
 one_of os e (x ∷ y ∷ xs) h = absurd h.1
 
 -- a variable that stands for no term is not that of an entry
-unit_of : (os : List (Option TermId)) (es : List Entry) (xs : List (TermId × Ratio)) (p : Place) → EntriesAreNumbered os es xs → IsOnEntry es p → owner_at os p.variable ≡ None
+unit_of : (os : List (Option TermId)) (es : List Entry) (xs : List (TermId × Ratio)) (p : Slack) → EntriesAreNumbered os es xs → IsOnEntry es p → owner_at os p.variable ≡ None
     → IsSign (number_of p.factor)
 unit_of os es xs p numbered (inr u) none = u
 unit_of os es xs p numbered (inl (e, is, y)) none =
@@ -134,7 +134,7 @@ unit_of os es xs p numbered (inl (e, is, y)) none =
     none_some id k = cc
 
 -- a place is that of its form
-pub formed : (t : TableView) (os : List (Option TermId)) (b : BoardView) (g : Ground) (f : FormView) (xs : List (TermId × Ratio)) (es : List Entry) (kind : Kind) (constant : Ratio) (p : Place)
+pub formed : (t : TableView) (os : List (Option TermId)) (b : BoardView) (g : Ground) (f : FormView) (xs : List (TermId × Ratio)) (es : List Entry) (kind : Comparison) (constant : Ratio) (p : Slack)
     → map pair_view xs ≡ f.variables → fraction constant ≡ f.constant → EntriesAreNumbered os es xs → GroundGrows (ground_of os b) g → IsMade kind constant p → Covers g es p → IsOnEntry es p
     → IsFormOf (setting_of t g) p (form_meant t f)
 formed t os b g f xs es kind constant p vs k numbered grows m covers on =
@@ -166,13 +166,13 @@ form_strains os b g f xs es constant (stops.Wide w) vs k numbered grows (made.bo
 
 -- the same by the result of a call
 
-pub result_formed : (os : List (Option TermId)) (b : BoardView) (g : Ground) (f : FormView) (xs : List (TermId × Ratio)) (es : List Entry) (kind : Kind) (constant : Ratio) (r : Result Place AtomStop)
+pub result_formed : (os : List (Option TermId)) (b : BoardView) (g : Ground) (f : FormView) (xs : List (TermId × Ratio)) (es : List Entry) (kind : Comparison) (constant : Ratio) (r : Result Slack AtomStop)
     → map pair_view xs ≡ f.variables → fraction constant ≡ f.constant → EntriesAreNumbered os es xs → GroundGrows (ground_of os b) g → IfOk r (IsMade kind constant) → IfOk r (Covers g es) → IfOk r (IsOnEntry es)
     → IfOk r (λ p. (t : TableView) → IsFormOf (setting_of t g) p (form_meant t f))
 result_formed os b g f xs es kind constant (Ok p) vs k numbered grows m covers on = λ t. formed t os b g f xs es kind constant p vs k numbered grows m covers on
 result_formed os b g f xs es kind constant (Err s) vs k numbered grows m covers on = tt
 
-pub result_strains : (os : List (Option TermId)) (b : BoardView) (g : Ground) (f : FormView) (xs : List (TermId × Ratio)) (es : List Entry) (constant : Ratio) (r : Result Place AtomStop)
+pub result_strains : (os : List (Option TermId)) (b : BoardView) (g : Ground) (f : FormView) (xs : List (TermId × Ratio)) (es : List Entry) (constant : Ratio) (r : Result Slack AtomStop)
     → map pair_view xs ≡ f.variables → fraction constant ≡ f.constant → EntriesAreNumbered os es xs → GroundGrows (ground_of os b) g
     → IfErr r (OnAtomOverflow (StrainsEntries g.board constant es)) → IfErr r (OnAtomOverflow (λ o. (t : TableView) → StrainsForm t g.owners g.board (form_meant t f) o))
 result_strains os b g f xs es constant (Ok p) vs k numbered grows h = tt

@@ -11,7 +11,7 @@ use Rattle.tableau.specs.declared.entries.Entry.{Entry as CodeEntry}
 use Rattle.tableau.specs.Numbers.{number_of}
 use Rattle.tableau.specs.Entries.{entries_of}
 use Rattle.simplex_atoms.specs.declared.keys.Key.{Key}
-use Rattle.simplex_atoms.specs.declared.place.Place.{Place}
+use Rattle.simplex_atoms.specs.declared.place.Slack.{Slack}
 use Rattle.simplex_atoms.specs.declared.sums.Multiple.{Multiple}
 use Rattle.simplex_atoms.specs.Places.{IsSign}
 use Rattle.simplex_atoms.specs.Sums.{sign_by, key_meant, IsKeyOf, Sum, sum_by}
@@ -64,7 +64,7 @@ two_signs true false = sym (opposite_is numbers numbers_are_ordered_field number
 two_signs true true = sym (opposite_is numbers numbers_are_ordered_field (numbers.opposite numbers.one)) ∙ opposite_twice numbers numbers_are_ordered_field numbers.one
 
 -- a place on a variable that was there
-pub known_covers : (g : Ground) (sums : List Sum) (es : List CodeEntry) (key : Key) (m : Multiple) (p : Place) → AreSums g sums → IsKeyOf es key → Contains sums (sum_by (key_meant key) m)
+pub known_covers : (g : Ground) (sums : List Sum) (es : List CodeEntry) (key : Key) (m : Multiple) (p : Slack) → AreSums g sums → IsKeyOf es key → Contains sums (sum_by (key_meant key) m)
     → p.variable ≡ m.variable → number_of p.factor ≡ sign_by (not (beq m.opposite key.opposite)) → Covers g es p
 known_covers g sums es key m p all k there y f =
     let one : IsSum g (sum_by (key_meant key) m) = All-contains (IsSum g) sums (sum_by (key_meant key) m) all there in
@@ -77,7 +77,7 @@ known_covers g sums es key m p all k there y f =
     }
 
 -- a place on a new one
-pub new_covers : (g : Ground) (es : List CodeEntry) (y : ℕ) (p : Place) → IsMultiple g (entries_of es) numbers.one y → p.variable ≡ y → number_of p.factor ≡ sign_by false → Covers g es p
+pub new_covers : (g : Ground) (es : List CodeEntry) (y : ℕ) (p : Slack) → IsMultiple g (entries_of es) numbers.one y → p.variable ≡ y → number_of p.factor ≡ sign_by false → Covers g es p
 new_covers g es y p m e f = record {
   variable = subst (λ (x : ℕ). x < length g.owners) (sym e) m.variable;
   sum = λ v h. m.sum v h ∙ (λ i. numbers.times (sym f i) (v (sym e i)));

@@ -11,11 +11,11 @@ use Rattle.spec_tableaux.proofs.PairSolutions.{pair_parts}
 use Rattle.spec_simplex.specs.Points.{Point, base_at, tilt_at}
 use Rattle.tableau.specs.Numbers.{number_of}
 use Rattle.spec_strains.specs.Points.{deltas}
-use Rattle.simplex_atoms.specs.declared.place.Place.{Place}
+use Rattle.simplex_atoms.specs.declared.place.Slack.{Slack}
 use Rattle.simplex_atoms.specs.Owners.{AreOwned}
 use Rattle.simplex_atoms.specs.Places.{AtomSetting, IsFormOf}
 
-module _ (s : AtomSetting) (place : Place) (f : Form) (is : IsFormOf s place f) where
+module _ (s : AtomSetting) (place : Slack) (f : Form) (is : IsFormOf s place f) where
   -- over numbers
   pub form_comes : (n : Term → Number) (v : ℕ → Number) → AreOwned s.table s.owners n v → Solves (as_space numbers) v s.listed
       → form_value (λ u. (n u).fraction) f ≡ (numbers.plus (numbers.times (number_of place.factor) (v place.variable)) (number_of place.constant)).fraction

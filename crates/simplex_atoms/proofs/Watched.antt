@@ -9,8 +9,8 @@ use Rattle.term_core.specs.Tables.{TableView, IsIn, term_at, positive_literal}
 use Rattle.linear_form.specs.Meant.{FormView, form_meant}
 use Rattle.simplex_bounds.specs.Held.{BoundsView}
 use Rattle.simplex_check.specs.Boards.{BoardView}
-use Rattle.simplex_atoms.specs.declared.place.Place.{Place}
-use Rattle.simplex_atoms.specs.declared.reading.Sides.{Sides}
+use Rattle.simplex_atoms.specs.declared.place.Slack.{Slack}
+use Rattle.simplex_atoms.specs.declared.reading.AtomSides.{AtomSides}
 use Rattle.simplex_atoms.specs.declared.stop.AtomStop.{AtomStop}
 use Rattle.simplex_atoms.specs.declared.stop.AtomStop.TheVariants as stops
 use Rattle.simplex_atoms.specs.Owners.{AreOwnedOnce, AreOwnersIn}
@@ -21,11 +21,11 @@ use Rattle.simplex_atoms.specs.Watching.{constraint_meant, Forms, OnAtomOverflow
 use Rattle.simplex_atoms.proofs.Fitting.{placed_on}
 
 -- atoms with these parts
-abbrev pub atoms_of : List (Option TermId) → List Sum → List (ℕ × Place) → AtomsView
+abbrev pub atoms_of : List (Option TermId) → List Sum → List (ℕ × Slack) → AtomsView
 atoms_of os sums placed = record { owners = os; sums = sums; placed = placed }
 
 -- more variables, and places as before
-pub right_on : (t : TableView) (os us : List (Option TermId)) (ss rs : List Sum) (old new : List (ℕ × Place)) (b c : BoardView) (bounds more : BoundsView) → AtomsFit t (atoms_of os ss old) b bounds
+pub right_on : (t : TableView) (os us : List (Option TermId)) (ss rs : List Sum) (old new : List (ℕ × Slack)) (b c : BoardView) (bounds more : BoundsView) → AtomsFit t (atoms_of os ss old) b bounds
     → new ≡ old → AreSums (ground_of us c) rs → AreCounted (ground_of us c) → (IsGrounded (ground_of os b) → IsGrounded (ground_of us c)) → GroundGrows (ground_of os b) (ground_of us c) → AreOwnersIn t us → AreOwnedOnce us → bounds.variables ≤ more.variables → more.variables ≤ c.tableau.variables
     → AtomsFit t (atoms_of us rs new) c more
 right_on t os us ss rs old new b c bounds more r same sums counted grounded grows there once le within = record {
@@ -37,7 +37,7 @@ right_on t os us ss rs old new b c bounds more r same sums counted grounded grow
   sums = sums;
   are_placed = λ id place e.
       placed_on t (ground_of os b) (ground_of us c) bounds.variables more.variables old grows le r.are_placed id place
-      (subst (λ (l : List (ℕ × Place)). place_in l id ≡ Some place) same e);
+      (subst (λ (l : List (ℕ × Slack)). place_in l id ≡ Some place) same e);
 }
 
 -- no variable went
@@ -46,7 +46,7 @@ reach_stays os us b c n x y grows le =
     omega (arith, x, y, le, ap (λ (l : List (Option TermId)). length l) grows.owners, length-append os grows.more_owners)
 
 -- the place of an atom that came
-pub placed_now : (t : TableView) (us : List (Option TermId)) (c : BoardView) (n reach : ℕ) (id : TermId) (sides : Sides) (f : FormView) (place : Place) → IsIn t id
+pub placed_now : (t : TableView) (us : List (Option TermId)) (c : BoardView) (n reach : ℕ) (id : TermId) (sides : AtomSides) (f : FormView) (place : Slack) → IsIn t id
     → (let o : Option Constraint = Some (constraint_meant t sides) in o) ≡ constraint_of (positive_literal (term_at t id)) → form_of (constraint_meant t sides) ≡ Ok (form_meant t f) → place.kind ≡ sides.kind
     → IsFormOf (setting_of t (ground_of us c)) place (form_meant t f) → n ≡ length us → reach ≡ n → IsPlaceOf (setting_of t (ground_of us c)) reach id place
 placed_now t us c n reach id sides f place there says has kind is count all = record {
@@ -64,7 +64,7 @@ placed_now t us c n reach id sides f place there says has kind is count all = re
 
 -- why there is no place
 
-module _ (t : TableView) (owners : List (Option TermId)) (b : BoardView) (id : TermId) (sides : Sides)
+module _ (t : TableView) (owners : List (Option TermId)) (b : BoardView) (id : TermId) (sides : AtomSides)
     (says : (let o : Option Constraint = Some (constraint_meant t sides) in o) ≡ constraint_of (positive_literal (term_at t id))) where
   pub form_wide : (s : AtomStop) (r : Result (Unit {0}) AtomStop) → Forms t (form_of (constraint_meant t sides)) (Err s) → IsErrAnd r (λ e. e ≡ s) → IfErr r (OnAtomOverflow (StrainsAtom t owners b id))
   form_wide s (Ok u) h is = absurd is
@@ -88,6 +88,6 @@ pub watched_before : (t : TableView) (a : AtomsView) (b : BoardView) (bounds : B
     → IsWatched (place_in a.placed id) (constraint_of (positive_literal (term_at t id)))
 watched_before t a b bounds id r there = by (place_in a.placed id) refl there
   where
-    by : (o : Option Place) → place_in a.placed id ≡ o → is_some o ≡ true → IsWatched o (constraint_of (positive_literal (term_at t id)))
+    by : (o : Option Slack) → place_in a.placed id ≡ o → is_some o ≡ true → IsWatched o (constraint_of (positive_literal (term_at t id)))
     by None e h = absurd (true≢false (sym h))
     by (Some place) e h = subst (λ (c : Option Constraint). IsSome c) (sym (r.are_placed id place e).is.says) refl

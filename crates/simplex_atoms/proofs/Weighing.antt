@@ -17,7 +17,7 @@ use Rattle.ratio128.specs.Meant.{fraction}
 use Rattle.term_core.specs.declared.ids.Lit.{Lit}
 use Rattle.tableau.specs.Numbers.{number_of}
 use Rattle.simplex_bounds.specs.declared.bounds.Side.TheVariants.{Lower, Upper}
-use Rattle.simplex_atoms.specs.declared.place.Place.{Place}
+use Rattle.simplex_atoms.specs.declared.place.Slack.{Slack}
 use Rattle.simplex_atoms.specs.Places.{relation_by}
 use Rattle.simplex_atoms.specs.Limits.{Limit, limit_on, limits_where, limits_by, side_by, signed_by, weight_of}
 
@@ -90,7 +90,7 @@ unfolding numbers fractions
 product_fraction y k s e = ap (λ (n : Number). n.fraction) e
 
 -- an upper weight and a lower one
-module _ (place : Place) (m : Number) (z : numbers.is_zero (number_of place.factor) ≡ false) (h : numbers.is_negative m ≡ false) where
+module _ (place : Slack) (m : Number) (z : numbers.is_zero (number_of place.factor) ≡ false) (h : numbers.is_negative m ≡ false) where
   abbrev factor : Number
   factor = number_of place.factor
 
@@ -139,14 +139,14 @@ module _ (place : Place) (m : Number) (z : numbers.is_zero (number_of place.fact
 
 -- the laws
 
-pub weighs : (place : Place) (l : Lit) (r : Relation) → relation_by place.kind l.positive ≡ Some r → numbers.is_zero (number_of place.factor) ≡ false → (b : Limit) → Contains (limits_by place l) b
+pub weighs : (place : Slack) (l : Lit) (r : Relation) → relation_by place.kind l.positive ≡ Some r → numbers.is_zero (number_of place.factor) ≡ false → (b : Limit) → Contains (limits_by place l) b
     → (m : Number) → numbers.is_negative m ≡ false → times (signed_weight r (weight_of r place (signed_by b.side m))) (fraction place.factor) ≡ (signed_by b.side m).fraction
 weighs place l r e z b inside m h =
     let In : Option Relation → Type 0 = λ o. Contains (limits_where o (is_positive numbers (number_of place.factor)) place l) b in
     let up = is_positive numbers (number_of place.factor) in
     All-contains (Weighs place m z h r) (limits_where (Some r) up place l) b (each place m z h r up l refl) (subst In e inside)
 
-pub weight_reduced : (place : Place) (r : Relation) (s : Number) → IsReduced (weight_of r place s)
+pub weight_reduced : (place : Slack) (r : Relation) (s : Number) → IsReduced (weight_of r place s)
 weight_reduced place below s = size_reduced _ (numbers.times s (numbers.inverse (number_of place.factor))).reduced
 weight_reduced place at_most s = size_reduced _ (numbers.times s (numbers.inverse (number_of place.factor))).reduced
 weight_reduced place equals s = (numbers.times s (numbers.inverse (number_of place.factor))).reduced

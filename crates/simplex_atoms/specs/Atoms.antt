@@ -7,7 +7,7 @@ use Rattle.term_core.specs.declared.ids.TermId.{TermId}
 use Rattle.term_core.specs.Tables.{TableView, term_at, IsIn}
 use Rattle.simplex_bounds.specs.Held.{BoundsView}
 use Rattle.simplex_check.specs.Boards.{BoardView}
-use Rattle.simplex_atoms.specs.declared.place.Place.{Place}
+use Rattle.simplex_atoms.specs.declared.place.Slack.{Slack}
 use Rattle.simplex_atoms.specs.Owners.{AreOwnedOnce, AreOwnersIn}
 use Rattle.simplex_atoms.specs.Grounded.{AreGrounded}
 use Rattle.simplex_atoms.specs.Places.{AtomSetting, IsPlaced, place_in}
@@ -20,7 +20,7 @@ pub record AtomsView : Type 0 where
   -- the sums for which variables of rows stand, in any order
   pub sums : List Sum
   -- the places, by the numbers of the atoms, in any order
-  pub placed : List (ℕ × Place)
+  pub placed : List (ℕ × Slack)
 
 -- The variables: what they stand for, their rows and values.
 pub record Ground : Type 0 where
@@ -78,14 +78,14 @@ abbrev pub setting_of : TableView → Ground → AtomSetting
 setting_of t g = record { table = t; owners = g.owners; listed = g.board.tableau.listed }
 
 -- A place of an atom is its place, and bounds can be held of its variable.
-pub record IsPlaceOf (s : AtomSetting) (reach : ℕ) (id : TermId) (place : Place) : Type 0 where
+pub record IsPlaceOf (s : AtomSetting) (reach : ℕ) (id : TermId) (place : Slack) : Type 0 where
   pub is_in : IsIn s.table id
   pub is : IsPlaced s place (term_at s.table id)
   pub reached : place.variable < reach
 
 -- each place that an atom has is its place
-abbrev pub ArePlaced : AtomSetting → ℕ → List (ℕ × Place) → Type 0
-ArePlaced s reach placed = (id : TermId) (place : Place) → place_in placed id ≡ Some place → IsPlaceOf s reach id place
+abbrev pub ArePlaced : AtomSetting → ℕ → List (ℕ × Slack) → Type 0
+ArePlaced s reach placed = (id : TermId) (place : Slack) → place_in placed id ≡ Some place → IsPlaceOf s reach id place
 
 -- Atoms fit a table, a board and bounds.
 pub record AtomsFit (t : TableView) (a : AtomsView) (b : BoardView) (bounds : BoundsView) : Type 0 where

@@ -14,7 +14,7 @@ use Rattle.spec_strains.specs.Points.{deltas}
 use Rattle.simplex_bounds.specs.declared.bounds.Bound.{Bound}
 use Rattle.simplex_bounds.specs.declared.bounds.Side.{Side}
 use Rattle.simplex_bounds.specs.declared.bounds.Side.TheVariants.{Lower, Upper}
-use Rattle.simplex_atoms.specs.declared.place.Place.{Place}
+use Rattle.simplex_atoms.specs.declared.place.Slack.{Slack}
 use Rattle.simplex_atoms.specs.Places.{relation_by}
 
 -- A bound, with its value as a pair of numbers.
@@ -53,7 +53,7 @@ tilt_by Upper true = numbers.opposite numbers.one
 tilt_by side false = numbers.zero
 
 -- the bound of a place on a side, which the variable may not reach where it is strict
-abbrev pub limit_on : Place → Lit → Side → Bool → Limit
+abbrev pub limit_on : Slack → Lit → Side → Bool → Limit
 limit_on place l side strict = record {
   variable = place.variable;
   side = side;
@@ -62,7 +62,7 @@ limit_on place l side strict = record {
 }
 
 -- the bounds of the variable where the form stands so to 0, by whether the factor is above 0
-abbrev pub limits_where : Option Relation → Bool → Place → Lit → List Limit
+abbrev pub limits_where : Option Relation → Bool → Slack → Lit → List Limit
 limits_where (Some below) up place l = limit_on place l (side_by up) true ∷ []
 limits_where (Some at_most) up place l = limit_on place l (side_by up) false ∷ []
 limits_where (Some equals) up place l = limit_on place l Lower false ∷ limit_on place l Upper false ∷ []
@@ -71,7 +71,7 @@ limits_where (Some above) up place l = limit_on place l (side_by (not up)) true 
 limits_where None up place l = []
 
 -- the bounds that a literal states of the variable on which its atom is placed
-abbrev pub limits_by : Place → Lit → List Limit
+abbrev pub limits_by : Slack → Lit → List Limit
 limits_by place l =
     limits_where (relation_by place.kind l.positive) (is_positive numbers (number_of place.factor)) place l
 
@@ -95,7 +95,7 @@ signed_by Lower m = numbers.opposite m
 
 -- the weight of a constraint whose form is a multiple of a variable, where the variable is to have the weight s: of an
 -- equality s over the factor, of an order the size of this
-abbrev pub weight_of : Relation → Place → Number → Fraction
+abbrev pub weight_of : Relation → Slack → Number → Fraction
 weight_of equals place s = (numbers.times s (numbers.inverse (number_of place.factor))).fraction
 weight_of r place s = size (numbers.times s (numbers.inverse (number_of place.factor))).fraction
 

@@ -10,13 +10,13 @@ use Rattle.tableau.specs.Numbers.{number_of}
 use Rattle.tableau.specs.Entries.{entries_of}
 use Rattle.simplex_check.specs.Boards.{BoardView, state_of}
 use Rattle.spec_strains.specs.Strains.{StrainsNew}
-use Rattle.simplex_atoms.specs.declared.place.Kind.{Kind}
-use Rattle.simplex_atoms.specs.declared.place.Place.{Place}
+use Rattle.simplex_atoms.specs.declared.place.Comparison.{Comparison}
+use Rattle.simplex_atoms.specs.declared.place.Slack.{Slack}
 use Rattle.simplex_atoms.specs.Places.{IsSign}
 use Rattle.simplex_atoms.specs.Atoms.{Ground, IsMultiple}
 
 -- The place has this kind and constant, and its bound is that of its factor.
-pub record IsMade (kind : Kind) (constant : Ratio) (place : Place) : Type 0 where
+pub record IsMade (kind : Comparison) (constant : Ratio) (place : Slack) : Type 0 where
   pub is_kind : place.kind ≡ kind
   pub is_constant : place.constant ≡ constant
   pub factor : numbers.is_zero (number_of place.factor) ≡ false
@@ -24,11 +24,11 @@ pub record IsMade (kind : Kind) (constant : Ratio) (place : Place) : Type 0 wher
       ≡ numbers.times (numbers.opposite (number_of place.constant)) (numbers.inverse (number_of place.factor))
 
 -- the sum of entries is the place's factor times its variable, wherever the rows hold
-abbrev pub Covers : Ground → List Entry → Place → Type 0
+abbrev pub Covers : Ground → List Entry → Slack → Type 0
 Covers g es place = IsMultiple g (entries_of es) (number_of place.factor) place.variable
 
 -- the place is on the variable of the one entry, or its factor is 1 or -1
-abbrev pub IsOnEntry : List Entry → Place → Type 0
+abbrev pub IsOnEntry : List Entry → Slack → Type 0
 IsOnEntry es place = ((e : Entry) × (es ≡ e ∷ []) × (place.variable ≡ e.variable)) ⊎ IsSign (number_of place.factor)
 
 -- the one entry, whose coefficient is not 0, where the entries are such a one

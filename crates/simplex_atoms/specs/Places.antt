@@ -12,9 +12,9 @@ use Rattle.ratio128.specs.Meant.{fraction}
 use Rattle.term_core.specs.declared.ids.TermId.{TermId}
 use Rattle.term_core.specs.Tables.{TableView, positive_literal}
 use Rattle.tableau.specs.Numbers.{number_of}
-use Rattle.simplex_atoms.specs.declared.place.Kind.{Kind}
-use Rattle.simplex_atoms.specs.declared.place.Kind.TheVariants as kinds
-use Rattle.simplex_atoms.specs.declared.place.Place.{Place}
+use Rattle.simplex_atoms.specs.declared.place.Comparison.{Comparison}
+use Rattle.simplex_atoms.specs.declared.place.Comparison.TheVariants as kinds
+use Rattle.simplex_atoms.specs.declared.place.Slack.{Slack}
 use Rattle.simplex_atoms.specs.Owners.{owner_at, AreOwned}
 
 -- What places are read by.
@@ -27,14 +27,14 @@ pub record AtomSetting : Type 0 where
   pub listed : List (Row Number)
 
 -- what an atom of a kind says of its form
-abbrev pub relation_meant : Kind → Relation
+abbrev pub relation_meant : Comparison → Relation
 relation_meant kinds.Less = below
 relation_meant kinds.AtMost = at_most
 relation_meant kinds.Equal = equals
 
 -- what a literal says of the form of its atom, by the kind of this and whether it is meant positively; that numbers
 -- differ is nothing that bounds say
-abbrev pub relation_by : Kind → Bool → Option Relation
+abbrev pub relation_by : Comparison → Bool → Option Relation
 relation_by kinds.Less true = Some below
 relation_by kinds.Less false = Some at_least
 relation_by kinds.AtMost true = Some at_most
@@ -47,7 +47,7 @@ abbrev pub IsSign : Number → Type 0
 IsSign k = (k ≡ numbers.one) ⊎ (k ≡ numbers.opposite numbers.one)
 
 -- The form is the factor times the variable, plus the constant, wherever the rows hold.
-pub record IsFormOf (s : AtomSetting) (place : Place) (f : Form) : Type 0 where
+pub record IsFormOf (s : AtomSetting) (place : Slack) (f : Form) : Type 0 where
   -- the factor is not 0
   pub factor : numbers.is_zero (number_of place.factor) ≡ false
   -- the form is 0 where the variable is at the bound
@@ -65,7 +65,7 @@ pub record IsFormOf (s : AtomSetting) (place : Place) (f : Form) : Type 0 where
       ≡ (numbers.times (number_of place.factor) (v place.variable)).fraction
 
 -- The place of an atom: what it says of its form, and the variable of which the form is a multiple, but for a constant.
-pub record IsPlaced (s : AtomSetting) (place : Place) (atom : Term) : Type 0 where
+pub record IsPlaced (s : AtomSetting) (place : Slack) (atom : Term) : Type 0 where
   -- what the atom says
   pub constraint : Constraint
   pub says : constraint_of (positive_literal atom) ≡ Some constraint
@@ -76,5 +76,5 @@ pub record IsPlaced (s : AtomSetting) (place : Place) (atom : Term) : Type 0 whe
   pub is : IsFormOf s place form
 
 -- the place of an atom by its number, among all that are placed
-abbrev pub place_in : List (ℕ × Place) → TermId → Option Place
+abbrev pub place_in : List (ℕ × Slack) → TermId → Option Slack
 place_in placed id = lookup (nat_eq id.0) placed

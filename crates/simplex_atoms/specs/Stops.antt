@@ -3,8 +3,8 @@ use Rattle.tableau.specs.declared.stops.RowStop.{RowStop}
 use Rattle.tableau.specs.declared.stops.RowStop.TheVariants as rows
 use Rattle.linear_form.specs.declared.stop.FormFault.{FormFault}
 use Rattle.linear_form.specs.declared.stop.FormFault.TheVariants as faults
-use Rattle.linear_form.specs.declared.stop.Stop.{Stop}
-use Rattle.linear_form.specs.declared.stop.Stop.TheVariants as joins
+use Rattle.linear_form.specs.declared.stop.FormStop.{FormStop}
+use Rattle.linear_form.specs.declared.stop.FormStop.TheVariants as joins
 use Rattle.simplex_atoms.specs.declared.stop.AtomStop.{AtomStop}
 use Rattle.simplex_atoms.specs.declared.stop.AtomStop.TheVariants as stops
 
@@ -19,6 +19,6 @@ of_fault (faults.Wide id w) = stops.Wide w
 of_fault faults.Memory = stops.Memory
 
 -- the stop of forms that are joined
-abbrev pub of_join : Stop → AtomStop
+abbrev pub of_join : FormStop → AtomStop
 of_join (joins.Wide w) = stops.Wide w
 of_join joins.Memory = stops.Memory

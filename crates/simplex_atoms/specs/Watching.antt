@@ -18,10 +18,10 @@ use Rattle.spec_strains.specs.Strains.{StrainsNew}
 use Rattle.tableau.specs.declared.entries.Entry.{Entry as CodeEntry}
 use Rattle.term_core.specs.declared.nodes.Head.{Head}
 use Rattle.term_core.specs.declared.nodes.Head.TheVariants as heads
-use Rattle.simplex_atoms.specs.declared.place.Kind.{Kind}
-use Rattle.simplex_atoms.specs.declared.place.Kind.TheVariants as kinds
-use Rattle.simplex_atoms.specs.declared.reading.Sides.{Sides}
-use Rattle.simplex_atoms.specs.declared.place.Place.{Place}
+use Rattle.simplex_atoms.specs.declared.place.Comparison.{Comparison}
+use Rattle.simplex_atoms.specs.declared.place.Comparison.TheVariants as kinds
+use Rattle.simplex_atoms.specs.declared.reading.AtomSides.{AtomSides}
+use Rattle.simplex_atoms.specs.declared.place.Slack.{Slack}
 use Rattle.simplex_atoms.specs.declared.stop.AtomStop.{AtomStop}
 use Rattle.simplex_atoms.specs.declared.stop.AtomStop.TheVariants as stops
 use Rattle.simplex_atoms.specs.Owners.{owner_at}
@@ -29,14 +29,14 @@ use Rattle.simplex_atoms.specs.Places.{relation_meant}
 use Rattle.simplex_atoms.specs.Standings.{owner_meant}
 
 -- how atoms with a head compare numbers, where they do
-abbrev pub kind_by : Head → Option Kind
+abbrev pub kind_by : Head → Option Comparison
 kind_by heads.Less = Some kinds.Less
 kind_by heads.AtMost = Some kinds.AtMost
 kind_by heads.Equal = Some kinds.Equal
 kind_by h = None
 
 -- what an atom says, by the code's words
-abbrev pub constraint_meant : TableView → Sides → Constraint
+abbrev pub constraint_meant : TableView → AtomSides → Constraint
 constraint_meant t s = record {
   relation = relation_meant s.kind;
   atom = term_at t s.atom;
@@ -45,12 +45,12 @@ constraint_meant t s = record {
 }
 
 -- the same, where it says something
-abbrev pub sides_meant : TableView → Option Sides → Option Constraint
+abbrev pub sides_meant : TableView → Option AtomSides → Option Constraint
 sides_meant t None = None
 sides_meant t (Some s) = Some (constraint_meant t s)
 
 -- both sides are terms of the table
-abbrev pub HasSidesIn : TableView → Option Sides → Type 0
+abbrev pub HasSidesIn : TableView → Option AtomSides → Type 0
 HasSidesIn t None = Unit {0}
 HasSidesIn t (Some s) = IsIn t s.left × IsIn t s.right
 
@@ -98,6 +98,6 @@ pub data StrainsAtom (t : TableView) (owners : Owned) (b : BoardView) (id : Term
       → (f : Form) → form_of c ≡ Ok f → StrainsForm t owners b f o → StrainsAtom t owners b id o
 
 -- an atom has a place exactly where it says something of linear arithmetic
-abbrev pub IsWatched : Option Place → Option Constraint → Type 0
+abbrev pub IsWatched : Option Slack → Option Constraint → Type 0
 IsWatched (Some place) c = IsSome c
 IsWatched None c = c ≡ None

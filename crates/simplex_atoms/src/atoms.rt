@@ -13,7 +13,7 @@ ghost use Rattle.simplex_atoms.specs.Watching.{OnAtomOverflow, StrainsAtom, IsWa
 ghost use Rattle.simplex_atoms.specs.Standings.{standing_in, ButForMemory};
 
 use crate::owners::Owners;
-use crate::place::Place;
+use crate::place::Slack;
 use crate::placing::place_of;
 use crate::reading::{difference_of, sides_of};
 use crate::stop::AtomStop;
@@ -37,7 +37,7 @@ pub struct Atoms {
     alloc: Global,
     owners: Owners,
     sums: Sums,
-    places: HashMap<u64, Place>,
+    places: HashMap<u64, Slack>,
 }
 
 impl Model for Atoms {
@@ -92,7 +92,7 @@ impl Atoms {
     }
 
     /// Gives the place of an atom; `None` where it has none. It takes no memory.
-    pub fn place(&self, id: TermId) -> Option<Place>
+    pub fn place(&self, id: TermId) -> Option<Slack>
         ensures { result ≡ place_in self.now.placed id }
     {
         match self.places.get(&id.0) {

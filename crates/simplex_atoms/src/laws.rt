@@ -17,7 +17,7 @@ ghost use Rattle.tableau.specs.Numbers.{number_of};
 ghost use Rattle.spec_strains.specs.Points.{deltas};
 ghost use Rattle.simplex_bounds.specs.Held.{BoundsView};
 ghost use Rattle.simplex_check.specs.Boards.{BoardView, empty_board};
-ghost use Rattle.simplex_atoms.specs.declared.place.Place.{Place};
+ghost use Rattle.simplex_atoms.specs.declared.place.Slack.{Slack};
 ghost use Rattle.simplex_atoms.specs.Owners.{AreOwned};
 ghost use Rattle.simplex_atoms.specs.Places.{AtomSetting, IsFormOf, IsPlaced, relation_by};
 ghost use Rattle.simplex_atoms.specs.Limits.{Limit, limits_by, AreLimitsKept, signed_by, weight_of, is_strict};
@@ -25,16 +25,16 @@ ghost use Rattle.simplex_atoms.specs.Atoms.{AtomsView, AtomsFit};
 
 /// States what value a form has by its place: over numbers, and at points with infinitesimals.
 pub fn places_tell_values()
-    ensures numbers { (s : AtomSetting) (place : Place) (f : Form) → IsFormOf s place f
+    ensures numbers { (s : AtomSetting) (place : Slack) (f : Form) → IsFormOf s place f
         → (n : Term → Number) (v : ℕ → Number) → AreOwned s.table s.owners n v → Solves (as_space numbers) v s.listed
         → form_value (λ u. (n u).fraction) f
         ≡ (numbers.plus (numbers.times (number_of place.factor) (v place.variable))
         (number_of place.constant)).fraction }
-    ensures bases { (s : AtomSetting) (place : Place) (f : Form) → IsFormOf s place f
+    ensures bases { (s : AtomSetting) (place : Slack) (f : Form) → IsFormOf s place f
         → (p : Point) (v : ℕ → Pair Number) → AreOwned s.table s.owners p v → Solves deltas v s.listed → base_at p f
         ≡ (numbers.plus (numbers.times (number_of place.factor) (v place.variable).base)
         (number_of place.constant)).fraction }
-    ensures tilts { (s : AtomSetting) (place : Place) (f : Form) → IsFormOf s place f
+    ensures tilts { (s : AtomSetting) (place : Slack) (f : Form) → IsFormOf s place f
         → (p : Point) (v : ℕ → Pair Number) → AreOwned s.table s.owners p v → Solves deltas v s.listed
         → tilt_at p f ≡ (numbers.times (number_of place.factor) (v place.variable).tilt).fraction }
 {}
@@ -42,7 +42,7 @@ pub fn places_tell_values()
 /// States that where values of variables keep the bounds that a literal states, a point that has them for terms keeps
 /// the literal.
 pub fn kept_bounds_keep_literals()
-    ensures { (s : AtomSetting) (place : Place) (atom : Term) → IsPlaced s place atom
+    ensures { (s : AtomSetting) (place : Slack) (atom : Term) → IsPlaced s place atom
         → (p : Point) (v : ℕ → Pair Number) → AreOwned s.table s.owners p v → Solves deltas v s.listed
         → (l : Lit) → AreLimitsKept v (limits_by place l) → KeepsLiteral p (record { atom = atom; positive = l.positive }) }
 {}
@@ -51,12 +51,12 @@ pub fn kept_bounds_keep_literals()
 /// where 0 does not stand to 0 as the literal says; and that the weight of a bound makes one of the literal, in
 /// lowest terms, which times the factor is the bound's.
 pub fn bounds_have_weights()
-    ensures states { (place : Place) (l : Lit) (b : Limit) → Contains (limits_by place l) b
+    ensures states { (place : Slack) (l : Lit) (b : Limit) → Contains (limits_by place l) b
         → (b.variable ≡ place.variable) × (b.literal ≡ l) × (b.value.base ≡ number_of place.bound) }
-    ensures tilt { (place : Place) (l : Lit) (r : Relation) → relation_by place.kind l.positive ≡ Some r
+    ensures tilt { (place : Slack) (l : Lit) (r : Relation) → relation_by place.kind l.positive ≡ Some r
         → (b : Limit) → Contains (limits_by place l) b → is_strict r ≡ false → b.value.tilt ≡ numbers.zero }
-    ensures reduced { (place : Place) (r : Relation) (s : Number) → IsReduced (weight_of r place s) }
-    ensures weight { (place : Place) (l : Lit) (r : Relation) → relation_by place.kind l.positive ≡ Some r
+    ensures reduced { (place : Slack) (r : Relation) (s : Number) → IsReduced (weight_of r place s) }
+    ensures weight { (place : Slack) (l : Lit) (r : Relation) → relation_by place.kind l.positive ≡ Some r
         → numbers.is_zero (number_of place.factor) ≡ false → (b : Limit) → Contains (limits_by place l) b
         → (m : Number) → numbers.is_negative m ≡ false
         → times (signed_weight r (weight_of r place (signed_by b.side m))) (fraction place.factor)

@@ -20,6 +20,6 @@ mod sums;
 
 pub use atoms::Atoms;
 pub use limits::bounds_by;
-pub use place::{Kind, Place};
-pub use reading::{Sides, difference_of, sides_of};
+pub use place::{Comparison, Slack};
+pub use reading::{AtomSides, difference_of, sides_of};
 pub use stop::AtomStop;

@@ -4,7 +4,7 @@ ghost use Rattle.std.specs.Prelude.{◌≡◌};
 ghost use Rattle.tableau.specs.Numbers.{number_of};
 ghost use Rattle.simplex_atoms.specs.Limits.{side_by, tilt_by, limit_of, limit_on, limits_meant, limits_by};
 
-use crate::place::{Kind, Place};
+use crate::place::{Comparison, Slack};
 use delta_num::Delta;
 use ratio128::Ratio;
 use simplex_bounds::{Bound, Side};
@@ -33,7 +33,7 @@ fn tilt_by(side: Side, strict: bool) -> Ratio
 }
 
 /// Makes the bound of a place on a side, which the variable may not reach where it is strict.
-fn bound_on(place: Place, literal: Lit, side: Side, strict: bool) -> Bound
+fn bound_on(place: Slack, literal: Lit, side: Side, strict: bool) -> Bound
     ensures { limit_of result ≡ limit_on place literal side strict }
 {
     Bound {
@@ -51,21 +51,21 @@ fn bound_on(place: Place, literal: Lit, side: Side, strict: bool) -> Bound
 /// the upper one. A bound that the variable may not reach has a tilt. It takes no memory.
 ///
 /// Source: Dutertre and de Moura, A Fast Linear-Arithmetic Solver for DPLL(T), CAV 2006.
-pub fn bounds_by(place: Place, literal: Lit) -> (Option<Bound>, Option<Bound>)
+pub fn bounds_by(place: Slack, literal: Lit) -> (Option<Bound>, Option<Bound>)
     ensures { limits_meant result ≡ limits_by place literal }
 {
     let up = is_negative(negative(place.factor));
     let (side, strict) = match (place.kind, literal.positive) {
-        (Kind::Less, true) => (side_by(up), true),
-        (Kind::AtMost, true) => (side_by(up), false),
-        (Kind::Less, false) => (side_by(!up), false),
-        (Kind::AtMost, false) => (side_by(!up), true),
-        (Kind::Equal, true) => {
+        (Comparison::Less, true) => (side_by(up), true),
+        (Comparison::AtMost, true) => (side_by(up), false),
+        (Comparison::Less, false) => (side_by(!up), false),
+        (Comparison::AtMost, false) => (side_by(!up), true),
+        (Comparison::Equal, true) => {
             let lower = bound_on(place, literal, Side::Lower, false);
             let upper = bound_on(place, literal, Side::Upper, false);
             return (Some(lower), Some(upper));
         }
-        (Kind::Equal, false) => return (None, None),
+        (Comparison::Equal, false) => return (None, None),
     };
     (Some(bound_on(place, literal, side, strict)), None)
 }

@@ -4,7 +4,7 @@ use ratio128::Ratio;
 
 /// Says how an atom compares its form with 0.
 #[derive(Clone, Copy, Debug, PartialEq, Eq)]
-pub enum Kind {
+pub enum Comparison {
     /// It is below 0.
     Less,
     /// It is at most 0.
@@ -15,9 +15,9 @@ pub enum Kind {
 
 /// Says what an atom bounds: its form, the left side minus the right one, is `factor * variable + constant`.
 #[derive(Clone, Copy, Debug, PartialEq, Eq)]
-pub struct Place {
+pub struct Slack {
     /// How the form is compared with 0.
-    pub kind: Kind,
+    pub kind: Comparison,
     /// The number of the variable, from 0.
     pub variable: u64,
     /// The factor, which is not 0.

@@ -23,7 +23,7 @@ ghost use Rattle.simplex_atoms.specs.Standings.{owner_meant, ButForMemory, Groun
 
 use crate::numbering::entries_of;
 use crate::owners::Owners;
-use crate::place::{Kind, Place};
+use crate::place::{Comparison, Slack};
 use crate::stop::AtomStop;
 use crate::sums::{Multiple, Sums};
 use linear_form::Form;
@@ -47,7 +47,7 @@ fn single(entries: &[Entry]) -> Option<Entry>
 }
 
 /// Makes the place on the variable of an entry.
-fn on_variable(kind: Kind, constant: Ratio, entry: Entry) -> Result<Place, Wide>
+fn on_variable(kind: Comparison, constant: Ratio, entry: Entry) -> Result<Slack, Wide>
     requires { numbers.is_zero (number_of entry.coefficient) ≡ false }
     ensures made { IfOk result (IsMade kind constant) }
     ensures variable { IfOk result (λ p. (p.variable ≡ entry.variable) × (p.factor ≡ entry.coefficient)) }
@@ -55,7 +55,7 @@ fn on_variable(kind: Kind, constant: Ratio, entry: Entry) -> Result<Place, Wide>
         divided (opposite (fraction constant)) (fraction entry.coefficient) ≡ Err (overflow w)) }
 {
     let bound = quotient(negative(constant), entry.coefficient)?;
-    Ok(Place {
+    Ok(Slack {
         kind,
         variable: entry.variable,
         factor: entry.coefficient,
@@ -84,13 +84,13 @@ fn bound_by(constant: Ratio, opposite: bool) -> Ratio
 }
 
 /// Makes the place on a variable of which the form is a multiple by 1 or -1, but for the constant.
-fn on_multiple(kind: Kind, constant: Ratio, multiple: Multiple) -> Place
+fn on_multiple(kind: Comparison, constant: Ratio, multiple: Multiple) -> Slack
     ensures made { IsMade kind constant result }
     ensures variable { result.variable ≡ multiple.variable }
     ensures factor { number_of result.factor ≡ sign_by multiple.opposite }
     ensures unit { IsSign (number_of result.factor) }
 {
-    Place {
+    Slack {
         kind,
         variable: multiple.variable,
         factor: sign(multiple.opposite),
@@ -126,10 +126,10 @@ fn on_row(
     owners: &mut Owners,
     sums: &mut Sums,
     board: &mut Board,
-    kind: Kind,
+    kind: Comparison,
     constant: Ratio,
     entries: &[Entry],
-) -> Result<Place, AtomStop>
+) -> Result<Slack, AtomStop>
     requires counted { AreCounted (ground_of owners.old.list board.old) }
     requires sums { AreSums (ground_of owners.old.list board.old) sums.old }
     requires over { AllVariables (λ y. y < board.old.tableau.variables) (entries_of entries.now) }
@@ -171,10 +171,10 @@ fn place_by(
     owners: &mut Owners,
     sums: &mut Sums,
     board: &mut Board,
-    kind: Kind,
+    kind: Comparison,
     constant: Ratio,
     entries: &[Entry],
-) -> Result<Place, AtomStop>
+) -> Result<Slack, AtomStop>
     requires counted { AreCounted (ground_of owners.old.list board.old) }
     requires sums { AreSums (ground_of owners.old.list board.old) sums.old }
     requires over { AllVariables (λ y. y < board.old.tableau.variables) (entries_of entries.now) }
@@ -211,9 +211,9 @@ pub(crate) fn place_of(
     owners: &mut Owners,
     sums: &mut Sums,
     board: &mut Board,
-    kind: Kind,
+    kind: Comparison,
     form: &Form,
-) -> Result<Place, AtomStop>
+) -> Result<Slack, AtomStop>
     requires counted { AreCounted (ground_of owners.old.list board.old) }
     requires sums { AreSums (ground_of owners.old.list board.old) sums.old }
     ensures counted { AreCounted (ground_of owners.new.list board.new) }

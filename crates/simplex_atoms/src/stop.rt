@@ -2,7 +2,7 @@
 
 ghost use Rattle.std.specs.Prelude.{◌≡◌};
 
-use linear_form::{FormFault, Stop};
+use linear_form::{FormFault, FormStop};
 use ratio128::Wide;
 use std::alloc::{AllocError, AllocFailed};
 use tableau::RowStop;
@@ -86,15 +86,15 @@ impl From<FormFault> for AtomStop {
     }
 }
 
-impl From<Stop> for AtomStop {
+impl From<FormStop> for AtomStop {
     ghost use Rattle.simplex_atoms.specs.Stops.{of_join};
 
     ghost from_gives = { λ s r. r ≡ of_join s };
 
-    fn from(stop: Stop) -> AtomStop {
+    fn from(stop: FormStop) -> AtomStop {
         match stop {
-            Stop::Wide(wide) => AtomStop::Wide(wide),
-            Stop::Memory => AtomStop::Memory,
+            FormStop::Wide(wide) => AtomStop::Wide(wide),
+            FormStop::Memory => AtomStop::Memory,
         }
     }
 }

@@ -9,7 +9,7 @@ use Rattle.spec_tableaux.proofs.Steps.{same_eqb}
 use Rattle.simplex_bounds.specs.declared.bounds.Bound.{Bound}
 use Rattle.simplex_bounds.specs.declared.bounds.Side.{Side}
 use Rattle.simplex_bounds.specs.declared.bounds.Side.TheVariants.{Lower, Upper}
-use Rattle.simplex_bounds.specs.declared.limits.Limits.{Limits}
+use Rattle.simplex_bounds.specs.declared.limits.VariableLimits.{VariableLimits}
 use Rattle.simplex_bounds.specs.Deltas.{pair_of}
 use Rattle.spec_strains.specs.Points.{deltas}
 use Rattle.simplex_bounds.specs.Held.{stronger, is_tighter, value_in, ranges_in, lesser, IsLeastCrossed}
@@ -18,7 +18,7 @@ use Rattle.simplex_bounds.proofs.Orders.{less_transitive}
 use Rattle.simplex_bounds.proofs.Strongest.{limits_more, limits_other}
 
 -- bounds that cross do so when one of them is tightened
-pub still_crossed : (l : Limits) (b : Bound) → are_crossed l ≡ true → are_crossed (tightened l b) ≡ true
+pub still_crossed : (l : VariableLimits) (b : Bound) → are_crossed l ≡ true → are_crossed (tightened l b) ≡ true
 still_crossed l b h = by b.side refl l.lower l.upper h
   where
     raised : (a u : Bound) (q : Bool) → deltas.less (pair_of a.value) (pair_of b.value) ≡ q → deltas.less (pair_of u.value) (pair_of a.value) ≡ true

@@ -6,7 +6,7 @@ use Rattle.spec_tableaux.proofs.Steps.{same_eqb}
 use Rattle.simplex_bounds.specs.declared.bounds.Bound.{Bound}
 use Rattle.simplex_bounds.specs.declared.bounds.Side.{Side}
 use Rattle.simplex_bounds.specs.declared.bounds.Side.TheVariants.{Lower, Upper}
-use Rattle.simplex_bounds.specs.declared.limits.Limits.{Limits}
+use Rattle.simplex_bounds.specs.declared.limits.VariableLimits.{VariableLimits}
 use Rattle.simplex_bounds.specs.Held.{same_side, is_of, stronger, strongest, strongest_after}
 use Rattle.simplex_bounds.specs.Limits.{unlimited, limit_at, with_limit, tightened, limits_in}
 
@@ -35,7 +35,7 @@ limits_other bs b y h = by b.side refl
     by Upper e = λ i. record { lower = by_side Lower y bs b Upper false e h i; upper = by_side Upper y bs b Upper false e h i }
 
 -- the limits of one variable are changed, and those of the others stay
-pub one_changed : (ls : List Limits) (x : ℕ) (t : Limits) (old new : ℕ → Limits) → x < length ls → ((y : ℕ) → slice_index_or ls y unlimited ≡ old y) → t ≡ new x
+pub one_changed : (ls : List VariableLimits) (x : ℕ) (t : VariableLimits) (old new : ℕ → VariableLimits) → x < length ls → ((y : ℕ) → slice_index_or ls y unlimited ≡ old y) → t ≡ new x
     → ((y : ℕ) → (x == y) ≡ false → new y ≡ old y) → (y : ℕ) → slice_index_or (slice_set ls x t) y unlimited ≡ new y
 one_changed ls x t old new h k e o y = by (x == y) refl
   where
@@ -44,7 +44,7 @@ one_changed ls x t old new h k e o y = by (x == y) refl
     by false g = get_or-set_other ls x y t unlimited (λ m. eqb-false x y g (sym m)) ∙ k y ∙ sym (o y g)
 
 -- what a bound found is put back
-pub put_back : (s : Side) (l : Limits) (t : Option Bound) → with_limit s (limit_at s l) (with_limit s t l) ≡ l
+pub put_back : (s : Side) (l : VariableLimits) (t : Option Bound) → with_limit s (limit_at s l) (with_limit s t l) ≡ l
 put_back Lower l t = refl
 put_back Upper l t = refl
 

@@ -5,7 +5,7 @@ ghost use Rattle.simplex_bounds.specs.Held.{lesser};
 ghost use Rattle.simplex_bounds.specs.Limits.{are_crossed};
 
 use crate::bounds::Bound;
-use crate::limits::Limits;
+use crate::limits::VariableLimits;
 use crate::ranges::Range;
 use std::alloc::Global;
 use std::marker::Model;
@@ -13,7 +13,7 @@ use world_io::NoMemory;
 
 /// Holds a bound with what it changed, so that this can be undone.
 #[derive(Clone, Copy)]
-pub(crate) struct Entry {
+pub(crate) struct HeldBound {
     /// The bound.
     pub(crate) bound: Bound,
     /// The strongest bound of its side and variable before it.
@@ -28,9 +28,9 @@ pub(crate) struct Entry {
 #[derive(Drop)]
 pub struct Bounds {
     /// For each variable its strongest bounds.
-    limits: Vec<Limits>,
+    limits: Vec<VariableLimits>,
     /// The bounds, oldest first.
-    entries: Vec<Entry>,
+    entries: Vec<HeldBound>,
 }
 
 impl Model for Bounds {
@@ -56,7 +56,7 @@ fn lesser_of(a: Option<u64>, y: u64) -> u64
 }
 
 /// Gives the least variable whose bounds cross once y has these limits, where before it was another one or none.
-fn crossed_after(before: Option<u64>, limits: Limits, y: u64) -> Option<u64>
+fn crossed_after(before: Option<u64>, limits: VariableLimits, y: u64) -> Option<u64>
     ensures { result ≡ cond (are_crossed limits) (Some (lesser before y)) before }
 {
     if limits.are_crossed() {
@@ -98,7 +98,7 @@ impl Bounds {
         ensures room { self.new.room ≡ self.old.room }
         ensures err { OnErr result (self.new ≡ self.old) }
     {
-        self.limits.push(Limits {
+        self.limits.push(VariableLimits {
             lower: None,
             upper: None,
         })?;
@@ -133,7 +133,7 @@ impl Bounds {
         let tightened = limits.tightened(bound);
         let crossed = crossed_after(before, tightened, bound.variable);
         self.limits[at] = tightened;
-        self.entries.push_reserved(Entry {
+        self.entries.push_reserved(HeldBound {
             bound,
             found: limits.at(bound.side),
             crossed,

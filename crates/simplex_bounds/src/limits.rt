@@ -12,7 +12,7 @@ use delta_num::Delta;
 
 /// Holds the strongest bounds of a variable, each where it has one.
 #[derive(Clone, Copy)]
-pub(crate) struct Limits {
+pub(crate) struct VariableLimits {
     /// The strongest lower bound.
     pub(crate) lower: Option<Bound>,
     /// The strongest upper bound.
@@ -49,7 +49,7 @@ fn value_of(bound: Option<Bound>) -> Option<Delta>
     }
 }
 
-impl Limits {
+impl VariableLimits {
     /// Gives the bound of a side.
     pub(crate) fn at(self, side: Side) -> Option<Bound>
         ensures { result ≡ limit_at side self }
@@ -61,15 +61,15 @@ impl Limits {
     }
 
     /// Gives the limits with another bound on a side.
-    pub(crate) fn with(self, side: Side, bound: Option<Bound>) -> Limits
+    pub(crate) fn with(self, side: Side, bound: Option<Bound>) -> VariableLimits
         ensures { result ≡ with_limit side bound self }
     {
         match side {
-            Side::Lower => Limits {
+            Side::Lower => VariableLimits {
                 lower: bound,
                 upper: self.upper,
             },
-            Side::Upper => Limits {
+            Side::Upper => VariableLimits {
                 lower: self.lower,
                 upper: bound,
             },
@@ -77,7 +77,7 @@ impl Limits {
     }
 
     /// Gives the limits once a bound of the variable is held.
-    pub(crate) fn tightened(self, bound: Bound) -> Limits
+    pub(crate) fn tightened(self, bound: Bound) -> VariableLimits
         ensures { result ≡ tightened self bound }
     {
         self.with(bound.side, stronger_of(self.at(bound.side), bound))

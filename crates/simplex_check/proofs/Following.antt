@@ -15,7 +15,7 @@ use Rattle.tableau.specs.Views.{IsColumn, row_at}
 use Rattle.spec_strains.specs.Points.{deltas, point_in, state_at, delta_in}
 use Rattle.simplex_check.specs.Changes.{is_changed}
 use Rattle.spec_strains.specs.Strains.{StrainsMove, coefficient_in, product, sum_of_product}
-use Rattle.simplex_check.specs.declared.changes.Change.{Change}
+use Rattle.simplex_check.specs.declared.changes.ValueChange.{ValueChange}
 use Rattle.simplex_check.proofs.Points.{deltas_are_space}
 use Rattle.simplex_check.proofs.RowPlaces.{HasPlace, has_place}
 
@@ -46,7 +46,7 @@ same_default (k ∷ ks) zero d e h = refl
 same_default (k ∷ ks) (suc j) d e h = same_default ks j d e (omega arith)
 
 -- variables that are not changed stay
-pub others_stay : (rs : List (Row Number)) (x : ℕ) (d : Pair Number) (v : ℕ → Pair Number) (column : List ℕ) (cs : List Change) → IsColumn rs x column → is_changed x cs ≡ true
+pub others_stay : (rs : List (Row Number)) (x : ℕ) (d : Pair Number) (v : ℕ → Pair Number) (column : List ℕ) (cs : List ValueChange) → IsColumn rs x column → is_changed x cs ≡ true
     → ((j : ℕ) → j < length column → is_changed (row_at rs (slice_index_or column j 0)).basic cs ≡ true) → (y : ℕ) → is_changed y cs ≡ false → moved deltas rs x d v y ≡ v y
 others_stay rs x d v column cs col first passed y n = by (is_basic y rs) refl
   where

@@ -26,12 +26,12 @@ use Rattle.simplex_check.specs.Boards.{BoardView, state_of}
 use Rattle.simplex_check.specs.Changes.{Lead, written}
 use Rattle.simplex_check.specs.Moves.{keeps}
 use Rattle.spec_strains.specs.Strains.{coefficient_in, Violates, goal, gap, StrainsMove, enters, settles, Strains, difference, quotient, move, rows}
-use Rattle.simplex_check.specs.declared.changes.Change.{Change}
+use Rattle.simplex_check.specs.declared.changes.ValueChange.{ValueChange}
 use Rattle.simplex_check.proofs.Points.{deltas_are_space, same_point}
 use Rattle.simplex_check.proofs.Writing.{written_leads}
 
 -- changes that were written lead to their point
-pub lead_written : (v w : ℕ → Pair Number) (cs : List Change) (u : ℕ → Pair Number) → Lead v w cs → ((y : ℕ) → u y ≡ written cs v y) → (y : ℕ) → u y ≡ w y
+pub lead_written : (v w : ℕ → Pair Number) (cs : List ValueChange) (u : ℕ → Pair Number) → Lead v w cs → ((y : ℕ) → u y ≡ written cs v y) → (y : ℕ) → u y ≡ w y
 lead_written v w cs u l h y = h y ∙ written_leads v w cs l.come l.others y
 
 pub same_lengths : (vs ws : List Delta) (n : ℕ) → length ws ≡ length vs → length (map pair_of vs) ≡ n → length (map pair_of ws) ≡ n

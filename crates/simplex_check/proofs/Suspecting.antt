@@ -20,7 +20,7 @@ use Rattle.spec_tableaux.proofs.Steps.{same_eqb}
 use Rattle.spec_strains.specs.Points.{deltas, Ranges, BoardState}
 use Rattle.simplex_check.specs.Changes.{Lead, is_changed}
 use Rattle.simplex_check.specs.Suspects.{is_among, Suspect, SuspectBut}
-use Rattle.simplex_check.specs.declared.changes.Change.{Change}
+use Rattle.simplex_check.specs.declared.changes.ValueChange.{ValueChange}
 
 same_number : (k x : ℕ) → nat_cmp k x ≡ Equal → k ≡ x
 same_number k x e = ranked k x Equal (sym e)
@@ -95,7 +95,7 @@ all_above k (x ∷ xs) a z h = by (all_above k xs (All-tail (λ q. nat_cmp k q �
     by f (inr m) = f m
 
 -- the first change is noted, and the others are still to be
-pub noted_more : (z : ℕ) (c : Change) (rest more : List Change) (old new : List ℕ) → rest ≡ c ∷ more → (is_among z old ≡ true → is_among z new ≡ true) → is_among c.variable new ≡ true
+pub noted_more : (z : ℕ) (c : ValueChange) (rest more : List ValueChange) (old new : List ℕ) → rest ≡ c ∷ more → (is_among z old ≡ true → is_among z new ≡ true) → is_among c.variable new ≡ true
     → (is_changed z rest ≡ true) ⊎ (is_among z old ≡ true) → (is_changed z more ≡ true) ⊎ (is_among z new ≡ true)
 noted_more z c rest more old new e k a (inr m) = inr (k m)
 noted_more z c rest more old new e k a (inl m) = by (z == c.variable) refl
@@ -104,7 +104,7 @@ noted_more z c rest more old new e k a (inl m) = by (z == c.variable) refl
     by true g = inr (let s : z ≡ c.variable = grind (arith, nat_tests) in ap (λ y. is_among y new) s ∙ a)
     by false g = inl (ap (λ q. q || is_changed z more) (sym g) ∙ ap (is_changed z) (sym e) ∙ m)
 
-pub noted_all : (z : ℕ) (rest : List Change) (ys : List ℕ) → rest ≡ [] → (is_changed z rest ≡ true) ⊎ (is_among z ys ≡ true) → is_among z ys ≡ true
+pub noted_all : (z : ℕ) (rest : List ValueChange) (ys : List ℕ) → rest ≡ [] → (is_changed z rest ≡ true) ⊎ (is_among z ys ≡ true) → is_among z ys ≡ true
 noted_all z rest ys e (inl m) = absurd (let n : is_changed z rest ≡ false = ap (is_changed z) e in cc)
 noted_all z rest ys e (inr m) = m
 
@@ -141,7 +141,7 @@ suspect_none ranges t ys s e y = at (is_out deltas ranges t y) refl
     at false p = refl
 
 -- after an exchange each variable that violates a bound did so before, or has changed
-pub suspect_exchange : (ranges : Ranges) (t u : BoardState) (b x : ℕ) (w : ℕ → Pair Number) (cs : List Change) (old new : List ℕ) → IsPivot numbers t.rows b x → u.rows ≡ exchanged numbers b x t.rows
+pub suspect_exchange : (ranges : Ranges) (t u : BoardState) (b x : ℕ) (w : ℕ → Pair Number) (cs : List ValueChange) (old new : List ℕ) → IsPivot numbers t.rows b x → u.rows ≡ exchanged numbers b x t.rows
     → Lead t.point w cs → ((y : ℕ) → u.point y ≡ w y) → is_changed x cs ≡ true → SuspectBut ranges t b old → ((z : ℕ) → is_among z old ≡ true → is_among z new ≡ true)
     → ((z : ℕ) → is_changed z cs ≡ true → is_among z new ≡ true) → Suspect ranges u new
 suspect_exchange ranges t u b x w cs old new p r lead point first s kept noted z out = by (is_changed z cs) refl

@@ -13,8 +13,8 @@ use Rattle.spec_strains.specs.Points.{deltas, Ranges}
 use Rattle.simplex_check.specs.Boards.{BoardView, state_of, IsBasisOf}
 use Rattle.spec_strains.specs.Strains.{Strains}
 use Rattle.spec_strains.specs.Runs.{SettlesBelow, Ran, Stopped, WantsMore}
-use Rattle.simplex_check.specs.declared.check.Outcome.{Outcome}
-use Rattle.simplex_check.specs.declared.check.Outcome.TheVariants.{Fine, Crossed, Conflict}
+use Rattle.simplex_check.specs.declared.check.CheckOutcome.{CheckOutcome}
+use Rattle.simplex_check.specs.declared.check.CheckOutcome.TheVariants.{Fine, Crossed, Conflict}
 
 -- the overflow is one of a step at the board, whose basic variables and values come with it
 abbrev pub IsStrainOf : Ranges → BoardView → Strain → Type 0
@@ -38,7 +38,7 @@ IsStopOf b stop (Pivots n) = ⊥
 IsStopOf b stop stops.Memory = Unit {0}
 
 -- what a check does to a board b and a budget old, by its result
-abbrev pub EndsCheck : Ranges → BoardView → BoardView → BudgetView → BudgetView → Result Outcome Stop → Type 0
+abbrev pub EndsCheck : Ranges → BoardView → BoardView → BudgetView → BudgetView → Result CheckOutcome Stop → Type 0
 EndsCheck ranges b c old new (Ok Fine) =
     Ran ranges (state_of b) (state_of c) old.exchanges new.exchanges × RuleSays deltas ranges (state_of c) done
 EndsCheck ranges b c old new (Ok (Conflict y)) =

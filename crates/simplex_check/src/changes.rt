@@ -9,7 +9,7 @@ use delta_num::Delta;
 
 /// A variable and the value that it comes to.
 #[derive(Clone, Copy)]
-pub(crate) struct Change {
+pub(crate) struct ValueChange {
     /// The number of the variable.
     pub(crate) variable: u64,
     /// The value.
@@ -25,7 +25,7 @@ pub(crate) fn value_at(values: &[Delta], y: u64) -> Delta
 }
 
 /// Makes changes of values, one after the other.
-pub(crate) fn write(values: &mut Vec<Delta>, changes: &[Change])
+pub(crate) fn write(values: &mut Vec<Delta>, changes: &[ValueChange])
     requires { ChangesAreBelow (length values.old.items) changes.now }
     ensures lengths { length values.new.items ≡ length values.old.items }
     ensures point { (y : ℕ) → point_in (map pair_of values.new.items) y

@@ -17,7 +17,7 @@ use world_io::NoMemory;
 
 /// Says what a check found.
 #[derive(Clone, Copy, PartialEq, Eq, Debug)]
-pub enum Outcome {
+pub enum CheckOutcome {
     /// The values keep each bound.
     Fine,
     /// The bounds of this variable cross; it is the least of which they do.
@@ -123,7 +123,7 @@ impl Board {
     /// where a number leaves the bound on fractions, with the basic variables and the values at which it did; the
     /// exchange that is kept last may not have been made then. `Memory` comes where there is no memory.
     /// Source: Dutertre and de Moura, A Fast Linear-Arithmetic Solver for DPLL(T), CAV 2006.
-    pub fn check(&mut self, bounds: &Bounds, budget: &mut Budget) -> Result<Outcome, Stop>
+    pub fn check(&mut self, bounds: &Bounds, budget: &mut Budget) -> Result<CheckOutcome, Stop>
         requires { bounds.now.variables ≤ self.old.tableau.variables }
         ensures ends { EndsCheck (ranges_in bounds.now.held) self.old self.new budget.old budget.new result }
         ensures variables { self.new.tableau.variables ≡ self.old.tableau.variables }
@@ -140,7 +140,7 @@ impl Board {
         bounds: &Bounds,
         kept: u64,
         budget: &mut Budget,
-    ) -> Result<Outcome, Stop>
+    ) -> Result<CheckOutcome, Stop>
         requires known { bounds.now.variables ≤ self.old.tableau.variables }
         requires kept { KeepsFirst kept bounds.now.held self.old.values }
         ensures ends { EndsCheck (ranges_in bounds.now.held) self.old self.new budget.old budget.new result }
@@ -149,7 +149,7 @@ impl Board {
         ensures budget { budget.new ≡ record budget.old { exchanges = budget.new.exchanges } }
     {
         if let Some(y) = bounds.crossed() {
-            return Ok(Outcome::Crossed(y));
+            return Ok(CheckOutcome::Crossed(y));
         }
         let mut suspects = match self.settle(bounds, kept) {
             Ok(suspects) => suspects,
@@ -158,9 +158,9 @@ impl Board {
         budget.is_within();
         'steps: loop {
             match self.next_among(bounds, &mut suspects) {
-                Move::Done => return Ok(Outcome::Fine),
-                Move::Crossed(y) => return Ok(Outcome::Crossed(y)),
-                Move::Conflict(b) => return Ok(Outcome::Conflict(b)),
+                Move::Done => return Ok(CheckOutcome::Fine),
+                Move::Crossed(y) => return Ok(CheckOutcome::Crossed(y)),
+                Move::Conflict(b) => return Ok(CheckOutcome::Conflict(b)),
                 Move::Exchange(leaving, entering) => {
                     match budget.exchanged(leaving, entering) {
                         Ok(()) => {}

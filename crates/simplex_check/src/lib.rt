@@ -19,5 +19,5 @@ mod sums;
 mod suspects;
 
 pub use board::Board;
-pub use check::Outcome;
+pub use check::CheckOutcome;
 pub use rule::Move;

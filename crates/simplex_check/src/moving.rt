@@ -9,7 +9,7 @@ ghost use Rattle.spec_strains.specs.Points.{deltas, point_in, state_at};
 ghost use Rattle.simplex_check.specs.Changes.{ChangesAreBelow, Lead, is_changed};
 ghost use Rattle.spec_strains.specs.Strains.{StrainsMove};
 
-use crate::changes::{Change, value_at};
+use crate::changes::{ValueChange, value_at};
 use delta_num::Delta;
 use simplex_bounds::deltas::{plus, scaled};
 use std::alloc::Global;
@@ -22,7 +22,7 @@ fn follower(
     row: u64,
     x: u64,
     d: Delta,
-) -> Result<Change, RowStop>
+) -> Result<ValueChange, RowStop>
     requires lengths { length values.now ≡ tableau.now.variables }
     requires row { row < length tableau.now.rows }
     ensures variable { IfOk result (λ c. c.variable ≡ (row_at tableau.now.rows row).basic) }
@@ -38,7 +38,7 @@ fn follower(
     let step = scaled(coefficient, d)?;
     let old = value_at(values, variable);
     let value = plus(old, step)?;
-    Ok(Change { variable, value })
+    Ok(ValueChange { variable, value })
 }
 
 /// Gives what variables come to where a nonbasic one changes by d: first this one, then basic ones. It takes time in
@@ -47,9 +47,9 @@ pub(crate) fn changes_of(
     alloc: Global,
     tableau: &Tableau,
     values: &[Delta],
-    first: Change,
+    first: ValueChange,
     d: Delta,
-) -> Result<Vec<Change>, RowStop>
+) -> Result<Vec<ValueChange>, RowStop>
     requires lengths { length values.now ≡ tableau.now.variables }
     requires known { first.variable < tableau.now.variables }
     requires nonbasic { IsNonbasic tableau.now.rows first.variable }

@@ -16,7 +16,7 @@ ghost use Rattle.simplex_check.specs.Ends.{IsStopOf};
 ghost use Rattle.simplex_check.specs.Suspects.{Suspect, SuspectBut, HaveSuspects};
 
 use crate::board::Board;
-use crate::changes::{Change, write};
+use crate::changes::{ValueChange, write};
 use crate::moving::changes_of;
 use crate::ranges::{goal_of, violated};
 use crate::suspects::Suspects;
@@ -31,7 +31,12 @@ use tableau::{Ratio, RowStop};
 impl Board {
     /// Lets a nonbasic variable change by d, and the basic ones follow. Each variable whose value changes is a suspect then. On a
     /// stop the board is as it was.
-    fn shift(&mut self, first: Change, d: Delta, suspects: &mut Suspects) -> Result<(), RowStop>
+    fn shift(
+        &mut self,
+        first: ValueChange,
+        d: Delta,
+        suspects: &mut Suspects,
+    ) -> Result<(), RowStop>
         requires known { first.variable < self.old.tableau.variables }
         requires nonbasic { IsNonbasic self.old.tableau.rows first.variable }
         requires start { pair_of first.value ≡ deltas.plus (point_in self.old.values first.variable) (pair_of d) }
@@ -76,7 +81,7 @@ impl Board {
             return Ok(());
         };
         let d = minus(bound, value)?;
-        let first = Change {
+        let first = ValueChange {
             variable: y,
             value: bound,
         };
@@ -132,7 +137,7 @@ impl Board {
         self.tableau.rows_are_in_solved_form();
         let d = self.distance_of(bounds, leaving, entering)?;
         let value = plus(self.value(entering), d)?;
-        let first = Change {
+        let first = ValueChange {
             variable: entering,
             value,
         };

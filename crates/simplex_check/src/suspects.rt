@@ -4,7 +4,7 @@ ghost use Rattle.std.specs.Prelude.{◌≡◌, ◌<◌, ◌⊎◌, ℕ, true, []
 ghost use Rattle.simplex_check.specs.Changes.{is_changed};
 ghost use Rattle.simplex_check.specs.Suspects.{is_among};
 
-use crate::changes::Change;
+use crate::changes::ValueChange;
 use std::alloc::Global;
 use std::collections::BTreeSet;
 use std::marker::Model;
@@ -56,7 +56,7 @@ impl Suspects {
     }
 
     /// Adds the variables of changes. `NoMemory` comes where one of them finds no memory.
-    pub(crate) fn add_all(&mut self, changes: &[Change]) -> Result<(), NoMemory>
+    pub(crate) fn add_all(&mut self, changes: &[ValueChange]) -> Result<(), NoMemory>
         ensures kept { (z : ℕ) → is_among z self.old ≡ true → is_among z self.new ≡ true }
         ensures added { OnOk result ((z : ℕ) → is_changed z changes.now ≡ true → is_among z self.new ≡ true) }
     {

@@ -6,7 +6,7 @@ use Rattle.sat_budget.specs.Budgets.{BudgetView}
 use Rattle.spec_strains.specs.Points.{deltas, point_in, Ranges}
 use Rattle.simplex_check.specs.Boards.{BoardView, state_of}
 use Rattle.simplex_check.specs.Ends.{EndsCheck}
-use Rattle.simplex_check.specs.declared.check.Outcome.TheVariants.{Fine}
+use Rattle.simplex_check.specs.declared.check.CheckOutcome.TheVariants.{Fine}
 use Rattle.simplex_reasons.proofs.Holding.{ran_settled}
 
 pub checked_meets : (ranges : Ranges) (b c : BoardView) (old new : BudgetView) → EndsCheck ranges b c old new (Ok Fine) → Meets deltas c.tableau.rows ranges (point_in c.values)

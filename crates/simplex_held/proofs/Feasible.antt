@@ -19,7 +19,7 @@ use Rattle.spec_strains.specs.Points.{deltas, point_in}
 use Rattle.simplex_bounds.specs.Held.{BoundsView, is_tighter, RespectsBound as KeepsBound}
 use Rattle.simplex_bounds.proofs.Keeping.{ranges_kept}
 use Rattle.simplex_check.specs.Boards.{BoardView}
-use Rattle.simplex_atoms.specs.declared.place.Place.{Place}
+use Rattle.simplex_atoms.specs.declared.place.Slack.{Slack}
 use Rattle.simplex_atoms.specs.Owners.{AreOwned}
 use Rattle.simplex_atoms.specs.Places.{IsPlaced, place_in}
 use Rattle.simplex_atoms.specs.Limits.{Limit, limit_of, limits_by, violates, KeepsLimit, AreLimitsKept}
@@ -48,7 +48,7 @@ bound_kept v b h = side_kept b.side (v b.variable) (pair_of b.value) h
 
 -- The place of the atom of a literal, whose form is that of what the literal says.
 pub record IsAt (t : TableView) (a : AtomsView) (b : BoardView) (l : Lit) (c : Constraint) : Type 0 where
-  pub place : Place
+  pub place : Slack
   pub there : place_in a.placed l.term ≡ Some place
   pub is : IsPlaced (setting_of t (ground_of a.owners b)) place (term_at t l.term)
   pub has : form_of c ≡ Ok is.form
@@ -60,7 +60,7 @@ module _ (t : TableView) (a : AtomsView) (b : BoardView) (bounds : BoundsView) (
   pub solved : Solves deltas v b.tableau.listed
   solved = listed_solved b.tableau k.tableau v k.meets.solves
 
-  limits_kept : (l : Lit) → Contains held l → (place : Place) → place_in a.placed l.term ≡ Some place → AreLimitsKept v (limits_by place l)
+  limits_kept : (l : Lit) → Contains held l → (place : Slack) → place_in a.placed l.term ≡ Some place → AreLimitsKept v (limits_by place l)
   limits_kept l h place e = all_from (KeepsLimit v) (limits_by place l) by
     where
       by : (x : Limit) → Contains (limits_by place l) x → KeepsLimit v x
@@ -72,7 +72,7 @@ module _ (t : TableView) (a : AtomsView) (b : BoardView) (bounds : BoundsView) (
   pub placed : (l : Lit) → Contains held l → (c : Constraint) → constraint_of (literal_at t l) ≡ Some c → IsAt t a b l c
   placed l h c f = by (place_in a.placed l.term) refl (All-contains (λ (l : Lit). IsKnownIn t a.placed l.term) held l k.known h)
     where
-      by : (o : Option Place) → place_in a.placed l.term ≡ o → IsWatched o (constraint_of (positive_literal (term_at t l.term))) → IsAt t a b l c
+      by : (o : Option Slack) → place_in a.placed l.term ≡ o → IsWatched o (constraint_of (positive_literal (term_at t l.term))) → IsAt t a b l c
       by None e w = absurd (none-some c (sym (says_nothing (term_at t l.term) l.positive w) ∙ f))
       by (Some place) e w =
           let is = (k.right.are_placed l.term place e).is in

@@ -9,14 +9,14 @@ use Rattle.term_core.specs.declared.ids.Lit.{Lit}
 use Rattle.term_core.specs.Tables.{TableView, literal_at, term_at}
 use Rattle.proof_log.specs.Theories.{TheoryView, IsAtomIn, IsTheoryOver, terms_watched}
 use Rattle.simplex_bounds.specs.declared.bounds.Bound.{Bound}
-use Rattle.simplex_atoms.specs.declared.place.Place.{Place}
+use Rattle.simplex_atoms.specs.declared.place.Slack.{Slack}
 use Rattle.simplex_explain.specs.declared.weighted.Weighted.{Weighted}
 use Rattle.simplex_explain.specs.Reasons.{Refutes, AreAtomReasons, AreHeld, literals_meant}
 use Rattle.simplex_reasons.specs.Reasons.{IsOfHeld, AreOfHeld}
 use Rattle.simplex_held.specs.Stated.{AreBoundsOf}
 use Rattle.simplex_held.proofs.Stating.{all_from, literals_held}
 
-pub reasons_held : (placed : List (ℕ × Place)) (held : List Lit) (bounds : List Bound) (rs : List Weighted) → AreBoundsOf placed held bounds → AreOfHeld bounds rs → AreHeld held rs
+pub reasons_held : (placed : List (ℕ × Slack)) (held : List Lit) (bounds : List Bound) (rs : List Weighted) → AreBoundsOf placed held bounds → AreOfHeld bounds rs → AreHeld held rs
 reasons_held placed held bounds rs are of = all_from (λ (r : Weighted). Contains held r.literal) rs by
   where
     by : (r : Weighted) → Contains rs r → Contains held r.literal
@@ -24,7 +24,7 @@ reasons_held placed held bounds rs are of = all_from (λ (r : Weighted). Contain
         let own = All-contains (IsOfHeld bounds) rs r of c in
         subst (Contains held) (sym own.literal) (literals_held placed held bounds are own.bound own.held_is)
 
-pub reasons_watched : (t : TableView) (view : TheoryView) (placed : List (ℕ × Place)) (bounds : List Bound) (rs : List Weighted) → AreBoundsOf placed view.held bounds → AreOfHeld bounds rs
+pub reasons_watched : (t : TableView) (view : TheoryView) (placed : List (ℕ × Slack)) (bounds : List Bound) (rs : List Weighted) → AreBoundsOf placed view.held bounds → AreOfHeld bounds rs
     → IsTheoryOver t view → All (λ (l : Lit). Contains view.watched l.term) view.held → AreAtomReasons (terms_watched t view) t rs
 reasons_watched t view placed bounds rs are of over watched = all_from (λ (r : Weighted). IsAtomIn t r.literal.term × Contains (terms_watched t view) (term_at t r.literal.term)) rs by
   where

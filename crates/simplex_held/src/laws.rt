@@ -14,8 +14,8 @@ ghost use Rattle.spec_strains.specs.Points.{deltas, point_in, Ranges};
 ghost use Rattle.simplex_bounds.specs.Held.{BoundsView};
 ghost use Rattle.simplex_check.specs.Boards.{BoardView};
 ghost use Rattle.simplex_check.specs.Ends.{EndsCheck};
-ghost use Rattle.simplex_check.specs.declared.check.Outcome.TheVariants.{Fine};
-ghost use Rattle.simplex_atoms.specs.declared.place.Place.{Place};
+ghost use Rattle.simplex_check.specs.declared.check.CheckOutcome.TheVariants.{Fine};
+ghost use Rattle.simplex_atoms.specs.declared.place.Slack.{Slack};
 ghost use Rattle.simplex_atoms.specs.Atoms.{AtomsView, AtomsFit};
 ghost use Rattle.simplex_explain.specs.declared.weighted.Weighted.{Weighted};
 ghost use Rattle.simplex_explain.specs.Reasons.{Refutes, AreAtomReasons, AreHeld};
@@ -26,9 +26,9 @@ ghost use Rattle.simplex_held.specs.Keeping.{KeepsHeld};
 
 /// States that each bound of held literals is one that its literal states, and that this literal is held.
 pub fn held_bounds_are_stated()
-    ensures stated { (placed : List (ℕ × Place)) (held : List Lit) (bounds : List Bound)
+    ensures stated { (placed : List (ℕ × Slack)) (held : List Lit) (bounds : List Bound)
         → AreBoundsOf placed held bounds → AreStated placed bounds }
-    ensures held { (placed : List (ℕ × Place)) (held : List Lit) (bounds : List Bound)
+    ensures held { (placed : List (ℕ × Slack)) (held : List Lit) (bounds : List Bound)
         → AreBoundsOf placed held bounds → (b : Bound) → Contains bounds b → Contains held b.literal }
 {}
 
@@ -55,10 +55,10 @@ pub fn refuting_reasons_are_infeasible()
 /// States that reasons of bounds that held literals state are held literals, of atoms that are watched where those of
 /// all held literals are.
 pub fn reasons_are_of_watched_atoms()
-    ensures reasons { (t : TableView) (view : TheoryView) (placed : List (ℕ × Place)) (bounds : List Bound)
+    ensures reasons { (t : TableView) (view : TheoryView) (placed : List (ℕ × Slack)) (bounds : List Bound)
         → (rs : List Weighted) → AreBoundsOf placed view.held bounds → AreOfHeld bounds rs → IsTheoryOver t view
         → All (λ (l : Lit). Contains view.watched l.term) view.held → AreAtomReasons (terms_watched t view) t rs }
-    ensures held { (placed : List (ℕ × Place)) (held : List Lit) (bounds : List Bound) (rs : List Weighted)
+    ensures held { (placed : List (ℕ × Slack)) (held : List Lit) (bounds : List Bound) (rs : List Weighted)
         → AreBoundsOf placed held bounds → AreOfHeld bounds rs → AreHeld held rs }
 {}
 

@@ -17,7 +17,7 @@ ghost use Rattle.simplex_bounds.specs.Deltas.{pair_of};
 ghost use Rattle.spec_strains.specs.Points.{deltas, point_in};
 ghost use Rattle.simplex_bounds.specs.Held.{BoundsView, ranges_in};
 ghost use Rattle.simplex_check.specs.Boards.{BoardView};
-ghost use Rattle.simplex_atoms.specs.declared.place.Place.{Place};
+ghost use Rattle.simplex_atoms.specs.declared.place.Slack.{Slack};
 ghost use Rattle.simplex_atoms.specs.Owners.{AreOwned};
 ghost use Rattle.simplex_atoms.specs.Limits.{Limit, limits_by};
 ghost use Rattle.simplex_atoms.specs.Atoms.{AtomsView};
@@ -39,7 +39,7 @@ pub fn smaller_numbers_keep_order()
 /// States that values that keep the strongest bounds at a number above 0 keep all bounds as numbers, without an
 /// infinitesimal part, strict ones too, where the tilts of these lead inward, as those of bounds that literals state do.
 pub fn bounds_at_numbers_are_kept_strictly()
-    ensures inward { (place : Place) (l : Lit) (b : Limit) → Contains (limits_by place l) b
+    ensures inward { (place : Slack) (l : Lit) (b : Limit) → Contains (limits_by place l) b
         → IsInward b.side b.value.tilt }
     ensures within { (held : List Bound) → ((b : Bound) → Contains held b → IsInward b.side (pair_of b.value).tilt)
         → (e : Number) → is_positive numbers e ≡ true → (v : ℕ → Pair Number) → KeepsAt e (ranges_in held) v

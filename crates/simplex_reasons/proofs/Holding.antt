@@ -12,7 +12,7 @@ use Rattle.simplex_bounds.specs.declared.bounds.Bound.{Bound}
 use Rattle.spec_strains.specs.Points.{deltas, BoardState, Ranges}
 use Rattle.spec_strains.specs.Runs.{Ran}
 use Rattle.simplex_check.proofs.Points.{deltas_are_ordered}
-use Rattle.simplex_atoms.specs.declared.place.Place.{Place}
+use Rattle.simplex_atoms.specs.declared.place.Slack.{Slack}
 use Rattle.simplex_atoms.specs.Places.{place_in}
 use Rattle.simplex_atoms.specs.Limits.{limit_of, limits_by, one_of, limits_meant}
 use Rattle.simplex_reasons.specs.Stops.{IsStatedBound, AreStated}
@@ -29,7 +29,7 @@ ran_settled ranges t u old new n r = makes_settled ranges r.start r.made u (sett
 
 -- each of the bounds that a literal states can be held
 
-module _ (laws : LimitLaws) (placed : List (ℕ × Place)) (n : ℕ) (l : Lit) (place : Place) (reach : AreReached placed n) (there : place_in placed l.term ≡ Some place) where
+module _ (laws : LimitLaws) (placed : List (ℕ × Slack)) (n : ℕ) (l : Lit) (place : Slack) (reach : AreReached placed n) (there : place_in placed l.term ≡ Some place) where
   fits_of : (o : Option Bound) → ((b : Bound) → o ≡ Some b → Contains (limits_by place l) (limit_of b)) → IsBoundStated placed o
   fits_of None h = tt
   fits_of (Some b) h =
@@ -53,5 +53,5 @@ module _ (laws : LimitLaws) (placed : List (ℕ × Place)) (n : ℕ) (l : Lit) (
     pub second_fits : IsBoundStated placed b × IsUnder n b
     second_fits = (fits_of b second_stated, under_of b second_stated)
 
-pub stated_more : (placed : List (ℕ × Place)) (held : List Bound) (o : Option Bound) (b : Bound) → o ≡ Some b → IsBoundStated placed o → AreStated placed held → AreStated placed (held ++ b ∷ [])
+pub stated_more : (placed : List (ℕ × Slack)) (held : List Bound) (o : Option Bound) (b : Bound) → o ≡ Some b → IsBoundStated placed o → AreStated placed held → AreStated placed (held ++ b ∷ [])
 stated_more placed held o b is fits stated = All-push (IsStatedBound placed) held b stated (subst (IsBoundStated placed) is fits)

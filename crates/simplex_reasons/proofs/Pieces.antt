@@ -28,9 +28,9 @@ use Rattle.simplex_bounds.specs.declared.bounds.Side.{Side}
 use Rattle.simplex_bounds.specs.declared.bounds.Side.TheVariants.{Lower, Upper}
 use Rattle.simplex_bounds.specs.Deltas.{pair_of}
 use Rattle.simplex_bounds.proofs.Keeping.{strongest_is_held}
-use Rattle.simplex_atoms.specs.declared.place.Kind.{Kind}
-use Rattle.simplex_atoms.specs.declared.place.Kind.TheVariants as kinds
-use Rattle.simplex_atoms.specs.declared.place.Place.{Place}
+use Rattle.simplex_atoms.specs.declared.place.Comparison.{Comparison}
+use Rattle.simplex_atoms.specs.declared.place.Comparison.TheVariants as kinds
+use Rattle.simplex_atoms.specs.declared.place.Slack.{Slack}
 use Rattle.simplex_atoms.specs.Owners.{AreOwned}
 use Rattle.simplex_atoms.specs.Places.{AtomSetting, relation_meant, relation_by, IsPlaced, place_in}
 use Rattle.simplex_atoms.specs.Limits.{Limit, limit_of, limits_where, limits_by, side_by, signed_by, weight_of, is_strict}
@@ -44,12 +44,12 @@ use Rattle.simplex_reasons.specs.Reasons.{Footing, weight_by, IsBoundReason}
 
 -- What bounds are that literals state.
 pub record LimitLaws : Type 0 where
-  pub states : (place : Place) (l : Lit) (b : Limit) → Contains (limits_by place l) b → (b.variable ≡ place.variable) × (b.literal ≡ l) × (b.value.base ≡ number_of place.bound)
-  pub tilt : (place : Place) (l : Lit) (r : Relation) → relation_by place.kind l.positive ≡ Some r → (b : Limit) → Contains (limits_by place l) b → is_strict r ≡ false → b.value.tilt ≡ numbers.zero
+  pub states : (place : Slack) (l : Lit) (b : Limit) → Contains (limits_by place l) b → (b.variable ≡ place.variable) × (b.literal ≡ l) × (b.value.base ≡ number_of place.bound)
+  pub tilt : (place : Slack) (l : Lit) (r : Relation) → relation_by place.kind l.positive ≡ Some r → (b : Limit) → Contains (limits_by place l) b → is_strict r ≡ false → b.value.tilt ≡ numbers.zero
 
 -- what a literal of a placed atom says
 
-kind_equals : (k : Kind) → equals ≡ relation_meant k → k ≡ kinds.Equal
+kind_equals : (k : Comparison) → equals ≡ relation_meant k → k ≡ kinds.Equal
 kind_equals kinds.Less e = cc
 kind_equals kinds.AtMost e = cc
 kind_equals kinds.Equal e = refl
@@ -58,7 +58,7 @@ kind_equals kinds.Equal e = refl
 abbrev pub with_relation : Relation → Constraint → Constraint
 with_relation r c = saying r c.atom c.left c.right
 
-less_reads : (b : Bool) (s u : Term) (c : Constraint) (k : Kind) (r : Relation) → where_true b (saying below (pair Less s u) s u) ≡ Some c → c.relation ≡ relation_meant k
+less_reads : (b : Bool) (s u : Term) (c : Constraint) (k : Comparison) (r : Relation) → where_true b (saying below (pair Less s u) s u) ≡ Some c → c.relation ≡ relation_meant k
     → relation_by k false ≡ Some r → where_true b (saying at_least (pair Less s u) s u) ≡ Some (with_relation r c)
 less_reads false s u c k r p q e = absurd (none-some c p)
 less_reads true s u c k r p q e =
@@ -67,7 +67,7 @@ less_reads true s u c k r p q e =
     let relation : at_least ≡ r = same_Some at_least r (sym (ap (λ j. relation_by j false) kind) ∙ e) in
     (λ i. Some (with_relation (relation i) (mine i)))
 
-at_most_reads : (b : Bool) (s u : Term) (c : Constraint) (k : Kind) (r : Relation) → where_true b (saying at_most (pair AtMost s u) s u) ≡ Some c → c.relation ≡ relation_meant k
+at_most_reads : (b : Bool) (s u : Term) (c : Constraint) (k : Comparison) (r : Relation) → where_true b (saying at_most (pair AtMost s u) s u) ≡ Some c → c.relation ≡ relation_meant k
     → relation_by k false ≡ Some r → where_true b (saying above (pair AtMost s u) s u) ≡ Some (with_relation r c)
 at_most_reads false s u c k r p q e = absurd (none-some c p)
 at_most_reads true s u c k r p q e =
@@ -76,13 +76,13 @@ at_most_reads true s u c k r p q e =
     let relation : above ≡ r = same_Some above r (sym (ap (λ j. relation_by j false) kind) ∙ e) in
     (λ i. Some (with_relation (relation i) (mine i)))
 
-equal_reads : (b : Bool) (s u : Term) (c : Constraint) (k : Kind) (r : Relation) → where_true b (saying equals (pair Equal s u) s u) ≡ Some c → c.relation ≡ relation_meant k → relation_by k false ≡ Some r → ⊥
+equal_reads : (b : Bool) (s u : Term) (c : Constraint) (k : Comparison) (r : Relation) → where_true b (saying equals (pair Equal s u) s u) ≡ Some c → c.relation ≡ relation_meant k → relation_by k false ≡ Some r → ⊥
 equal_reads false s u c k r p q e = none-some c p
 equal_reads true s u c k r p q e =
     let kind = kind_equals k (ap (λ (x : Constraint). x.relation) (same_Some (saying equals (pair Equal s u) s u) c p) ∙ q) in
     none-some r (sym (ap (λ j. relation_by j false) kind) ∙ e)
 
-negatively : (t : Term) (c : Constraint) (k : Kind) (r : Relation) → constraint_by true t ≡ Some c → c.relation ≡ relation_meant k → relation_by k false ≡ Some r
+negatively : (t : Term) (c : Constraint) (k : Comparison) (r : Relation) → constraint_by true t ≡ Some c → c.relation ≡ relation_meant k → relation_by k false ≡ Some r
     → constraint_by false t ≡ Some (with_relation r c)
 unfolding constraint_by
 negatively (app Less (cons s (cons u nil))) c k r p q e = less_reads (are_numbers s u) s u c k r p q e
@@ -90,7 +90,7 @@ negatively (app AtMost (cons s (cons u nil))) c k r p q e = at_most_reads (are_n
 negatively (app Equal (cons s (cons u nil))) c k r p q e = absurd (equal_reads (are_numbers s u) s u c k r p q e)
 negatively t c k r p q e = absurd (none-some c p)
 
-pub reads : (t : Term) (b : Bool) (c : Constraint) (k : Kind) (r : Relation) → constraint_by true t ≡ Some c → c.relation ≡ relation_meant k → relation_by k b ≡ Some r
+pub reads : (t : Term) (b : Bool) (c : Constraint) (k : Comparison) (r : Relation) → constraint_by true t ≡ Some c → c.relation ≡ relation_meant k → relation_by k b ≡ Some r
     → constraint_by b t ≡ Some (with_relation r c)
 reads t true c k r p q e =
     let relation : c.relation ≡ r = q ∙ same_Some (relation_meant k) r (sym (positively k) ∙ e) in
@@ -211,14 +211,14 @@ pub record Piece (t : TableView) (s : AtomSetting) (held : List Bound) (up : Boo
       → product_at (λ u. (n u).fraction) summand ≡ (beyond held up (flat v) e).base.fraction
   pub tilts : is_strict_by summand.constraint.relation summand.weight ≡ false → (v : ℕ → Number) → (beyond held up (flat v) e).tilt ≡ numbers.zero
 
-relation_there : (o : Option Relation) (up : Bool) (place : Place) (l : Lit) (b : Limit) → Contains (limits_where o up place l) b → (r : Relation) × (o ≡ Some r)
+relation_there : (o : Option Relation) (up : Bool) (place : Slack) (l : Lit) (b : Limit) → Contains (limits_where o up place l) b → (r : Relation) × (o ≡ Some r)
 relation_there None up place l b h = absurd (none b h)
 relation_there (Some r) up place l b h = (r, refl)
 
 -- the bound that stops an entry is one that its literal states, on the place that the reason names
 module _ (laws : LimitLaws) (t : TableView) (s : AtomSetting) (f : Footing) (up : Bool) (e : Entry Number) (w : Weighted) (stated : AreStated f.placed f.held)
-    (placed : (l : Lit) (place : Place) → place_in f.placed l.term ≡ Some place → IsPlaced s place (term_at t l.term)) (stopped : IsStopped f.held up e) (reason : IsBoundReason f up e w) where
-  abbrev place : Place
+    (placed : (l : Lit) (place : Slack) → place_in f.placed l.term ≡ Some place → IsPlaced s place (term_at t l.term)) (stopped : IsStopped f.held up e) (reason : IsBoundReason f up e w) where
+  abbrev place : Slack
   place = reason.place
 
   abbrev l : Lit

@@ -19,7 +19,7 @@ use Rattle.term_core.specs.declared.ids.TermId.{TermId}
 use Rattle.term_core.specs.Tables.{TableView, term_at}
 use Rattle.simplex_bounds.specs.declared.bounds.Bound.{Bound}
 use Rattle.spec_strains.specs.Points.{deltas}
-use Rattle.simplex_atoms.specs.declared.place.Place.{Place}
+use Rattle.simplex_atoms.specs.declared.place.Slack.{Slack}
 use Rattle.simplex_atoms.specs.Owners.{AreOwned}
 use Rattle.simplex_atoms.specs.Grounded.{AreGrounded}
 use Rattle.simplex_atoms.specs.Places.{AtomSetting, IsPlaced, place_in}
@@ -70,7 +70,7 @@ pieces_more t s held up e es w ws p ps = record {
 }
 
 module _ (laws : LimitLaws) (t : TableView) (s : AtomSetting) (f : Footing) (up : Bool) (stated : AreStated f.placed f.held)
-    (placed : (l : Lit) (place : Place) → place_in f.placed l.term ≡ Some place → IsPlaced s place (term_at t l.term)) where
+    (placed : (l : Lit) (place : Slack) → place_in f.placed l.term ≡ Some place → IsPlaced s place (term_at t l.term)) where
   pieces : (es : List (Entry Number)) (ws : List Weighted) → AreAllStopped f.held up es → AreReasonsFor f up es ws → Pieces t s f.held up es ws
   pieces [] [] st r = record {
     summands = [];
@@ -108,7 +108,7 @@ zero_solves (r ∷ rs) = (record { is = sym (none r.entries) }, zero_solves rs)
 -- reasons refute where their entries contradict the rows
 pub refutes : LimitLaws → (t : TableView) (owners : List (Option TermId)) (listed : List (Row Number)) (from to : ℕ) (f : Footing) (up : Bool) (es : List (Entry Number)) (ws : List Weighted)
     → AreGrounded owners from listed to → AreStated f.placed f.held
-    → ((l : Lit) (place : Place) → place_in f.placed l.term ≡ Some place → IsPlaced (record { table = t; owners = owners; listed = listed }) place (term_at t l.term))
+    → ((l : Lit) (place : Slack) → place_in f.placed l.term ≡ Some place → IsPlaced (record { table = t; owners = owners; listed = listed }) place (term_at t l.term))
     → Contradicts f.held up listed es → AreReasonsFor f up es ws → Refutes t ws
 refutes laws t owners listed from to f up es ws grounded stated placed c reasons =
     let s : AtomSetting = record { table = t; owners = owners; listed = listed } in

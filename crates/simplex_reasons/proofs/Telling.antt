@@ -17,7 +17,7 @@ use Rattle.simplex_bounds.specs.declared.bounds.Bound.{Bound}
 use Rattle.simplex_bounds.specs.declared.bounds.Side.{Side}
 use Rattle.simplex_bounds.specs.Held.{strongest}
 use Rattle.simplex_bounds.proofs.Keeping.{strongest_is_held}
-use Rattle.simplex_atoms.specs.declared.place.Place.{Place}
+use Rattle.simplex_atoms.specs.declared.place.Slack.{Slack}
 use Rattle.simplex_atoms.specs.Places.{place_in}
 use Rattle.simplex_explain.specs.declared.weighted.Weighted.{Weighted}
 use Rattle.simplex_reasons.specs.Stops.{IsStatedBound, AreStated, stopping_side, IsStopped, AreAllStopped}
@@ -42,7 +42,7 @@ size_of_other x h = λ i. record { num = sym (size_same x.fraction.num h) i; den
 
 -- a bound that is held has a place
 
-pub place_there : (placed : List (ℕ × Place)) (held : List Bound) (side : Side) (y : ℕ) (b : Bound) → AreStated placed held → strongest side y held ≡ Some b → place_in placed b.literal.term ≡ None → ⊥
+pub place_there : (placed : List (ℕ × Slack)) (held : List Bound) (side : Side) (y : ℕ) (b : Bound) → AreStated placed held → strongest side y held ≡ Some b → place_in placed b.literal.term ≡ None → ⊥
 place_there placed held side y b stated is none =
     let own = All-contains (IsStatedBound placed) held b stated (strongest_is_held side y held b is).0 in
     none-some own.place (sym none ∙ own.there)

@@ -2,13 +2,13 @@
 use Rattle.std.specs.Prelude.{◌≡◌, ℕ, ◌<◌, List, Option, Some, None}
 use Rattle.term_core.specs.declared.ids.TermId.{TermId}
 use Rattle.simplex_bounds.specs.declared.bounds.Bound.{Bound}
-use Rattle.simplex_atoms.specs.declared.place.Place.{Place}
+use Rattle.simplex_atoms.specs.declared.place.Slack.{Slack}
 use Rattle.simplex_atoms.specs.Places.{place_in}
 use Rattle.simplex_reasons.specs.Stops.{IsStatedBound}
 
 -- bounds can be held of the variable of each place
-abbrev pub AreReached : List (ℕ × Place) → ℕ → Type 0
-AreReached placed n = (id : TermId) (place : Place) → place_in placed id ≡ Some place → place.variable < n
+abbrev pub AreReached : List (ℕ × Slack) → ℕ → Type 0
+AreReached placed n = (id : TermId) (place : Slack) → place_in placed id ≡ Some place → place.variable < n
 
 -- a bound, if there is one, is of a variable below n
 abbrev pub IsUnder : ℕ → Option Bound → Type 0
@@ -16,6 +16,6 @@ IsUnder n None = Unit {0}
 IsUnder n (Some b) = b.variable < n
 
 -- a bound, if there is one, is stated by its literal
-abbrev pub IsBoundStated : List (ℕ × Place) → Option Bound → Type 0
+abbrev pub IsBoundStated : List (ℕ × Slack) → Option Bound → Type 0
 IsBoundStated placed None = Unit {0}
 IsBoundStated placed (Some b) = IsStatedBound placed b

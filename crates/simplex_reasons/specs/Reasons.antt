@@ -11,7 +11,7 @@ use Rattle.tableau.specs.Numbers.{number_of}
 use Rattle.simplex_bounds.specs.declared.bounds.Bound.{Bound}
 use Rattle.simplex_bounds.specs.Held.{BoundsView}
 use Rattle.simplex_check.specs.Boards.{BoardView}
-use Rattle.simplex_atoms.specs.declared.place.Place.{Place}
+use Rattle.simplex_atoms.specs.declared.place.Slack.{Slack}
 use Rattle.simplex_atoms.specs.Places.{relation_by, place_in}
 use Rattle.simplex_atoms.specs.Limits.{weight_of}
 use Rattle.simplex_atoms.specs.Atoms.{AtomsView}
@@ -24,7 +24,7 @@ use Rattle.simplex_reasons.specs.declared.stop.ReasonStop.TheVariants.{Wide, Mem
 -- Bounds, with the places of the atoms of their literals.
 pub record Footing : Type 0 where
   -- the places, by the numbers of the atoms
-  pub placed : List (ℕ × Place)
+  pub placed : List (ℕ × Slack)
   -- the bounds that are held
   pub held : List Bound
 
@@ -38,7 +38,7 @@ abbrev pub footing : AtomsView → BoundsView → Footing
 footing atoms bounds = record { placed = atoms.placed; held = bounds.held }
 
 -- the weight of a literal by what it says, where the variable on which it is placed is to have the weight s
-abbrev pub weight_by : Option Relation → Place → Number → Fraction
+abbrev pub weight_by : Option Relation → Slack → Number → Fraction
 weight_by (Some r) place s = weight_of r place s
 weight_by None place s = (numbers.times s (numbers.inverse (number_of place.factor))).fraction
 
@@ -49,7 +49,7 @@ pub record IsBoundReason (f : Footing) (up : Bool) (e : Entry Number) (w : Weigh
   pub stops : stop_of f.held up e ≡ Some bound
   pub literal : w.literal ≡ bound.literal
   -- the place of its literal's atom
-  pub place : Place
+  pub place : Slack
   pub there : place_in f.placed bound.literal.term ≡ Some place
   pub weight : fraction w.weight
       ≡ weight_by (relation_by place.kind bound.literal.positive) place (directed up e.coefficient)
@@ -77,7 +77,7 @@ pub record StrainsReason (f : Footing) (up : Bool) (e : Entry Number) (o : Overf
   pub bound : Bound
   pub stops : stop_of f.held up e ≡ Some bound
   -- the place of its literal's atom
-  pub place : Place
+  pub place : Slack
   pub there : place_in f.placed bound.literal.term ≡ Some place
   -- the coefficient, with its sign by the direction, over the factor of the place
   pub quotient : divided (directed up e.coefficient).fraction (fraction place.factor) ≡ Err o

@@ -15,7 +15,7 @@ ghost use Rattle.simplex_reasons.specs.Stops.{AreStated, HaveFactors, IsStopped}
 ghost use Rattle.simplex_reasons.specs.Reasons.{weight_by, footing, IsBoundReason, StrainsReason};
 
 use ratio128::{Ratio, Wide};
-use simplex_atoms::{Atoms, Kind, Place};
+use simplex_atoms::{Atoms, Comparison, Slack};
 use simplex_bounds::{Bound, Bounds, Lit, Side};
 use simplex_explain::Weighted;
 use tableau::Entry;
@@ -31,7 +31,7 @@ fn size(a: Ratio) -> Ratio
 /// Gives the weight of a literal with which the variable of its place has the weight `s`.
 ///
 /// The error comes where `s` over the factor leaves the bound on fractions.
-fn weight_by(place: Place, literal: Lit, s: Ratio) -> Result<Ratio, Wide>
+fn weight_by(place: Slack, literal: Lit, s: Ratio) -> Result<Ratio, Wide>
     requires { numbers.is_zero (number_of place.factor) ≡ false }
     ensures weight { IfOk result (λ w. fraction w
         ≡ weight_by (relation_by place.kind literal.positive) place (number_of s)) }
@@ -39,9 +39,9 @@ fn weight_by(place: Place, literal: Lit, s: Ratio) -> Result<Ratio, Wide>
 {
     let part = quotient(s, place.factor)?;
     Ok(match place.kind {
-        Kind::Equal => part,
-        Kind::Less => size(part),
-        Kind::AtMost => size(part),
+        Comparison::Equal => part,
+        Comparison::Less => size(part),
+        Comparison::AtMost => size(part),
     })
 }
 

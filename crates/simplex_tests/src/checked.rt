@@ -2,7 +2,7 @@
 
 use sat_budget::{Budget, Limits, Stop};
 use simplex_bounds::Bounds;
-use simplex_check::{Board, Outcome};
+use simplex_check::{Board, CheckOutcome};
 use std::alloc::Global;
 
 /// How many exchanges a check may make.
@@ -46,7 +46,11 @@ fn count(n: &mut u64) {
 }
 
 /// Checks a board whose variables the bounds are of.
-fn run(board: &mut Board, bounds: &Bounds, budget: &mut Budget) -> Option<Result<Outcome, Stop>> {
+fn run(
+    board: &mut Board,
+    bounds: &Bounds,
+    budget: &mut Budget,
+) -> Option<Result<CheckOutcome, Stop>> {
     if bounds.variables() > board.tableau().variables_len() {
         return None;
     }
@@ -62,7 +66,7 @@ fn outcome_within(
     bounds: &Bounds,
     pivots: u64,
     exchanges: &mut u64,
-) -> Option<Option<Outcome>> {
+) -> Option<Option<CheckOutcome>> {
     let limits = Limits {
         conflicts: 0,
         pivots,
@@ -86,7 +90,7 @@ fn outcome_in_pieces(
     bounds: &Bounds,
     exchanges: &mut u64,
     stops: &mut u64,
-) -> Option<Outcome> {
+) -> Option<CheckOutcome> {
     for _ in 0..PIVOTS {
         if let Some(outcome) = outcome_within(alloc, board, bounds, 1, exchanges)? {
             return Some(outcome);
@@ -107,13 +111,13 @@ fn values_agree(board: &Board, pieces: &Board, variables: u64) -> bool {
 }
 
 /// Counts an outcome; tells whether it is that all bounds are kept.
-fn count_outcome(tally: &mut Tally, outcome: Outcome) -> bool {
+fn count_outcome(tally: &mut Tally, outcome: CheckOutcome) -> bool {
     match outcome {
-        Outcome::Fine => count(&mut tally.fine),
-        Outcome::Crossed(_) => count(&mut tally.crossed),
-        Outcome::Conflict(_) => count(&mut tally.conflicts),
+        CheckOutcome::Fine => count(&mut tally.fine),
+        CheckOutcome::Crossed(_) => count(&mut tally.crossed),
+        CheckOutcome::Conflict(_) => count(&mut tally.conflicts),
     }
-    outcome == Outcome::Fine
+    outcome == CheckOutcome::Fine
 }
 
 /// Checks two boards, the second one with budgets of one exchange each. Tells whether all bounds are kept.

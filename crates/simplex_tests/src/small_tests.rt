@@ -4,7 +4,7 @@ use delta_num::Delta;
 use ratio128::Op;
 use sat_budget::{Budget, Limits, Stop};
 use simplex_bounds::{Bound, Bounds, Lit, Side};
-use simplex_check::{Board, Outcome};
+use simplex_check::{Board, CheckOutcome};
 use std::alloc::Global;
 use std::test::Fail;
 use tableau::{Entry, Ratio, RowStop};
@@ -59,7 +59,11 @@ fn bounds_of(alloc: Global, list: &[(u64, Side, i64)]) -> Result<Bounds, NoMemor
 }
 
 /// Checks a board whose variables the bounds are of.
-fn run(board: &mut Board, bounds: &Bounds, budget: &mut Budget) -> Option<Result<Outcome, Stop>> {
+fn run(
+    board: &mut Board,
+    bounds: &Bounds,
+    budget: &mut Budget,
+) -> Option<Result<CheckOutcome, Stop>> {
     if bounds.variables() > board.tableau().variables_len() {
         return None;
     }
@@ -88,7 +92,7 @@ fn values_are(board: &Board, want: (i64, i64, i64)) -> bool {
 fn comes_to(
     alloc: Global,
     list: &[(u64, Side, i64)],
-    want: Outcome,
+    want: CheckOutcome,
     exchanges: &[(u64, u64)],
     values: (i64, i64, i64),
 ) -> Option<bool> {
@@ -114,7 +118,7 @@ fn checks_exchange_as_the_rule_says(rt: HostRuntime) -> Result<(), Fail> {
     let fine = comes_to(
         rt.alloc(),
         &upper,
-        Outcome::Fine,
+        CheckOutcome::Fine,
         &[(2, 0), (0, 1)],
         (1, 1, 2),
     );
@@ -127,7 +131,7 @@ fn checks_exchange_as_the_rule_says(rt: HostRuntime) -> Result<(), Fail> {
     let conflict = comes_to(
         rt.alloc(),
         &narrow,
-        Outcome::Conflict(1),
+        CheckOutcome::Conflict(1),
         &[(2, 0), (0, 1)],
         (1, 4, 5),
     );
@@ -138,14 +142,20 @@ fn checks_exchange_as_the_rule_says(rt: HostRuntime) -> Result<(), Fail> {
 #[test]
 fn nonbasic_variables_go_to_their_bounds(rt: HostRuntime) -> Result<(), Fail> {
     let lower = [(0, Side::Lower, 3), (1, Side::Upper, -1)];
-    let settled = comes_to(rt.alloc(), &lower, Outcome::Fine, &[], (3, -1, 2));
+    let settled = comes_to(rt.alloc(), &lower, CheckOutcome::Fine, &[], (3, -1, 2));
     assert_eq!(rt; settled, Some(true));
     let crossed = [
         (0, Side::Lower, 3),
         (1, Side::Lower, 2),
         (1, Side::Upper, 1),
     ];
-    let nothing = comes_to(rt.alloc(), &crossed, Outcome::Crossed(1), &[], (0, 0, 0));
+    let nothing = comes_to(
+        rt.alloc(),
+        &crossed,
+        CheckOutcome::Crossed(1),
+        &[],
+        (0, 0, 0),
+    );
     assert_eq!(rt; nothing, Some(true));
     Ok(())
 }

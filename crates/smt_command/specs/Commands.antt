@@ -14,7 +14,7 @@ use Rattle.smt_lexer.specs.declared.Refused.TheVariants as refusals
 use Rattle.smt_sexpr.specs.declared.sexpr.Sexpr.{Sexpr}
 use Rattle.smt_sexpr.specs.Items.{trees_meant, tree_meant, tree_of, text_of}
 use Rattle.smt_sexpr.specs.Views.{word_view}
-use Rattle.smt_command.specs.declared.commands.Parts.{Parts as CodeParts}
+use Rattle.smt_command.specs.declared.commands.FunctionText.{FunctionText as CodeParts}
 use Rattle.smt_command.specs.declared.commands.Command.{Command as CodeCommand}
 use Rattle.smt_command.specs.declared.commands.Command.TheVariants as code
 use Rattle.smt_command.specs.declared.commands.Verb.{Verb as CodeVerb}

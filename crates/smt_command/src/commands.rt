@@ -27,7 +27,7 @@ pub enum Command<'a> {
     /// A function under its name, the sorts of its parameters, none or more, and the sort of its values.
     DeclareFun(Word<'a>, Trees<'a>, Trees<'a>),
     /// The definition of a function, by its parts.
-    DefineFun(Parts<'a>),
+    DefineFun(FunctionText<'a>),
     /// The term is asserted.
     Assert(Trees<'a>),
     /// What is asserted is to be checked. The number is the offset of the word `check-sat`, in bytes.
@@ -40,7 +40,7 @@ pub enum Command<'a> {
 
 /// The definition of a function, by its parts as they are written. Source: SMT-LIB 2.6, section 4.2.3.
 #[derive(Clone, Copy)]
-pub struct Parts<'a> {
+pub struct FunctionText<'a> {
     /// The name of the function.
     pub name: Word<'a>,
     /// Its parameters, none or more: each a list of a name and a sort.

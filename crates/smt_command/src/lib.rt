@@ -9,7 +9,7 @@ mod reading;
 mod settings;
 mod shapes;
 
-pub use commands::{Command, Parts};
+pub use commands::{Command, FunctionText};
 pub use reading::command;
 pub use settings::{Logic, OptionKey, truth_in};
 pub use shapes::{define_fun, is_name};

@@ -7,7 +7,7 @@ ghost use Rattle.smt_sexpr.specs.Items.{trees_meant, tree_meant, two};
 ghost use Rattle.smt_sexpr.specs.Views.{word_rest};
 ghost use Rattle.smt_command.specs.Commands.{command_view, verb_meant, named_parts, is_named};
 
-use crate::commands::{Command, Parts, Verb};
+use crate::commands::{Command, FunctionText, Verb};
 use smt_sexpr::{
     Kind, Trees, Word, is_keyword, is_reserved, is_symbol, list_first, list_inside, passes,
     same_bytes, split, tree_alone, want_end, word_first,
@@ -191,7 +191,7 @@ pub fn define_fun(trees: Trees<'_>) -> Option<Command<'_>>
     passes(are_named(parameters))?;
     let (result, rest) = tree_first(rest)?;
     let body = tree_alone(rest)?;
-    Some(Command::DefineFun(Parts {
+    Some(Command::DefineFun(FunctionText {
         name,
         parameters,
         result,

@@ -9,8 +9,8 @@ use Rattle.spec_text.specs.declared.Fault.TheVariants.{BadChar}
 use Rattle.spec_text.specs.Bytes.{is_blank, is_digit, is_symbol_byte, is_in_bars, is_in_comment, front}
 use Rattle.spec_text.specs.Lexemes as lexicon
 use Rattle.spec_text.specs.Lexemes.{Piece, piece, word}
-use Rattle.smt_lexer.specs.declared.pieces.Head.{Head}
-use Rattle.smt_lexer.specs.declared.pieces.Head.TheVariants as heads
+use Rattle.smt_lexer.specs.declared.pieces.FirstByte.{FirstByte}
+use Rattle.smt_lexer.specs.declared.pieces.FirstByte.TheVariants as heads
 use Rattle.smt_lexer.specs.Pieces.{head_at}
 use Rattle.smt_lexer.proofs.Runs.{front_is_taken}
 
@@ -41,7 +41,7 @@ number_is_decimal bytes k n lt e l some =
     ap (lexicon.number (take k bytes)) here ∙ decimal_is (take k bytes) places (drop (length places) rest) (λ z. some (l ∙ z)) ∙ rw (size, behind, text) refl
 
 -- what bytes begin with, by what the first of them says
-abbrev pub piece_by : Head → ℕ → List ℕ → Piece
+abbrev pub piece_by : FirstByte → ℕ → List ℕ → Piece
 piece_by heads.Blank b bs = piece lexicon.blank 1
 piece_by heads.Semicolon b bs = piece lexicon.blank (1 + length (front is_in_comment bs))
 piece_by heads.Open b bs = piece lexicon.opens 1
@@ -58,7 +58,7 @@ pub piece_by_head : (b : ℕ) (bs : List ℕ) → lexicon.first_piece b bs ≡ p
 unfolding lexicon.first_piece
 piece_by_head b bs = go (is_blank b) (b == 59) (b == 40) (b == 41) (b == 48) (is_digit b) (b == 34) (b == 124) (b == 58) (is_symbol_byte b) (λ e. grind (arith, nat_tests))
   where
-    p : Head → Piece
+    p : FirstByte → Piece
     p h = piece_by h b bs
 
     go : (blank semicolon opens closes zero_is digit quote bar colon symbol : Bool) → (zero_is ≡ true → b ≡ 48) → cond blank (p heads.Blank) (cond semicolon (p heads.Semicolon) (cond opens (p heads.Open) (cond closes (p heads.Close) (cond zero_is (lexicon.number (48 ∷ []) bs) (cond digit (p heads.Digit) (cond quote (p heads.Quote) (cond bar (p heads.Bar) (cond colon (p heads.Colon) (cond symbol (p heads.Symbol) (p heads.Other)))))))))) ≡ p (cond blank heads.Blank (cond semicolon heads.Semicolon (cond opens heads.Open (cond closes heads.Close (cond zero_is heads.Zero (cond digit heads.Digit (cond quote heads.Quote (cond bar heads.Bar (cond colon heads.Colon (cond symbol heads.Symbol heads.Other))))))))))
@@ -75,7 +75,7 @@ piece_by_head b bs = go (is_blank b) (b == 59) (b == 40) (b == 41) (b == 48) (is
     go false false false false false false false false false false e = refl
 
 -- what bytes begin with, where their first says this
-pub piece_at_head : (head h : Head) (b : ℕ) (bs : List ℕ) → head ≡ head_at b → head ≡ h → lexicon.first_piece b bs ≡ piece_by h b bs
+pub piece_at_head : (head h : FirstByte) (b : ℕ) (bs : List ℕ) → head ≡ head_at b → head ≡ h → lexicon.first_piece b bs ≡ piece_by h b bs
 piece_at_head head h b bs at is = piece_by_head b bs ∙ ap (λ k. piece_by k b bs) (sym at ∙ is)
 
 -- the first byte and a run after it

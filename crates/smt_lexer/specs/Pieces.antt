@@ -4,9 +4,9 @@ use Rattle.spec_text.specs.Bytes.{is_blank, is_digit, is_symbol_byte}
 use Rattle.spec_text.specs.Lexemes.{Lexeme, blank, opens, closes, word, wrong, Piece, piece, string_body}
 use Rattle.smt_lexer.specs.declared.pieces.What.{What}
 use Rattle.smt_lexer.specs.declared.pieces.What.TheVariants as whats
-use Rattle.smt_lexer.specs.declared.pieces.Found.{Found}
-use Rattle.smt_lexer.specs.declared.pieces.Head.{Head}
-use Rattle.smt_lexer.specs.declared.pieces.Head.TheVariants as heads
+use Rattle.smt_lexer.specs.declared.pieces.FoundPiece.{FoundPiece}
+use Rattle.smt_lexer.specs.declared.pieces.FirstByte.{FirstByte}
+use Rattle.smt_lexer.specs.declared.pieces.FirstByte.TheVariants as heads
 
 -- the lexeme that it stands for
 abbrev pub lexeme_of : What → Lexeme
@@ -17,11 +17,11 @@ lexeme_of (whats.Word k bytes) = word k bytes.now
 lexeme_of (whats.Wrong f) = wrong f
 
 -- the lexeme with its number of bytes
-abbrev pub piece_of : Found → Piece
+abbrev pub piece_of : FoundPiece → Piece
 piece_of f = piece (lexeme_of f.what) f.size
 
 -- what a first byte begins
-abbrev pub head_at : ℕ → Head
+abbrev pub head_at : ℕ → FirstByte
 head_at b =
     if is_blank b then heads.Blank
     else if b == 59 then heads.Semicolon

@@ -26,7 +26,7 @@ pub enum What<'a> {
 
 /// What bytes begin with, and how many of them it has; of a fault, how many stand before it.
 #[derive(Clone, Copy, Debug)]
-pub struct Found<'a> {
+pub struct FoundPiece<'a> {
     /// What it is.
     pub what: What<'a>,
     /// How many bytes.
@@ -35,7 +35,7 @@ pub struct Found<'a> {
 
 /// What a first byte begins.
 #[derive(Clone, Copy, Debug, PartialEq, Eq)]
-enum Head {
+enum FirstByte {
     /// White space.
     Blank,
     /// `;`, which begins a comment.
@@ -61,39 +61,39 @@ enum Head {
 }
 
 /// Says what a first byte begins. Source: SMT-LIB 2.6, section 3.1.
-fn head_of(b: u8) -> Head
+fn head_of(b: u8) -> FirstByte
     ensures { result ≡ head_at b }
 {
     if is_blank_byte(b) {
-        return Head::Blank;
+        return FirstByte::Blank;
     }
     match b {
-        b';' => Head::Semicolon,
-        b'(' => Head::Open,
-        b')' => Head::Close,
-        b'0' => Head::Zero,
-        b'1'..=b'9' => Head::Digit,
-        b'"' => Head::Quote,
-        b'|' => Head::Bar,
-        b':' => Head::Colon,
-        _ if is_of_symbols(b) => Head::Symbol,
-        _ => Head::Other,
+        b';' => FirstByte::Semicolon,
+        b'(' => FirstByte::Open,
+        b')' => FirstByte::Close,
+        b'0' => FirstByte::Zero,
+        b'1'..=b'9' => FirstByte::Digit,
+        b'"' => FirstByte::Quote,
+        b'|' => FirstByte::Bar,
+        b':' => FirstByte::Colon,
+        _ if is_of_symbols(b) => FirstByte::Symbol,
+        _ => FirstByte::Other,
     }
 }
 
 /// Gives a fault after so many bytes.
-fn fault_at<'a>(fault: Fault, size: usize) -> Found<'a>
+fn fault_at<'a>(fault: Fault, size: usize) -> FoundPiece<'a>
     ensures within { (n : ℕ) → size ≤ n → IsPieceWithin result.what result.size n }
     ensures piece { piece_of result ≡ lexicon.piece (lexicon.wrong fault) size }
 {
-    Found {
+    FoundPiece {
         what: What::Wrong(fault),
         size,
     }
 }
 
 /// Ends a number after so many bytes: there stands no byte of symbols. Source: SMT-LIB 2.6, section 3.1.
-fn ended<'a>(bytes: &'a [u8], size: usize, kind: Kind) -> Found<'a>
+fn ended<'a>(bytes: &'a [u8], size: usize, kind: Kind) -> FoundPiece<'a>
     requires some { 0 < size }
     requires within { size ≤ length bytes.now }
     ensures within { IsPieceWithin result.what result.size (length bytes.now) }
@@ -103,14 +103,14 @@ fn ended<'a>(bytes: &'a [u8], size: usize, kind: Kind) -> Found<'a>
     if size < bytes.len() && is_of_symbols(bytes[size]) {
         return fault_at(Fault::BadChar, size);
     }
-    Found {
+    FoundPiece {
         what: What::Word(kind, &bytes[..size]),
         size,
     }
 }
 
 /// Reads a number that begins with so many digits. Source: SMT-LIB 2.6, section 3.1.
-fn number<'a>(bytes: &'a [u8], digits: usize) -> Found<'a>
+fn number<'a>(bytes: &'a [u8], digits: usize) -> FoundPiece<'a>
     requires some { 0 < digits }
     requires within { digits ≤ length bytes.now }
     ensures within { IsPieceWithin result.what result.size (length bytes.now) }
@@ -145,14 +145,14 @@ fn body_len(bytes: &[u8]) -> Option<usize>
 }
 
 /// Reads a string after its opening quote. Source: SMT-LIB 2.6, section 3.1.
-fn string<'a>(rest: &'a [u8]) -> Found<'a>
+fn string<'a>(rest: &'a [u8]) -> FoundPiece<'a>
     requires { length rest.now + 1 < 2 ^ 64 }
     ensures within { (n : ℕ) → 1 + length rest.now ≤ n → IsPieceWithin result.what result.size n }
     ensures piece { piece_of result ≡ lexicon.string (lexicon.string_body rest.now) }
 {
     match body_len(rest) {
         None => fault_at(Fault::UnclosedString, 0),
-        Some(n) => Found {
+        Some(n) => FoundPiece {
             what: What::Word(Kind::Text, &rest[..n]),
             size: n + 2,
         },
@@ -160,7 +160,7 @@ fn string<'a>(rest: &'a [u8]) -> Found<'a>
 }
 
 /// Reads a quoted symbol after its opening bar. Source: SMT-LIB 2.6, section 3.1.
-fn quoted<'a>(rest: &'a [u8]) -> Found<'a>
+fn quoted<'a>(rest: &'a [u8]) -> FoundPiece<'a>
     ensures within { (n : ℕ) → 1 + length rest.now ≤ n → IsPieceWithin result.what result.size n }
     ensures piece { piece_of result
         ≡ lexicon.quoted (names.front names.is_in_bars rest.now)
@@ -173,14 +173,14 @@ fn quoted<'a>(rest: &'a [u8]) -> Found<'a>
     if rest[n] != b'|' {
         return fault_at(Fault::BadChar, n + 1);
     }
-    Found {
+    FoundPiece {
         what: What::Word(Kind::Quoted, &rest[..n]),
         size: n + 2,
     }
 }
 
 /// Reads a keyword after its colon. Source: SMT-LIB 2.6, section 3.1.
-fn keyword<'a>(rest: &'a [u8]) -> Found<'a>
+fn keyword<'a>(rest: &'a [u8]) -> FoundPiece<'a>
     ensures within { (n : ℕ) → 1 + length rest.now ≤ n → IsPieceWithin result.what result.size n }
     ensures piece { piece_of result ≡ lexicon.keyword (names.front names.is_symbol_byte rest.now) }
 {
@@ -188,14 +188,14 @@ fn keyword<'a>(rest: &'a [u8]) -> Found<'a>
     if n == 0 {
         return fault_at(Fault::BadChar, 0);
     }
-    Found {
+    FoundPiece {
         what: What::Word(Kind::Keyword, &rest[..n]),
         size: n + 1,
     }
 }
 
 /// Reads a symbol without bars, or a reserved word. Source: SMT-LIB 2.6, section 3.1.
-fn symbol<'a>(bytes: &'a [u8], size: usize) -> Found<'a>
+fn symbol<'a>(bytes: &'a [u8], size: usize) -> FoundPiece<'a>
     requires some { 0 < size }
     requires within { size ≤ length bytes.now }
     ensures within { IsPieceWithin result.what result.size (length bytes.now) }
@@ -207,37 +207,37 @@ fn symbol<'a>(bytes: &'a [u8], size: usize) -> Found<'a>
     } else {
         Kind::Simple
     };
-    Found {
+    FoundPiece {
         what: What::Word(kind, name),
         size,
     }
 }
 
 /// Reads what bytes begin with, as long as it can be. Source: SMT-LIB 2.6, section 3.1.
-fn first_piece<'a>(bytes: &'a [u8]) -> Found<'a>
+fn first_piece<'a>(bytes: &'a [u8]) -> FoundPiece<'a>
     requires { 0 < length bytes.now }
     ensures within { IsPieceWithin result.what result.size (length bytes.now) }
     ensures piece { piece_of result ≡ lexicon.first_piece (slice_index bytes.now 0) (drop 1 bytes.now) }
 {
     let rest = &bytes[1..];
     let (what, size) = match head_of(bytes[0]) {
-        Head::Blank => (What::Blank, 1),
-        Head::Semicolon => (What::Blank, 1 + front_len(rest, Class::InComment)),
-        Head::Open => (What::Open, 1),
-        Head::Close => (What::Close, 1),
-        Head::Zero => return number(bytes, 1),
-        Head::Digit => return number(bytes, 1 + front_len(rest, Class::Digit)),
-        Head::Quote => return string(rest),
-        Head::Bar => return quoted(rest),
-        Head::Colon => return keyword(rest),
-        Head::Symbol => return symbol(bytes, 1 + front_len(rest, Class::Symbol)),
-        Head::Other => return fault_at(Fault::BadChar, 0),
+        FirstByte::Blank => (What::Blank, 1),
+        FirstByte::Semicolon => (What::Blank, 1 + front_len(rest, Class::InComment)),
+        FirstByte::Open => (What::Open, 1),
+        FirstByte::Close => (What::Close, 1),
+        FirstByte::Zero => return number(bytes, 1),
+        FirstByte::Digit => return number(bytes, 1 + front_len(rest, Class::Digit)),
+        FirstByte::Quote => return string(rest),
+        FirstByte::Bar => return quoted(rest),
+        FirstByte::Colon => return keyword(rest),
+        FirstByte::Symbol => return symbol(bytes, 1 + front_len(rest, Class::Symbol)),
+        FirstByte::Other => return fault_at(Fault::BadChar, 0),
     };
-    Found { what, size }
+    FoundPiece { what, size }
 }
 
 /// Reads what the bytes from an offset on begin with. Source: SMT-LIB 2.6, section 3.1.
-pub fn piece_at<'a>(bytes: &'a [u8], at: usize) -> Found<'a>
+pub fn piece_at<'a>(bytes: &'a [u8], at: usize) -> FoundPiece<'a>
     requires { at < length bytes.now }
     ensures within { IsPieceWithin result.what result.size (length bytes.now - at) }
     ensures piece { piece_of result ≡ lexicon.first_piece (slice_index bytes.now at) (drop (at + 1) bytes.now) }

@@ -9,8 +9,8 @@ use Rattle.smt_lexer.specs.declared.Refusal.{Refusal}
 use Rattle.smt_lexer.specs.declared.Refused.{Refused}
 use Rattle.smt_lexer.specs.declared.Refused.TheVariants as refused
 use Rattle.smt_sexpr.specs.declared.limited.LimitedText.{LimitedText}
-use Rattle.smt_sexpr.specs.declared.reader.Next.{Next}
-use Rattle.smt_sexpr.specs.declared.reader.Next.TheVariants as next
+use Rattle.smt_sexpr.specs.declared.reader.NextSexpr.{NextSexpr}
+use Rattle.smt_sexpr.specs.declared.reader.NextSexpr.TheVariants as next
 use Rattle.smt_sexpr.specs.declared.sexpr.Sexpr.{Sexpr}
 use Rattle.smt_sexpr.specs.Reads.{ReadsSexpr, Closes}
 
@@ -43,7 +43,7 @@ pub record IsStopped (text : List ℕ) (n : ℕ) (xs : List (ℕ × Lexeme)) (r 
   pub place : IsPlaceOf (kept text) r.place
 
 -- an s-expression, or the end of the innermost open list, or the end of the whole text, or a fault of it
-abbrev pub ReadsNextOf : List ℕ → Place → ℕ → Result Next Refused → Type 0
+abbrev pub ReadsNextOf : List ℕ → Place → ℕ → Result NextSexpr Refused → Type 0
 ReadsNextOf text from n (Ok (next.One s after)) = ReadsSexpr (kept text) from n s after
 ReadsNextOf text from n (Ok (next.Close after)) = Closes (kept text) from n after
 ReadsNextOf text from n (Ok next.End) = (n ≡ 0) × (lexemes_from (kept text) from.offset ≡ []) × (is_long text ≡ false)

@@ -12,8 +12,8 @@ use Rattle.smt_lexer.specs.declared.Refused.{Refused}
 use Rattle.smt_lexer.specs.declared.Refused.TheVariants as refused
 use Rattle.smt_sexpr.specs.declared.items.Item.{Item}
 use Rattle.smt_sexpr.specs.Means.{trees_in, flat}
-use Rattle.smt_sexpr.specs.declared.reader.Next.{Next}
-use Rattle.smt_sexpr.specs.declared.reader.Next.TheVariants as next
+use Rattle.smt_sexpr.specs.declared.reader.NextSexpr.{NextSexpr}
+use Rattle.smt_sexpr.specs.declared.reader.NextSexpr.TheVariants as next
 use Rattle.smt_sexpr.specs.declared.sexpr.Sexpr.{Sexpr}
 use Rattle.smt_sexpr.specs.Items.{text_of, items_of, start_of, tree_of, IsWithin}
 
@@ -61,7 +61,7 @@ abbrev pub Breaks : List ℕ → ℕ → List (ℕ × Lexeme) → Refusal → Ty
 Breaks text n xs r = IsBroken (length text) n xs (record { offset = r.place.offset; fault = r.fault }) × IsPlaceOf text r.place
 
 -- an s-expression, or the end of the innermost open list, or nothing but white space and comments, or a fault
-abbrev pub ReadsNext : List ℕ → Place → ℕ → Result Next Refused → Type 0
+abbrev pub ReadsNext : List ℕ → Place → ℕ → Result NextSexpr Refused → Type 0
 ReadsNext text from n (Ok (next.One s after)) = ReadsSexpr text from n s after
 ReadsNext text from n (Ok (next.Close after)) = Closes text from n after
 ReadsNext text from n (Ok next.End) = (n ≡ 0) × (lexemes_from text from.offset ≡ [])

@@ -13,7 +13,7 @@ mod write;
 
 pub use items::{Item, Trees, View, look, split};
 pub use limited::{LimitedText, TEXT_LIMIT};
-pub use reader::Next;
+pub use reader::NextSexpr;
 pub use sexpr::Sexpr;
 pub use shapes::{
     Word, is_keyword, is_reserved, is_simple, is_symbol, is_word, list_first, list_inside, offset,

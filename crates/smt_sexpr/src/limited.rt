@@ -5,7 +5,7 @@ ghost use Rattle.spec_text.specs.Places.{IsPlaceOf};
 ghost use Rattle.spec_text.specs.Readings.{kept, is_long, is_of_end, too_long};
 ghost use Rattle.smt_sexpr.specs.Limited.{whole_of, refusal_meant, CutsOff, ReadsNextOf, ReadsOneOf};
 
-use crate::reader::{Next, read_next};
+use crate::reader::{NextSexpr, read_next};
 use crate::sexpr::Sexpr;
 use smt_lexer::{Fault, Place, Refusal, Refused, place_after, start};
 use std::alloc::Global;
@@ -109,18 +109,23 @@ impl<'a> LimitedText<'a> {
     /// - `Memory` means that an allocation was refused. No clause says when it comes, and it says nothing of the text.
     ///
     /// The text may be read on from any place that an `Ok` has. Source: SMT-LIB 2.6, section 3.2.
-    pub fn next(&self, alloc: Global, at: Place, open_lists: usize) -> Result<Next<'a>, Refused>
+    pub fn next(
+        &self,
+        alloc: Global,
+        at: Place,
+        open_lists: usize,
+    ) -> Result<NextSexpr<'a>, Refused>
         requires { IsPlaceOf (kept (whole_of self.now)) at }
         ensures { ReadsNextOf (whole_of self.now) at open_lists result }
     {
         match read_next(alloc, self.bytes(), at, open_lists) {
-            Ok(Next::One(s, after)) => Ok(Next::One(s, after)),
-            Ok(Next::Close(after)) => Ok(Next::Close(after)),
-            Ok(Next::End) => {
+            Ok(NextSexpr::One(s, after)) => Ok(NextSexpr::One(s, after)),
+            Ok(NextSexpr::Close(after)) => Ok(NextSexpr::Close(after)),
+            Ok(NextSexpr::End) => {
                 if self.is_long() {
                     return Err(Refused::Fault(self.too_long(at)));
                 }
-                Ok(Next::End)
+                Ok(NextSexpr::End)
             }
             Err(Refused::Fault(refusal)) => Err(Refused::Fault(self.cut_off(at, refusal))),
             Err(Refused::Memory) => Err(Refused::Memory),
@@ -137,8 +142,8 @@ impl<'a> LimitedText<'a> {
         ensures { ReadsOneOf (whole_of self.now) at result }
     {
         match self.next(alloc, at, 0) {
-            Ok(Next::One(s, after)) => Ok(Some((s, after))),
-            Ok(Next::Close(_) | Next::End) => Ok(None),
+            Ok(NextSexpr::One(s, after)) => Ok(Some((s, after))),
+            Ok(NextSexpr::Close(_) | NextSexpr::End) => Ok(None),
             Err(reason) => Err(reason),
         }
     }

@@ -17,7 +17,7 @@ use std::alloc::{AllocError, Global};
 
 /// What stands next in a text. Source: SMT-LIB 2.6, section 3.2.
 #[derive(Drop)]
-pub enum Next<'a> {
+pub enum NextSexpr<'a> {
     /// An s-expression, and the place right after it.
     One(Sexpr<'a>, Place),
     /// The parenthesis that closes the innermost open list: the place right after it.
@@ -145,7 +145,7 @@ pub(crate) fn read_next<'a>(
     text: &'a [u8],
     at: Place,
     open_lists: usize,
-) -> Result<Next<'a>, Refused>
+) -> Result<NextSexpr<'a>, Refused>
     requires small { length text.now < 2 ^ 32 }
     requires place { IsPlaceOf text.now at }
     ensures { ReadsNext text.now at open_lists result }
@@ -159,7 +159,7 @@ pub(crate) fn read_next<'a>(
             if open_lists > 0 {
                 return Err(refused(token.place, Fault::UnclosedList));
             }
-            Ok(Next::End)
+            Ok(NextSexpr::End)
         }
         TokenKind::Open => {
             if open_lists >= NESTING_LIMIT {
@@ -167,7 +167,7 @@ pub(crate) fn read_next<'a>(
             }
             let start = token.place;
             match read_list(alloc, text, start.offset, after, open_lists) {
-                Ok((items, end)) => Ok(Next::One(Sexpr { text, start, items }, end)),
+                Ok((items, end)) => Ok(NextSexpr::One(Sexpr { text, start, items }, end)),
                 Err(reason) => Err(reason),
             }
         }
@@ -175,12 +175,12 @@ pub(crate) fn read_next<'a>(
             if open_lists == 0 {
                 return Err(refused(token.place, Fault::StrayClose));
             }
-            Ok(Next::Close(after))
+            Ok(NextSexpr::Close(after))
         }
         TokenKind::Word(kind, bytes) => {
             let start = token.place;
             let items = read_word(alloc, start.offset, kind, bytes)?;
-            Ok(Next::One(Sexpr { text, start, items }, after))
+            Ok(NextSexpr::One(Sexpr { text, start, items }, after))
         }
     }
 }

@@ -11,8 +11,8 @@ use Rattle.term_clauses.specs.SpokenTerms.{no_id}
 use Rattle.proof_log.specs.Theories.{TheoryView}
 use Rattle.agreement.specs.declared.agreeing.Shared.{Shared}
 use Rattle.search_loop.specs.declared.search.Search.{Search}
-use Rattle.solve_core.specs.declared.agreeing.Found.{Found}
-use Rattle.solve_core.specs.declared.agreeing.Found.TheVariants.{Agreed, Differ}
+use Rattle.solve_core.specs.declared.agreeing.AgreementFound.{AgreementFound}
+use Rattle.solve_core.specs.declared.agreeing.AgreementFound.TheVariants.{Agreed, Differ}
 use Rattle.solve_core.specs.Answering.{HoldTogether}
 use Rattle.solve_core.specs.Sharing.{IsAskedOf, AreOpen}
 
@@ -38,6 +38,6 @@ AreSaid ids classes numbers from xs = AreSaidBelow ids classes numbers from (len
 
 -- what is found where a search rests: numbers by which the literals hold, and classes that they agree with; or pairs of shared terms of
 -- whose equalities the search does not speak
-abbrev pub FindsAgreement : TableView → Search → TheoryView → List TermId → Found → Type 0
+abbrev pub FindsAgreement : TableView → Search → TheoryView → List TermId → AgreementFound → Type 0
 FindsAgreement t x v ids (Agreed said) = HoldTogether t x.terms.items v said.classes.items (map fraction said.numbers.items)
 FindsAgreement t x v ids (Differ pairs) = (p : Problem) → IsAskedOf t ids p x → AreOpen t ids p pairs.items

@@ -14,7 +14,7 @@ ghost use Rattle.solve_core.specs.Answering.{AgreeBoth};
 ghost use Rattle.solve_core.specs.Sharing.{IsAskedOf};
 ghost use Rattle.solve_core.specs.Agreeing.{AreSaid, FindsAgreement};
 
-use crate::modelling::Said;
+use crate::modelling::TheoryAssignment;
 use crate::sharing::is_declared;
 use agreement::{Agreement, Delta, Shared, agree};
 use combined::Combined;
@@ -30,9 +30,9 @@ use world_io::NoMemory;
 
 /// What is found where a search rests.
 #[derive(Drop)]
-pub(crate) enum Found {
+pub(crate) enum AgreementFound {
     /// The theories agree on shared terms. This they say of the search's terms.
-    Agreed(Said),
+    Agreed(TheoryAssignment),
     /// They do not agree on these pairs of shared terms.
     Differ(Vec<(TermId, TermId)>),
 }
@@ -80,7 +80,7 @@ fn shared_of(
     alloc: Global,
     table: &TermTable,
     shared: &[TermId],
-    said: &Said,
+    said: &TheoryAssignment,
     from: usize,
 ) -> Result<Vec<Shared>, NoMemory>
     requires classes { length said.now.classes.items ≡ from + length shared.now }
@@ -111,7 +111,7 @@ pub(crate) fn agreement(
     table: &TermTable,
     theory: &Combined,
     shared: &[TermId],
-) -> Result<Found, Stop>
+) -> Result<AgreementFound, Stop>
     requires rested { HasRested table.now search.now (theory_of theory.now.congruence)
         (AgreeBoth (terms_watched table.now (theory_of theory.now.congruence))
         (literals_held table.now (theory_of theory.now.congruence)) theory.now) }
@@ -134,15 +134,15 @@ pub(crate) fn agreement(
     let terms = joined(search.alloc, &search.terms, shared)?;
     let numbers = theory.simplex().numbers(table, &terms, shared)?;
     let classes = theory.congruence().classes(search.alloc, &terms)?;
-    let mut said = Said { classes, numbers };
+    let mut said = TheoryAssignment { classes, numbers };
     let count = search.terms.len();
     let mut xs = shared_of(search.alloc, table, shared, &said, count)?;
     match agree(search.alloc, xs.as_mut_slice())? {
-        Agreement::Pairs(pairs) => Ok(Found::Differ(pairs)),
+        Agreement::Pairs(pairs) => Ok(AgreementFound::Differ(pairs)),
         Agreement::Agreed => {
             said.classes.truncate(count);
             said.numbers.truncate(count);
-            Ok(Found::Agreed(said))
+            Ok(AgreementFound::Agreed(said))
         }
     }
 }

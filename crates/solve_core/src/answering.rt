@@ -19,9 +19,9 @@ ghost use Rattle.solve_core.specs.Sharing.{IsAskedOf};
 ghost use Rattle.solve_core.specs.Answering.{HasNumber, AgreeBoth, HasCome, IsAnswered, IsStoppedBy};
 ghost use Rattle.solve_core.specs.Ending.{EndsRound, RestsRound, AnswersStop};
 
-use crate::agreeing::{Found, agreement};
+use crate::agreeing::{AgreementFound, agreement};
 use crate::bounding::relate_bounds;
-use crate::modelling::{Said, model, zeros};
+use crate::modelling::{TheoryAssignment, model, zeros};
 use crate::sharing::is_number;
 use crate::truths::truth_values;
 use combined::Combined;
@@ -128,7 +128,7 @@ fn search_classes(
             table.symbols().are_declared();
             let classes = theory.classes(search.alloc, &search.terms)?;
             let numbers = zeros(search.alloc, search.terms.len())?;
-            let said = Said { classes, numbers };
+            let said = TheoryAssignment { classes, numbers };
             let model = model(search, table, &said)?;
             Ok(Answer::Sat(model))
         }
@@ -217,8 +217,8 @@ fn answer_rested(
     theory.parts_hold_the_same();
     table.ids_are_unique();
     match agreement(search, table, theory, shared)? {
-        Found::Differ(pairs) => Ok(Round::Differ(pairs)),
-        Found::Agreed(said) => {
+        AgreementFound::Differ(pairs) => Ok(Round::Differ(pairs)),
+        AgreementFound::Agreed(said) => {
             let model = model(search, table, &said)?;
             Ok(Round::Answered(Answer::Sat(model)))
         }

@@ -26,7 +26,7 @@ use world_io::NoMemory;
 
 /// What the theories say of terms, in the order of these.
 #[derive(Drop)]
-pub(crate) struct Said {
+pub(crate) struct TheoryAssignment {
     /// The number of the class of each. Those of one class are equal.
     pub(crate) classes: Vec<u64>,
     /// The number of each; any of a term that is not Real.
@@ -45,7 +45,11 @@ pub(crate) fn zeros(alloc: Global, count: usize) -> Result<Vec<Ratio>, NoMemory>
 /// a number for each of the terms, in their order. By these numbers the literals hold, and they agree with the classes on shared terms.
 ///
 /// `NoMemory` comes where its tables find no memory.
-pub(crate) fn model(search: &Search, table: &TermTable, said: &Said) -> Result<Interp, NoMemory>
+pub(crate) fn model(
+    search: &Search,
+    table: &TermTable,
+    said: &TheoryAssignment,
+) -> Result<Interp, NoMemory>
     requires rested { (v : TheoryView)
         × HasRested table.now search.now v (IsFine (terms_watched table.now v) (literals_held table.now v))
         × HoldTogether table.now search.now.terms.items v said.now.classes.items (map fraction said.now.numbers.items) }

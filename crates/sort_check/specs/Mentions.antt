@@ -10,7 +10,7 @@ use Rattle.world_io.specs.declared.bytes.NoMemory.{NoMemory}
 use Rattle.term_reader.specs.NameStacks.{newest}
 use Rattle.sort_check.specs.declared.mentions.Left.{Left}
 use Rattle.sort_check.specs.declared.mentions.Left.TheVariants.{Terms, Values, Body, Back}
-use Rattle.sort_check.specs.declared.mentions.Search.{Search}
+use Rattle.sort_check.specs.declared.mentions.NameSearch.{NameSearch}
 use Rattle.sort_check.specs.Bindings.{BindingsView}
 use Rattle.sort_check.specs.Walks.{size, sizes}
 
@@ -34,7 +34,7 @@ pub record Rest : Type 0 where
   pub left : List Left
 
 -- a search of the code
-abbrev pub rest_of : Search → Rest
+abbrev pub rest_of : NameSearch → Rest
 rest_of s = record { inner = s.inner; left = reverse s.left.items }
 
 -- what is looked at next, before the rest

@@ -17,7 +17,7 @@ use Rattle.term_core.specs.Tables.{TableView, AreIn, clause_at}
 use Rattle.term_reader.specs.declared.faults.ReadError.{ReadError}
 use Rattle.term_reader.specs.declared.faults.ReadError.TheVariants.{Fault, Memory}
 use Rattle.sort_check.specs.declared.reads.Room as code_room
-use Rattle.sort_check.specs.declared.reads.Parts as code_parts
+use Rattle.sort_check.specs.declared.reads.FunctionParts as code_parts
 use Rattle.term_reader.specs.Names.{located_of}
 use Rattle.term_reader.specs.Building.{KeepsTable, MeansTerm}
 use Rattle.term_reader.specs.Scopes.{ScopeView, ScopeMeans, Widens}
@@ -34,7 +34,7 @@ abbrev pub room_meant : code_room.Room → Room
 room_meant r = record { limit = r.limit; at = r.at }
 
 -- the parts of a definition
-abbrev pub parts_meant : code_parts.Parts → Parts
+abbrev pub parts_meant : code_parts.FunctionParts → Parts
 parts_meant p = record { name = word_view p.name; parameters = trees_meant p.parameters; result = tree_meant p.result; body = tree_meant p.body }
 
 -- room for names and for the different subterms of terms, or the fault

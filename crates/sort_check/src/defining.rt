@@ -17,7 +17,7 @@ ghost use Rattle.sort_check.specs.Rows.{EndsOne};
 
 use crate::bindings::Bindings;
 use crate::naming::is_function;
-use crate::reads::{Parts, Room};
+use crate::reads::{FunctionParts, Room};
 use crate::sorted::{find_room, read_of_sort};
 use crate::splitting::first_binding;
 use smt_sexpr::Trees;
@@ -129,7 +129,7 @@ fn read_whole(
     table: &mut TermTable,
     scope: &mut Scope,
     setting: Setting<'_>,
-    parts: Parts<'_>,
+    parts: FunctionParts<'_>,
 ) -> Result<Vec<TermId>, ReadError>
     requires { HasSignature table.old scope.old }
     ensures ends { (s : Signature) → ScopeMeans table.old scope.old s → EndsMade s (store table.new scope.new)
@@ -180,7 +180,7 @@ pub fn read_definition(
     table: &mut TermTable,
     scope: &mut Scope,
     setting: Setting<'_>,
-    parts: Parts<'_>,
+    parts: FunctionParts<'_>,
     room: Room,
 ) -> Result<(), ReadError>
     requires { HasSignature table.old scope.old }

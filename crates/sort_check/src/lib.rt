@@ -15,4 +15,4 @@ mod sorted;
 mod splitting;
 mod walk;
 
-pub use reads::{Parts, Room, define, term, terms};
+pub use reads::{FunctionParts, Room, define, term, terms};

@@ -15,7 +15,7 @@ use crate::bindings::Bindings;
 use crate::splitting::{first_binding, let_parts};
 use smt_sexpr::{Trees, View, is_symbol, look, split};
 use std::alloc::Global;
-use term_reader::{Form, NameStack, list_form};
+use term_reader::{ListForm, NameStack, list_form};
 use world_io::NoMemory;
 
 /// Says what of a text is left to look at.
@@ -33,7 +33,7 @@ pub enum Left<'a> {
 
 /// Holds how far a text is searched.
 #[derive(Drop)]
-pub struct Search<'a> {
+pub struct NameSearch<'a> {
     /// The names that the text itself binds there, the innermost last.
     pub inner: NameStack,
     /// What is left of it, that which comes next last.
@@ -54,7 +54,7 @@ fn is_free(bound: &Bindings, inner: &NameStack, name: &[u8]) -> bool
 }
 
 // What comes next.
-fn push<'a>(search: &mut Search<'a>, next: Left<'a>) -> Result<(), NoMemory>
+fn push<'a>(search: &mut NameSearch<'a>, next: Left<'a>) -> Result<(), NoMemory>
     ensures { OnOk result (rest_of search.new ≡ with_next next.entry (rest_of search.old)) }
 {
     search.left.push(next)?;
@@ -62,7 +62,7 @@ fn push<'a>(search: &mut Search<'a>, next: Left<'a>) -> Result<(), NoMemory>
 }
 
 // A `let` by its bindings and its body.
-fn look_in_let<'a>(search: &mut Search<'a>, arguments: Trees<'a>) -> Result<bool, NoMemory>
+fn look_in_let<'a>(search: &mut NameSearch<'a>, arguments: Trees<'a>) -> Result<bool, NoMemory>
     ensures { (ns : List Name) → FindsName ns
         (let_mentions (without ns search.old.inner) (trees_meant arguments.entry)
         || rest_mentions ns (rest_of search.old))
@@ -77,7 +77,10 @@ fn look_in_let<'a>(search: &mut Search<'a>, arguments: Trees<'a>) -> Result<bool
 }
 
 // A term before attributes.
-fn look_in_annotated<'a>(search: &mut Search<'a>, arguments: Trees<'a>) -> Result<bool, NoMemory>
+fn look_in_annotated<'a>(
+    search: &mut NameSearch<'a>,
+    arguments: Trees<'a>,
+) -> Result<bool, NoMemory>
     ensures { (ns : List Name) → FindsName ns
         (first_mentions (without ns search.old.inner) (trees_meant arguments.entry)
         || rest_mentions ns (rest_of search.old))
@@ -93,7 +96,7 @@ fn look_in_annotated<'a>(search: &mut Search<'a>, arguments: Trees<'a>) -> Resul
 // A list by its first item and the others.
 fn look_in_list<'a>(
     bound: &Bindings,
-    search: &mut Search<'a>,
+    search: &mut NameSearch<'a>,
     head: Trees<'a>,
     arguments: Trees<'a>,
 ) -> Result<bool, NoMemory>
@@ -104,22 +107,26 @@ fn look_in_list<'a>(
         (3 + (sizes (trees_meant arguments.entry) + left_size (rest_of search.old).left)) (rest_of search.new) result }
 {
     match list_form(head, arguments) {
-        Form::Malformed => Ok(false),
-        Form::Reserved(_) => Ok(false),
-        Form::Applies(_, name) => {
+        ListForm::Malformed => Ok(false),
+        ListForm::Reserved(_) => Ok(false),
+        ListForm::Applies(_, name) => {
             if is_free(bound, &search.inner, name) {
                 return Ok(true);
             }
             push(search, Left::Terms(arguments))?;
             Ok(false)
         }
-        Form::Binds => look_in_let(search, arguments),
-        Form::Annotates => look_in_annotated(search, arguments),
+        ListForm::Binds => look_in_let(search, arguments),
+        ListForm::Annotates => look_in_annotated(search, arguments),
     }
 }
 
 // An atom or a list.
-fn look_at<'a>(bound: &Bindings, search: &mut Search<'a>, text: Trees<'a>) -> Result<bool, NoMemory>
+fn look_at<'a>(
+    bound: &Bindings,
+    search: &mut NameSearch<'a>,
+    text: Trees<'a>,
+) -> Result<bool, NoMemory>
     ensures { FindsName (names_of bound.now)
         (mentions (without (names_of bound.now) search.old.inner) (tree_meant text.entry)
         || rest_mentions (names_of bound.now) (rest_of search.old))
@@ -142,7 +149,7 @@ fn look_at<'a>(bound: &Bindings, search: &mut Search<'a>, text: Trees<'a>) -> Re
 // The first of a row of terms; the others come next.
 fn look_in_terms<'a>(
     bound: &Bindings,
-    search: &mut Search<'a>,
+    search: &mut NameSearch<'a>,
     terms: Trees<'a>,
 ) -> Result<bool, NoMemory>
     ensures { FindsName (names_of bound.now)
@@ -160,7 +167,7 @@ fn look_in_terms<'a>(
 // The term of the first of bindings; the others come next.
 fn look_in_values<'a>(
     bound: &Bindings,
-    search: &mut Search<'a>,
+    search: &mut NameSearch<'a>,
     bindings: Trees<'a>,
 ) -> Result<bool, NoMemory>
     ensures { FindsName (names_of bound.now)
@@ -190,7 +197,7 @@ fn bind_names(inner: &mut NameStack, bindings: Trees<'_>) -> Result<(), NoMemory
 // The body under bindings, in which their names are bound.
 fn look_under<'a>(
     bound: &Bindings,
-    search: &mut Search<'a>,
+    search: &mut NameSearch<'a>,
     bindings: Trees<'a>,
     body: Trees<'a>,
 ) -> Result<bool, NoMemory>
@@ -206,7 +213,7 @@ fn look_under<'a>(
 }
 
 // What comes next; tells whether one of the bound names occurs free in what is looked at of it.
-fn step<'a>(bound: &Bindings, search: &mut Search<'a>, next: Left<'a>) -> Result<bool, NoMemory>
+fn step<'a>(bound: &Bindings, search: &mut NameSearch<'a>, next: Left<'a>) -> Result<bool, NoMemory>
     ensures { FindsName (names_of bound.now)
         (rest_mentions (names_of bound.now) (with_next next.entry (rest_of search.old)))
         (left_size (with_next next.entry (rest_of search.old)).left) (rest_of search.new) result }
@@ -223,7 +230,7 @@ fn step<'a>(bound: &Bindings, search: &mut Search<'a>, next: Left<'a>) -> Result
 }
 
 // Whether one of the bound names occurs free in what is left.
-fn is_left(bound: &Bindings, search: &mut Search<'_>) -> Result<bool, NoMemory>
+fn is_left(bound: &Bindings, search: &mut NameSearch<'_>) -> Result<bool, NoMemory>
     ensures { IfOk result (λ yes. yes ≡ rest_mentions (names_of bound.now) (rest_of search.old)) }
 {
     'left: while let Some(next) = search.left.pop() {
@@ -242,7 +249,7 @@ pub fn mentions(alloc: Global, bound: &Bindings, text: Trees<'_>) -> Result<bool
     ensures { IfOk result (λ yes. (t : TableView) → yes
         ≡ mentions (bound_names (bound_at t bound.now)) (tree_meant text.entry)) }
 {
-    let mut search = Search {
+    let mut search = NameSearch {
         inner: NameStack::new(alloc),
         left: Vec::new(alloc),
     };

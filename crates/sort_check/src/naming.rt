@@ -23,7 +23,7 @@ use spec_text::Fault;
 use std::alloc::Global;
 use term_core::{TermId, TermTable, TheoryHead};
 use term_reader::{
-    Function, Macro, Next, ReadError, Scope, Setting, fault_at, new_name, next_after,
+    Function, Macro, NextAttribute, ReadError, Scope, Setting, fault_at, new_name, next_after,
 };
 use world_io::NoMemory;
 
@@ -131,11 +131,11 @@ fn give_name(
 }
 
 /// Says the word that stands where a name is wanted.
-fn word_wanted(next: Next, item: Trees<'_>) -> Option<Word<'_>>
+fn word_wanted(next: NextAttribute, item: Trees<'_>) -> Option<Word<'_>>
     ensures { option_map word_view result ≡ wanted_word (next_meant next) (tree_meant item.entry) }
 {
     match (next, look(item)) {
-        (Next::Name, View::Atom(at, kind, bytes)) => Some(Word {
+        (NextAttribute::Name, View::Atom(at, kind, bytes)) => Some(Word {
             at: u64::from(at),
             kind,
             bytes,
@@ -145,12 +145,12 @@ fn word_wanted(next: Next, item: Trees<'_>) -> Option<Word<'_>>
 }
 
 /// Says what may come after an item among attributes.
-fn next_wanted(next: Next, item: Trees<'_>) -> Next
+fn next_wanted(next: NextAttribute, item: Trees<'_>) -> NextAttribute
     ensures { next_meant result ≡ next_word (next_meant next) (tree_meant item.entry) }
 {
     match next_after(next, item) {
         Some(then) => then,
-        None => Next::Keyword,
+        None => NextAttribute::Keyword,
     }
 }
 
@@ -194,7 +194,7 @@ pub fn name_term(
         (named_words a_keyword (trees_meant attributes.entry))) result }
     ensures widens { Widens scope.old scope.new }
 {
-    let mut next = Next::Keyword;
+    let mut next = NextAttribute::Keyword;
     let mut rest = attributes;
     'attributes: while let Some((item, after)) = split(rest) {
         let word = word_wanted(next, item);

@@ -26,7 +26,7 @@ pub struct Room {
 
 /// Holds the definition of a function by its parts, as they are written. Source: SMT-LIB 2.6, section 4.2.3.
 #[derive(Clone, Copy, Debug)]
-pub struct Parts<'a> {
+pub struct FunctionParts<'a> {
     /// The name of the function.
     pub name: Word<'a>,
     /// Its parameters, none or more: each a list of a name and a sort.
@@ -135,7 +135,7 @@ pub fn define(
     table: &mut TermTable,
     scope: &mut Scope,
     setting: Setting<'_>,
-    parts: Parts<'_>,
+    parts: FunctionParts<'_>,
     room: Room,
 ) -> Result<(), ReadError>
     requires { HasSignature table.old scope.old }

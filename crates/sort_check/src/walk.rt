@@ -28,7 +28,7 @@ use smt_sexpr::{Kind, Trees, View, look, split};
 use spec_text::Fault;
 use std::alloc::Global;
 use term_core::{TermId, TermTable, TheoryHead};
-use term_reader::{Form, ReadError, Scope, Setting, fault_at, list_form, new_name};
+use term_reader::{ListForm, ReadError, Scope, Setting, fault_at, list_form, new_name};
 use world_io::NoMemory;
 
 // A term more in the innermost row, and what is left of it.
@@ -244,9 +244,9 @@ fn open_list<'a>(
         return Err(ReadError::Fault(fault_at(at, Fault::BadShape)));
     };
     match list_form(head, arguments) {
-        Form::Malformed => Err(ReadError::Fault(fault_at(at, Fault::BadShape))),
-        Form::Reserved(place) => Err(ReadError::Fault(fault_at(place, Fault::Reserved))),
-        Form::Applies(place, name) => {
+        ListForm::Malformed => Err(ReadError::Fault(fault_at(at, Fault::BadShape))),
+        ListForm::Reserved(place) => Err(ReadError::Fault(fault_at(place, Fault::Reserved))),
+        ListForm::Applies(place, name) => {
             let from = walk.values.len();
             open(
                 walk,
@@ -258,8 +258,8 @@ fn open_list<'a>(
                 arguments,
             )
         }
-        Form::Binds => open_let(setting, walk, at, arguments, after),
-        Form::Annotates => open_annotated(walk, at, arguments, after),
+        ListForm::Binds => open_let(setting, walk, at, arguments, after),
+        ListForm::Annotates => open_annotated(walk, at, arguments, after),
     }
 }
 

@@ -14,7 +14,7 @@ use Rattle.spec_sorts.proofs.SameTerms.{one_head}
 use Rattle.spec_sorts.proofs.WellSorted.{before}
 use Rattle.spec_proofs.specs.declared.Rule.{Rule}
 use Rattle.spec_proofs.specs.declared.Rule.TheVariants as rules
-use Rattle.spec_proofs.specs.declared.Side.{Side}
+use Rattle.spec_proofs.specs.declared.ArgumentLiteral.{ArgumentLiteral}
 use Rattle.spec_proofs.specs.declared.Rest.{Rest}
 use Rattle.spec_proofs.specs.declared.Rest.TheVariants.{Nothing, One, Two, AnyOne, Each, Innermost}
 use Rattle.spec_rules.specs.Clauses.{clause_true}
@@ -60,7 +60,7 @@ module _ (symbols : List Symbol) where
   placed_formula (t ∷ ts) zero h = All-head Is t ts h
   placed_formula (t ∷ ts) (suc n) h = placed_formula ts n (All-tail Is t ts h)
 
-  side_formula : (ts : List Term) (x : Side) → All Is ts → Is (side_of ts x)
+  side_formula : (ts : List Term) (x : ArgumentLiteral) → All Is ts → Is (side_of ts x)
   side_formula ts x h = signed_formula x.positive (slice_index_or ts x.place no_term) (placed_formula ts x.place h)
 
   only_formula : (t : Term) → Is t → All Is (t ∷ [])

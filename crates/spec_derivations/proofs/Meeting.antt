@@ -7,7 +7,7 @@ use Rattle.spec_sorts.specs.Terms.{Head, Term, no_term, negated}
 use Rattle.spec_sorts.specs.Values.{truth, all_true, any_true, different, same_value}
 use Rattle.spec_sorts.specs.Literals.{Clause, literal_of}
 use Rattle.spec_sorts.specs.Subsets.{arguments_of}
-use Rattle.spec_proofs.specs.declared.Side.{Side}
+use Rattle.spec_proofs.specs.declared.ArgumentLiteral.{ArgumentLiteral}
 use Rattle.spec_proofs.specs.declared.Rest.TheVariants.{Nothing, One, Two, AnyOne, Each}
 use Rattle.spec_rules.specs.Schemes.{Scheme, schemes, signed_term, side_of, rests_of, is_formula_of, clauses_by}
 use Rattle.spec_rules.specs.Truths.{Truths, term_true_by}
@@ -42,13 +42,13 @@ module _ (v : Truths) (t : Term) (met : (c : Clause) → Contains (clauses_of t)
   alone h p s_in formula = by_scheme (record { head = h; positive = p; rest = Nothing }) s_in formula [] (first [] [])
 
   -- one argument after it
-  pub with_one : (h : Head) (p : Bool) (x : Side) → Contains schemes (record { head = h; positive = p; rest = One x }) → is_formula_of h t ≡ true → sign p (term_true_by v t) || (sign x.positive (term_true_by v (slice_index_or (arguments_of t) x.place no_term)) || false) ≡ true
+  pub with_one : (h : Head) (p : Bool) (x : ArgumentLiteral) → Contains schemes (record { head = h; positive = p; rest = One x }) → is_formula_of h t ≡ true → sign p (term_true_by v t) || (sign x.positive (term_true_by v (slice_index_or (arguments_of t) x.place no_term)) || false) ≡ true
   with_one h p x s_in formula =
       let u = slice_index_or (arguments_of t) x.place no_term in
       ap (λ b. sign p (term_true_by v t) || (b || false)) (sym (signed_true v x.positive u)) ∙ by_scheme (record { head = h; positive = p; rest = One x }) s_in formula (side_of (arguments_of t) x ∷ []) (first (side_of (arguments_of t) x ∷ []) [])
 
   -- two arguments after it
-  pub with_two : (h : Head) (p : Bool) (x y : Side) → Contains schemes (record { head = h; positive = p; rest = Two x y }) → is_formula_of h t ≡ true → sign p (term_true_by v t) || (sign x.positive (term_true_by v (slice_index_or (arguments_of t) x.place no_term)) || (sign y.positive (term_true_by v (slice_index_or (arguments_of t) y.place no_term)) || false)) ≡ true
+  pub with_two : (h : Head) (p : Bool) (x y : ArgumentLiteral) → Contains schemes (record { head = h; positive = p; rest = Two x y }) → is_formula_of h t ≡ true → sign p (term_true_by v t) || (sign x.positive (term_true_by v (slice_index_or (arguments_of t) x.place no_term)) || (sign y.positive (term_true_by v (slice_index_or (arguments_of t) y.place no_term)) || false)) ≡ true
   with_two h p x y s_in formula =
       let u = slice_index_or (arguments_of t) x.place no_term in
       let w = slice_index_or (arguments_of t) y.place no_term in

@@ -10,7 +10,7 @@ use Rattle.spec_sorts.specs.Terms.{Head, Not, Xor, Implies, Equal, Ite, Sort, Tr
 use Rattle.spec_sorts.specs.Subterms.{subterms_of}
 use Rattle.spec_sorts.specs.Subsets.{AreAmong, IsClosed}
 use Rattle.spec_sorts.specs.Literals.{Clause, Literal, literal_of, literals_of}
-use Rattle.spec_proofs.specs.declared.Side.{Side}
+use Rattle.spec_proofs.specs.declared.ArgumentLiteral.{ArgumentLiteral}
 use Rattle.spec_proofs.specs.declared.Rest.{Rest}
 use Rattle.spec_proofs.specs.declared.Rest.TheVariants.{Nothing, One, Two, AnyOne, Each, Innermost}
 use Rattle.spec_rules.specs.Schemes.{Scheme, schemes, signed_term, side_of, innermost, rests_of, is_formula_of, clauses_by}
@@ -140,7 +140,7 @@ module _ (us : List Term) (closed : IsClosed us) where
   signed_over p t i = subst (λ (x : Term). Contains us x) (sym (signed_atom p t)) (bare_among t i)
 
   module _ (ts : List Term) (among : (t : Term) → Contains ts t → Contains us t) where
-    side_over : (x : Side) → x.place < length ts → IsOver (side_of ts x)
+    side_over : (x : ArgumentLiteral) → x.place < length ts → IsOver (side_of ts x)
     side_over x lt = signed_over x.positive (slice_index_or ts x.place no_term) (among (get_or ts x.place no_term) (Contains-get_or ts x.place no_term lt))
 
     -- what the one argument negates

@@ -137,7 +137,7 @@ pub enum Rule {
 
 /// Names a literal by an argument of a term: the argument as it stands, or its negation.
 #[derive(Clone, Copy, Debug, PartialEq, Eq)]
-pub struct Side {
+pub struct ArgumentLiteral {
     /// The place of the argument, from 0.
     pub place: usize,
     /// Whether the argument is meant as it stands.
@@ -151,9 +151,9 @@ pub enum Rest {
     /// None.
     Nothing,
     /// This one.
-    One(Side),
+    One(ArgumentLiteral),
     /// These two, in this order.
-    Two(Side, Side),
+    Two(ArgumentLiteral, ArgumentLiteral),
     /// One of the arguments, any: as it stands where that is true, else its negation.
     AnyOne(bool),
     /// Each of the arguments, in their order: as they stand where that is true, else their negations.

@@ -1,7 +1,7 @@
 -- Responses as they are written.
 use Rattle.std.specs.Prelude.{◌≡◌, refl, codes, pos, negsuc}
 use Rattle.std.specs.Fmt.{digits}
-use Rattle.spec_replies.specs.declared.Word.TheVariants.{Success, Sat}
+use Rattle.spec_replies.specs.declared.ResponseWord.TheVariants.{Success, Sat}
 use Rattle.spec_numbers.specs.declared.Op.TheVariants.{Sub, Mul, Div}
 use Rattle.spec_models.specs.Values.{numeral}
 use Rattle.spec_replies.specs.Lines.{error_text, word_line, conflicts, pivots, overflow, reason_line, reason_info}

@@ -6,8 +6,8 @@ use Rattle.spec_text.specs.Printed.{printed}
 use Rattle.spec_numbers.specs.Bounds.{Overflow}
 use Rattle.spec_numbers.specs.declared.Op.{Op}
 use Rattle.spec_numbers.specs.declared.Op.TheVariants.{Add, Sub, Mul, Div}
-use Rattle.spec_replies.specs.declared.Word.{Word}
-use Rattle.spec_replies.specs.declared.Word.TheVariants.{Success, Unsupported, Sat, Unsat, Unknown}
+use Rattle.spec_replies.specs.declared.ResponseWord.{ResponseWord}
+use Rattle.spec_replies.specs.declared.ResponseWord.TheVariants.{Success, Unsupported, Sat, Unsat, Unknown}
 use Rattle.spec_models.specs.Values.{in_list, word_tree, numeral_tree, fraction_tree}
 
 -- an error with its line and column, both from 1, and its name
@@ -15,7 +15,7 @@ abbrev pub error_text : ℕ → ℕ → List ℕ → List ℕ
 error_text line column name = codes "(error \"" ++ decimal line ++ codes ":" ++ decimal column ++ codes ": " ++ name ++ codes "\")\n"
 
 -- a response of one word
-abbrev pub word_of : Word → List ℕ
+abbrev pub word_of : ResponseWord → List ℕ
 word_of Success = codes "success"
 word_of Unsupported = codes "unsupported"
 word_of Sat = codes "sat"
@@ -23,7 +23,7 @@ word_of Unsat = codes "unsat"
 word_of Unknown = codes "unknown"
 
 -- its line
-abbrev pub word_line : Word → List ℕ
+abbrev pub word_line : ResponseWord → List ℕ
 word_line w = word_of w ++ 10 ∷ []
 
 -- Why a check was answered `unknown`.

@@ -3,7 +3,7 @@
 
 /// A response that is one word. Source: SMT-LIB 2.6, sections 3.9 and 4.1.8.
 #[derive(Clone, Copy, Debug, PartialEq, Eq)]
-pub enum Word {
+pub enum ResponseWord {
     /// The command was performed.
     Success,
     /// The option or the information is not known.

@@ -9,7 +9,7 @@ use Rattle.spec_arithmetic.specs.declared.ArithmeticRule.{ArithmeticRule}
 use Rattle.spec_arithmetic.specs.declared.ArithmeticRule.TheVariants as arithmetic
 use Rattle.spec_proofs.specs.declared.Rule.{Rule}
 use Rattle.spec_proofs.specs.declared.Rule.TheVariants as rules
-use Rattle.spec_proofs.specs.declared.Side.{Side}
+use Rattle.spec_proofs.specs.declared.ArgumentLiteral.{ArgumentLiteral}
 use Rattle.spec_proofs.specs.declared.Rest.{Rest}
 use Rattle.spec_proofs.specs.declared.Rest.TheVariants.{Nothing, One, Two, AnyOne, Each, Innermost}
 
@@ -28,7 +28,7 @@ signed_term true t = t
 signed_term false t = negated t
 
 -- the argument of a place, as it stands or negated
-abbrev pub side_of : List Term → Side → Term
+abbrev pub side_of : List Term → ArgumentLiteral → Term
 side_of ts x = signed_term x.positive (slice_index_or ts x.place no_term)
 
 -- what the one argument, a negation, negates
@@ -78,10 +78,10 @@ abbrev pub refuted : Head → Rest → Scheme
 refuted h r = record { head = h; positive = false; rest = r }
 
 -- an argument by its place: as it stands, and negated
-abbrev pub yes : ℕ → Side
+abbrev pub yes : ℕ → ArgumentLiteral
 yes n = record { place = n; positive = true }
 
-abbrev pub no : ℕ → Side
+abbrev pub no : ℕ → ArgumentLiteral
 no n = record { place = n; positive = false }
 
 -- (cl true), and (cl (not false))

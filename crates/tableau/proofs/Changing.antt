@@ -7,7 +7,7 @@ use Rattle.spec_tableaux.specs.Rows.{Entry, Row as Equation, Pivot, coefficient_
 use Rattle.spec_tableaux.specs.SolvedForms.{IsTidy, AllVariables, AreTidy, AllRowVariables}
 use Rattle.spec_tableaux.specs.Numbers.{Number, numbers}
 use Rattle.tableau.specs.declared.entries.Row.{Row}
-use Rattle.tableau.specs.declared.pivots.Change.{Change}
+use Rattle.tableau.specs.declared.pivots.RowChange.{RowChange}
 use Rattle.tableau.specs.Entries.{row_meant, rows_of}
 use Rattle.tableau.specs.Views.{row_at, no_row}
 use Rattle.tableau.specs.Pivots.{NewRow, StrainsRow, StrainsOther, change_meant, changes_meant, changes_in, stays, with_changes, AllNumbers}
@@ -83,7 +83,7 @@ rows_set [] k r = refl
 rows_set (x ∷ rows) zero r = refl
 rows_set (x ∷ rows) (suc k) r = ap (λ z. row_meant x ∷ z) (rows_set rows k r)
 
-module _ (p : ℕ → Type 0) (left rest : List Change) (c : Change) (split : left ≡ rest ++ c ∷ []) where
+module _ (p : ℕ → Type 0) (left rest : List RowChange) (c : RowChange) (split : left ≡ rest ++ c ∷ []) where
   meant : changes_meant left ≡ changes_meant rest ++ change_meant c ∷ []
   meant = ap changes_meant split ∙ map-append change_meant rest (c ∷ [])
 

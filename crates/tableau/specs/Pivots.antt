@@ -7,7 +7,7 @@ use Rattle.spec_tableaux.specs.SolvedForms.{IsTidy, AllVariables, AreTidy, AllRo
 use Rattle.spec_tableaux.specs.Strains.{Overflows, IsOther, pivot_in}
 use Rattle.spec_tableaux.specs.Numbers.{Number, numbers}
 use Rattle.tableau.specs.declared.pivots.Pivot.{Pivot}
-use Rattle.tableau.specs.declared.pivots.Change.{Change}
+use Rattle.tableau.specs.declared.pivots.RowChange.{RowChange}
 use Rattle.tableau.specs.Numbers.{number_of}
 use Rattle.tableau.specs.Entries.{entries_of, row_meant}
 use Rattle.tableau.specs.Sums.{StrainsCombined}
@@ -68,11 +68,11 @@ pub record NewRow : Type 0 where
   pub row : Row Number
 
 -- the meaning of a change
-abbrev pub change_meant : Change → NewRow
+abbrev pub change_meant : RowChange → NewRow
 change_meant c = record { number = c.number; row = row_meant c.row }
 
 -- the meaning of changes
-abbrev pub changes_meant : List Change → List NewRow
+abbrev pub changes_meant : List RowChange → List NewRow
 changes_meant cs = map change_meant cs
 
 -- each change has a number of which p holds

@@ -7,7 +7,7 @@ ghost use Rattle.tableau.specs.Pivots.{changes_meant, AllNumbers};
 ghost use Rattle.tableau.specs.Kept.{column_at, HasGrown, IsNoted, AreNoted, RowsAreNoted, Forgets, AreOverColumns};
 
 use crate::entries::{Entry, Row};
-use crate::pivots::Change;
+use crate::pivots::RowChange;
 use indexmap::IndexSet;
 use std::alloc::Global;
 use std::marker::Model;
@@ -161,7 +161,7 @@ pub(crate) fn note_row(
 pub(crate) fn note_changes(
     columns: &mut Vec<Column>,
     rows: &[Row],
-    made: &[Change],
+    made: &[RowChange],
 ) -> Result<(), NoMemory>
     requires over { AreOverColumns (length columns.old.items) (changes_meant made.now) }
     requires known { RowsAreNoted columns.old.items (rows_of rows.now) }

@@ -31,7 +31,7 @@ pub(crate) struct Pivot {
 
 /// A new row, with the number under which it is kept.
 #[derive(Drop)]
-pub(crate) struct Change {
+pub(crate) struct RowChange {
     pub(crate) number: u64,
     pub(crate) row: Row,
 }
@@ -136,7 +136,7 @@ fn add_change(
     pivot: &Pivot,
     rows: &[Row],
     number: u64,
-    made: &mut Vec<Change>,
+    made: &mut Vec<RowChange>,
 ) -> Result<(), RowStop>
     requires low { number < length rows.now }
     requires ready { AreReady (pivot_meant pivot.now) (rows_of rows.now) }
@@ -154,7 +154,7 @@ fn add_change(
     }
     let basic = row.basic;
     let entries = substituted(alloc, pivot, c, &row.entries)?;
-    made.push(Change {
+    made.push(RowChange {
         number,
         row: Row { basic, entries },
     })?;
@@ -169,7 +169,7 @@ pub(crate) fn changes_of(
     rows: &[Row],
     number: u64,
     column: &[u64],
-) -> Result<Vec<Change>, RowStop>
+) -> Result<Vec<RowChange>, RowStop>
     requires column { (k : ℕ) → Contains column.now k → k < length rows.now }
     requires ready { AreReady (pivot_meant pivot.now) (rows_of rows.now) }
     ensures ok { IfOk result (λ made. changes_meant made.items
@@ -179,7 +179,7 @@ pub(crate) fn changes_of(
 {
     let row = pivot_row(alloc, pivot)?;
     let mut made = Vec::new(alloc);
-    made.push(Change { number, row })?;
+    made.push(RowChange { number, row })?;
     let mut rest = column;
     while let Some((k, more)) = rest.split_first() {
         add_change(alloc, pivot, rows, *k, &mut made)?;
@@ -189,13 +189,13 @@ pub(crate) fn changes_of(
 }
 
 /// Puts new rows in the places of their numbers. It takes no memory.
-pub(crate) fn put_changes(rows: &mut Vec<Row>, made: Vec<Change>)
+pub(crate) fn put_changes(rows: &mut Vec<Row>, made: Vec<RowChange>)
     requires { AllNumbers (λ k. k < length rows.old.items) (changes_meant made.items) }
     ensures { rows_of rows.new.items ≡ with_changes (rows_of rows.old.items) (changes_meant made.items) }
 {
     let mut left = made;
     while let Some(change) = left.pop() {
-        let Change { number, row } = change;
+        let RowChange { number, row } = change;
         rows[number as usize] = row;
     }
 }

@@ -15,7 +15,7 @@ ghost use Rattle.tableau.specs.Views.{IsTableau, IsColumn, OnRowOverflow};
 use crate::columns::{Column, forget, note_changes, note_row};
 use crate::entries::{Entry, Row, coefficient};
 use crate::flattening::flattened;
-use crate::pivots::{Change, changes_of, pivot_of, put_changes};
+use crate::pivots::{RowChange, changes_of, pivot_of, put_changes};
 use crate::stops::RowStop;
 use ratio128::Ratio;
 use std::alloc::Global;
@@ -60,7 +60,7 @@ fn changes(
     number: u64,
     leaving: u64,
     entering: u64,
-) -> Result<Vec<Change>, RowStop>
+) -> Result<Vec<RowChange>, RowStop>
     requires solved { IsSolved numbers (rows_of rows.now) }
     requires pivot { IsPivot numbers (rows_of rows.now) leaving entering }
     requires low { number < length rows.now }

@@ -15,7 +15,7 @@ use Rattle.term_core.specs.Tables.{TableView, term_at, IsIn}
 use Rattle.term_core.proofs.TermsExtend.{IsIn-kept, term_at-kept}
 use Rattle.proof_log.specs.Logs.{IsFormulaIn}
 use Rattle.proof_log.specs.Theories.{IsTermIn}
-use Rattle.term_clauses.specs.declared.choices.Choice.{Choice}
+use Rattle.term_clauses.specs.declared.choices.IteParts.{IteParts}
 use Rattle.term_clauses.specs.Stating.{Widens}
 use Rattle.term_clauses.specs.Choices.{AreComparable, equality_at, IsNoChoice, IsIteTerm}
 use Rattle.term_clauses.proofs.Parts.{formula_kept, sorted_kept}
@@ -40,7 +40,7 @@ unfolding sort_of
 ite_sort c s t = refl
 
 -- a term that is made so of the table's terms
-pub choice_made : (t : TableView) (id : TermId) (x : Choice) → IsTermIn t id → IsIn t x.condition → IsIn t x.first → IsIn t x.second
+pub choice_made : (t : TableView) (id : TermId) (x : IteParts) → IsTermIn t id → IsIn t x.condition → IsIn t x.first → IsIn t x.second
     → term_at t id ≡ of Ite (term_at t x.condition ∷ term_at t x.first ∷ term_at t x.second ∷ []) → sort_of (term_at t id) ≢ Truth → IsIteTerm t id x
 choice_made t id x whole condition_in first_in second_in means apart =
     let c = term_at t x.condition in
@@ -59,7 +59,7 @@ choice_made t id x whole condition_in first_in second_in means apart =
       apart = apart;
     }
 
-module _ (t : TableView) (id : TermId) (x : Choice) (is : IsIteTerm t id x) where
+module _ (t : TableView) (id : TermId) (x : IteParts) (is : IsIteTerm t id x) where
   -- its terms have another sort
   apart_first : sort_of (term_at t x.first) ≢ Truth
   apart_first e = is.apart (is.first.sort ∙ e)
@@ -121,7 +121,7 @@ module _ (t u : TableView) (wider : Widens t u) where
       (there, subst (IsFormulaOver u.symbols) (sym (is ∙ sym (equality_kept a b h))) (equality_formula u.symbols (term_at u a) (term_at u b) k.one.1 k.other.1 k.sort))
 
   -- a choice is one with the same parts
-  pub choice_kept : (id : TermId) (x : Choice) → IsIteTerm t id x → IsIteTerm u id x
+  pub choice_kept : (id : TermId) (x : IteParts) → IsIteTerm t id x → IsIteTerm u id x
   choice_kept id x h =
       let own = term_at-kept t u wider.terms id h.first.one.0 in
       let one = term_at-kept t u wider.terms x.condition h.condition.0 in

@@ -6,7 +6,7 @@ use Rattle.term_core.specs.declared.ids.TermId.{TermId}
 use Rattle.term_core.specs.Tables.{TableView, term_at}
 use Rattle.proof_log.specs.Logs.{IsFormulaIn}
 use Rattle.proof_log.specs.Theories.{IsTermIn}
-use Rattle.term_clauses.specs.declared.choices.Choice.{Choice}
+use Rattle.term_clauses.specs.declared.choices.IteParts.{IteParts}
 
 -- The numbers are those of two terms of one sort.
 pub record AreComparable (t : TableView) (a b : TermId) : Type 0 where
@@ -26,7 +26,7 @@ abbrev pub IsNoChoice : Term → Type 0
 IsNoChoice t = (branch_equalities t ≡ []) × (choice_clauses t ≡ [])
 
 -- The term is a choice between terms of another sort than Bool, with these parts.
-pub record IsIteTerm (t : TableView) (id : TermId) (x : Choice) : Type 0 where
+pub record IsIteTerm (t : TableView) (id : TermId) (x : IteParts) : Type 0 where
   -- what chooses is a formula
   pub condition : IsFormulaIn t x.condition
   -- the first term has the sort of the choice

@@ -23,7 +23,7 @@ use world_io::NoMemory;
 ///
 /// Source: SMT-LIB 2.6, theory Core, `ite`.
 #[derive(Clone, Copy)]
-pub(crate) struct Choice {
+pub(crate) struct IteParts {
     /// The formula that chooses.
     pub(crate) condition: TermId,
     /// The term where that is true.
@@ -33,7 +33,7 @@ pub(crate) struct Choice {
 }
 
 /// Gives the parts of a choice between terms of another sort than Bool; `None` where the term is none.
-pub(crate) fn choice_of(table: &TermTable, id: TermId) -> Option<Choice>
+pub(crate) fn choice_of(table: &TermTable, id: TermId) -> Option<IteParts>
     requires { IsTermIn table.now id }
     ensures { MatchOption result (IsNoChoice (term_at table.now id)) (λ x. IsIteTerm table.now id x) }
 {
@@ -43,7 +43,7 @@ pub(crate) fn choice_of(table: &TermTable, id: TermId) -> Option<Choice>
     let node = table.node(id);
     let arguments = node.arguments.as_slice();
     match node.head {
-        Head::Ite => Some(Choice {
+        Head::Ite => Some(IteParts {
             condition: arguments[0],
             first: arguments[1],
             second: arguments[2],

@@ -10,7 +10,7 @@ ghost use Rattle.rule_bool.specs.Schemes.{HasPlaces};
 ghost use Rattle.proof_log.specs.Logs.{IsFormulaIn};
 ghost use Rattle.term_clauses.specs.Stating.{ComesBefore, NamesTerm, NamesAll, Widens, IsSingle, single};
 
-use spec_proofs::{Rest, Side};
+use spec_proofs::{ArgumentLiteral, Rest};
 use std::alloc::Global;
 use term_core::{Head, Node, TermId, TermTable};
 use world_io::NoMemory;
@@ -53,7 +53,12 @@ fn argument(table: &TermTable, id: TermId, place: usize) -> TermId
 }
 
 /// Gives the argument of a place as it stands, or puts its negation.
-fn side(alloc: Global, table: &mut TermTable, id: TermId, side: Side) -> Result<TermId, NoMemory>
+fn side(
+    alloc: Global,
+    table: &mut TermTable,
+    id: TermId,
+    side: ArgumentLiteral,
+) -> Result<TermId, NoMemory>
     requires there { IsIn table.old id }
     requires arguments { All (IsFormulaOver table.old.symbols) (arguments_of (term_at table.old id)) }
     requires place { side.place < length (arguments_of (term_at table.old id)) }
@@ -103,7 +108,7 @@ fn with_sides(
     table: &mut TermTable,
     id: TermId,
     front: TermId,
-    sides: &[Side],
+    sides: &[ArgumentLiteral],
 ) -> Result<Vec<TermId>, NoMemory>
     requires there { ComesBefore table.old id front }
     requires places { All (λ x. x.place < length (arguments_of (term_at table.old id))) sides.now }

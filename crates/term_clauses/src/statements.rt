@@ -19,7 +19,7 @@ use crate::signs::{argument_count, innermost, signed, with_rest};
 use crate::steps::state;
 use proof_log::{ProofLog, Rule, StepId};
 use rule_bool::{are_formulas, scheme_of};
-use spec_proofs::{Rest, Side};
+use spec_proofs::{ArgumentLiteral, Rest};
 use std::alloc::Global;
 use term_core::{TermId, TermTable};
 use world_io::NoMemory;
@@ -182,7 +182,7 @@ fn state_any(
 {
     let count = argument_count(table, id);
     'places: for place in 0..count {
-        let rest = Rest::One(Side { place, positive });
+        let rest = Rest::One(ArgumentLiteral { place, positive });
         state_single(alloc, table, log, steps, id, front, rule, rest)?;
     }
     Ok(())

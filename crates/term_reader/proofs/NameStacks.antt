@@ -10,7 +10,7 @@ use Rattle.spec_text.specs.Bytes.{Name, among}
 use Rattle.spec_sorts.specs.Theory.{look_up}
 use Rattle.term_core.specs.NameLists.{HaveNoTwice}
 use Rattle.term_core.proofs.NamesApart.{bytes_same, same_bytes, not_there}
-use Rattle.term_reader.specs.declared.name_stack.Place.{Place}
+use Rattle.term_reader.specs.declared.name_stack.NameEntry.{NameEntry}
 use Rattle.term_reader.specs.NameStacks.{no_place, names_at, numbers_in, place_after, latest_of, IsStack, IsLatest, MeetsName, newest}
 
 -- the latest place with one place more
@@ -141,19 +141,19 @@ newest_push (m ∷ ns) [] n x l = absurd (omega (arith, l))
 newest_push (m ∷ ns) (y ∷ xs) n x l = ap (λ es. es ++ (m, y) ∷ []) (newest_push ns xs n x (omega (arith, l)))
 
 -- what is written at places
-module _ (met : List Name) (places : List Place) where
+module _ (met : List Name) (places : List NameEntry) where
   name_of : (k : ℕ) → k < length places → get_or (names_at met places) k [] ≡ get_or met (get_or (numbers_in places) k 0) []
-  name_of k lt = get_or-map (λ (p : Place). get_or met p.number []) places k no_place [] lt ∙ ap (λ n. get_or met n []) (sym (get_or-map (λ (p : Place). p.number) places k no_place 0 lt))
+  name_of k lt = get_or-map (λ (p : NameEntry). get_or met p.number []) places k no_place [] lt ∙ ap (λ n. get_or met n []) (sym (get_or-map (λ (p : NameEntry). p.number) places k no_place 0 lt))
 
   names_long : length (names_at met places) ≡ length places
-  names_long = length-map places (λ (p : Place). get_or met p.number [])
+  names_long = length-map places (λ (p : NameEntry). get_or met p.number [])
 
   numbers_long : length (numbers_in places) ≡ length places
-  numbers_long = length-map places (λ (p : Place). p.number)
+  numbers_long = length-map places (λ (p : NameEntry). p.number)
 
-module _ (met : List Name) (latest : List ℕ) (places : List Place) (h : IsStack met latest places) where
+module _ (met : List Name) (latest : List ℕ) (places : List NameEntry) (h : IsStack met latest places) where
   number_there : (k : ℕ) → k < length places → get_or (numbers_in places) k 0 < length met
-  number_there k lt = subst (λ n. n < length met) (sym (get_or-map (λ (p : Place). p.number) places k no_place 0 lt)) (h.there k no_place lt)
+  number_there k lt = subst (λ n. n < length met) (sym (get_or-map (λ (p : NameEntry). p.number) places k no_place 0 lt)) (h.there k no_place lt)
 
   -- a name that was not met has no place
   pub not_met : (n : Name) → among met n ≡ false → among (names_at met places) n ≡ false
@@ -185,30 +185,30 @@ module _ (met : List Name) (latest : List ℕ) (places : List Place) (h : IsStac
         }
 
 -- a number above all has no place
-latest_absent : (n : ℕ) (places : List Place) → All (λ (p : Place). p.number < n) places → latest_of n (numbers_in places) ≡ 0
+latest_absent : (n : ℕ) (places : List NameEntry) → All (λ (p : NameEntry). p.number < n) places → latest_of n (numbers_in places) ≡ 0
 latest_absent n [] h = refl
 latest_absent n (p ∷ places) h = elim (tells p.number n) [
-  | inl e ↦ (let lt : p.number < n = All-head (λ (q : Place). q.number < n) p places h in absurd (omega (arith, lt, e.1)))
-  | inr e ↦ (λ i. place_after (latest_absent n places (All-tail (λ (q : Place). q.number < n) p places h) i) (e.0 i))
+  | inl e ↦ (let lt : p.number < n = All-head (λ (q : NameEntry). q.number < n) p places h in absurd (omega (arith, lt, e.1)))
+  | inr e ↦ (λ i. place_after (latest_absent n places (All-tail (λ (q : NameEntry). q.number < n) p places h) i) (e.0 i))
 ]
 
 -- more names are met
-names_more : (met more : List Name) (places : List Place) → All (λ (p : Place). p.number < length met) places → names_at (met ++ more) places ≡ names_at met places
+names_more : (met more : List Name) (places : List NameEntry) → All (λ (p : NameEntry). p.number < length met) places → names_at (met ++ more) places ≡ names_at met places
 names_more met more [] h = refl
 names_more met more (p ∷ places) h =
-    let one : get_or (met ++ more) p.number [] ≡ get_or met p.number [] = get_or_append_left met more [] p.number (All-head (λ (q : Place). q.number < length met) p places h) in
-    let rest = names_more met more places (All-tail (λ (q : Place). q.number < length met) p places h) in
+    let one : get_or (met ++ more) p.number [] ≡ get_or met p.number [] = get_or_append_left met more [] p.number (All-head (λ (q : NameEntry). q.number < length met) p places h) in
+    let rest = names_more met more places (All-tail (λ (q : NameEntry). q.number < length met) p places h) in
     λ i. one i ∷ rest i
 
-pub names_kept : (met more : List Name) (latest later : List ℕ) (places : List Place) → IsStack met latest places → MeetsName met latest more later → names_at more places ≡ names_at met places
+pub names_kept : (met more : List Name) (latest later : List ℕ) (places : List NameEntry) → IsStack met latest places → MeetsName met latest more later → names_at more places ≡ names_at met places
 names_kept met more latest later places h (inl e) = ap (λ ns. names_at ns places) e.0
 names_kept met more latest later places h (inr e) = ap (λ ns. names_at ns places) e.1 ∙ names_more met (e.0 ∷ []) places h.there
 
-pub stack_kept : (met more : List Name) (latest later : List ℕ) (places : List Place) → IsStack met latest places → MeetsName met latest more later → IsStack more later places
+pub stack_kept : (met more : List Name) (latest later : List ℕ) (places : List NameEntry) → IsStack met latest places → MeetsName met latest more later → IsStack more later places
 stack_kept met more latest later places h (inl e) = subst (λ ns. IsStack ns later places) (sym e.0) (subst (λ ls. IsStack met ls places) (sym e.1) h)
 stack_kept met more latest later places h (inr e) = subst (λ ns. IsStack ns later places) (sym e.1) (subst (λ ls. IsStack (met ++ e.0 ∷ []) ls places) (sym e.2) (record {
   long = omega (arith, length-append latest (0 ∷ []), length-append met (e.0 ∷ []), h.long);
-  there = All-weaker (λ (p : Place). p.number < length met) (λ (p : Place). p.number < length (met ++ e.0 ∷ [])) (λ p lt. omega (arith, lt, length-append met (e.0 ∷ []))) places h.there;
+  there = All-weaker (λ (p : NameEntry). p.number < length met) (λ (p : NameEntry). p.number < length (met ++ e.0 ∷ [])) (λ p lt. omega (arith, lt, length-append met (e.0 ∷ []))) places h.there;
   each = each;
   hidden = h.hidden;
 }))
@@ -219,18 +219,18 @@ stack_kept met more latest later places h (inr e) = subst (λ ns. IsStack ns lat
       | inr ge ↦
           (let is : k ≡ length met = omega (arith, ge, lt, length-append met (e.0 ∷ [])) in
           ap (λ j. get_or (latest ++ 0 ∷ []) j 0) (is ∙ sym h.long) ∙ get_or-append_seam latest 0 [] 0
-          ∙ sym (latest_absent k places (subst (λ j. All (λ (p : Place). p.number < j) places) (sym is) h.there)))
+          ∙ sym (latest_absent k places (subst (λ j. All (λ (p : NameEntry). p.number < j) places) (sym is) h.there)))
     ]
 
-module _ (met : List Name) (latest : List ℕ) (places : List Place) (h : IsStack met latest places) where
-  numbers_with : (p : Place) → numbers_in (places ++ p ∷ []) ≡ numbers_in places ++ p.number ∷ []
-  numbers_with p = map-append (λ (q : Place). q.number) places (p ∷ [])
+module _ (met : List Name) (latest : List ℕ) (places : List NameEntry) (h : IsStack met latest places) where
+  numbers_with : (p : NameEntry) → numbers_in (places ++ p ∷ []) ≡ numbers_in places ++ p.number ∷ []
+  numbers_with p = map-append (λ (q : NameEntry). q.number) places (p ∷ [])
 
   -- a place more
-  pub stack_pushed : (k m : ℕ) (p : Place) → k < length met → m ≡ suc (length places) → p.number ≡ k → p.hidden ≡ get_or latest k 0 → IsStack met (set latest k m) (places ++ p ∷ [])
+  pub stack_pushed : (k m : ℕ) (p : NameEntry) → k < length met → m ≡ suc (length places) → p.number ≡ k → p.hidden ≡ get_or latest k 0 → IsStack met (set latest k m) (places ++ p ∷ [])
   stack_pushed k m p inside count number_is hidden_is = record {
     long = length-set latest k m ∙ h.long;
-    there = All-push (λ (q : Place). q.number < length met) places p h.there (omega (arith, number_is, inside));
+    there = All-push (λ (q : NameEntry). q.number < length met) places p h.there (omega (arith, number_is, inside));
     each = each;
     hidden = hidden;
   }
@@ -251,47 +251,47 @@ module _ (met : List Name) (latest : List ℕ) (places : List Place) (h : IsStac
         | inl le ↦
             (let here : get_or (places ++ p ∷ []) j no_place ≡ get_or places j no_place = get_or_append_left places (p ∷ []) no_place j le in
             let front : take j (numbers_in (places ++ p ∷ [])) ≡ take j (numbers_in places) = ap (take j) (numbers_with p) ∙ take-append-le j (numbers_in places) (p.number ∷ []) (omega (arith, le, numbers_long met places)) in
-            ap (λ (q : Place). q.hidden) here ∙ h.hidden j le ∙ (λ i. latest_of (sym here i).number (sym front i)))
+            ap (λ (q : NameEntry). q.hidden) here ∙ h.hidden j le ∙ (λ i. latest_of (sym here i).number (sym front i)))
         | inr ge ↦
             (let is : j ≡ length places = omega (arith, ge, lt, length-append places (p ∷ [])) in
             let here : get_or (places ++ p ∷ []) j no_place ≡ p = ap (λ i. get_or (places ++ p ∷ []) i no_place) is ∙ get_or-append_seam places p [] no_place in
             let front : take j (numbers_in (places ++ p ∷ [])) ≡ numbers_in places = ap (take j) (numbers_with p) ∙ take_at (numbers_in places) (p.number ∷ []) j (numbers_long met places ∙ sym is) in
-            ap (λ (q : Place). q.hidden) here ∙ hidden_is ∙ h.each k inside ∙ ap (λ n. latest_of n (numbers_in places)) (sym number_is) ∙ (λ i. latest_of (sym here i).number (sym front i)))
+            ap (λ (q : NameEntry). q.hidden) here ∙ hidden_is ∙ h.each k inside ∙ ap (λ n. latest_of n (numbers_in places)) (sym number_is) ∙ (λ i. latest_of (sym here i).number (sym front i)))
       ]
 
   -- a place less
-  pub stack_popped : (es : List Place) (e : Place) → places ≡ es ++ e ∷ [] → IsStack met (set latest e.number e.hidden) es
+  pub stack_popped : (es : List NameEntry) (e : NameEntry) → places ≡ es ++ e ∷ [] → IsStack met (set latest e.number e.hidden) es
   stack_popped es e is = record {
     long = length-set latest e.number e.hidden ∙ h.long;
-    there = λ j d lt. subst (λ (q : Place). q.number < length met) (before j d lt) (h.there j d (omega (arith, lt, more)));
+    there = λ j d lt. subst (λ (q : NameEntry). q.number < length met) (before j d lt) (h.there j d (omega (arith, lt, more)));
     each = each;
     hidden = λ j lt.
         let here = before j no_place lt in
         let front : take j (numbers_in places) ≡ take j (numbers_in es) = ap (take j) numbers_are ∙ take-append-le j (numbers_in es) (e.number ∷ []) (omega (arith, lt, long_es)) in
-        ap (λ (q : Place). q.hidden) (sym here) ∙ h.hidden j (omega (arith, lt, more)) ∙ (λ i. latest_of (here i).number (front i));
+        ap (λ (q : NameEntry). q.hidden) (sym here) ∙ h.hidden j (omega (arith, lt, more)) ∙ (λ i. latest_of (here i).number (front i));
   }
     where
       more : length places ≡ length es + 1
       more = ap length is ∙ length-append es (e ∷ [])
 
       long_es : length (numbers_in es) ≡ length es
-      long_es = length-map es (λ (q : Place). q.number)
+      long_es = length-map es (λ (q : NameEntry). q.number)
 
       numbers_are : numbers_in places ≡ numbers_in es ++ e.number ∷ []
-      numbers_are = ap numbers_in is ∙ map-append (λ (q : Place). q.number) es (e ∷ [])
+      numbers_are = ap numbers_in is ∙ map-append (λ (q : NameEntry). q.number) es (e ∷ [])
 
-      before : (j : ℕ) (d : Place) → j < length es → get_or places j d ≡ get_or es j d
+      before : (j : ℕ) (d : NameEntry) → j < length es → get_or places j d ≡ get_or es j d
       before j d lt = ap (λ qs. get_or qs j d) is ∙ get_or_append_left es (e ∷ []) d j lt
 
       last : get_or places (length es) no_place ≡ e
       last = ap (λ qs. get_or qs (length es) no_place) is ∙ get_or-append_seam es e [] no_place
 
       inside : e.number < length met
-      inside = subst (λ (q : Place). q.number < length met) last (h.there (length es) no_place (omega (arith, more)))
+      inside = subst (λ (q : NameEntry). q.number < length met) last (h.there (length es) no_place (omega (arith, more)))
 
       hidden_is : e.hidden ≡ latest_of e.number (numbers_in es)
       hidden_is =
-          ap (λ (q : Place). q.hidden) (sym last) ∙ h.hidden (length es) (omega (arith, more))
+          ap (λ (q : NameEntry). q.hidden) (sym last) ∙ h.hidden (length es) (omega (arith, more))
           ∙ (λ i. latest_of (last i).number (take (length es) (numbers_in places)))
           ∙ ap (latest_of e.number) (ap (take (length es)) numbers_are ∙ take_at (numbers_in es) (e.number ∷ []) (length es) long_es)
 
@@ -308,9 +308,9 @@ in_range (x ∷ xs) zero d e lt = refl
 in_range (x ∷ xs) (suc k) d e lt = in_range xs k d e (omega (arith, lt))
 
 -- a name more at places
-pub names_push : (met : List Name) (places : List Place) (p : Place) (n : Name) → get_or met p.number [] ≡ n → names_at met (places ++ p ∷ []) ≡ names_at met places ++ n ∷ []
-names_push met places p n is = map-append (λ (q : Place). get_or met q.number []) places (p ∷ []) ∙ ap (λ m. names_at met places ++ m ∷ []) is
+pub names_push : (met : List Name) (places : List NameEntry) (p : NameEntry) (n : Name) → get_or met p.number [] ≡ n → names_at met (places ++ p ∷ []) ≡ names_at met places ++ n ∷ []
+names_push met places p n is = map-append (λ (q : NameEntry). get_or met q.number []) places (p ∷ []) ∙ ap (λ m. names_at met places ++ m ∷ []) is
 
 -- the first names
-pub names_front : (met : List Name) (places : List Place) (k : ℕ) → names_at met (take k places) ≡ take k (names_at met places)
-names_front met places k = sym (take-map (λ (q : Place). get_or met q.number []) k places)
+pub names_front : (met : List Name) (places : List NameEntry) (k : ℕ) → names_at met (take k places) ≡ take k (names_at met places)
+names_front met places k = sym (take-map (λ (q : NameEntry). get_or met q.number []) k places)

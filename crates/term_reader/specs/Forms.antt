@@ -10,10 +10,10 @@ use Rattle.smt_sexpr.specs.declared.items.Trees.{Trees as Cursor}
 use Rattle.smt_sexpr.specs.declared.shapes.Word as code
 use Rattle.smt_sexpr.specs.Items.{tree_meant}
 use Rattle.smt_sexpr.specs.Views.{word_view}
-use Rattle.term_reader.specs.declared.forms.Form.{Form as FormCode}
-use Rattle.term_reader.specs.declared.forms.Form.TheVariants as forms
-use Rattle.term_reader.specs.declared.attributes.Next.{Next as NextCode}
-use Rattle.term_reader.specs.declared.attributes.Next.TheVariants as nexts
+use Rattle.term_reader.specs.declared.forms.ListForm.{ListForm as FormCode}
+use Rattle.term_reader.specs.declared.forms.ListForm.TheVariants as forms
+use Rattle.term_reader.specs.declared.attributes.NextAttribute.{NextAttribute as NextCode}
+use Rattle.term_reader.specs.declared.attributes.NextAttribute.TheVariants as nexts
 
 -- a form of the code
 abbrev pub form_meant : FormCode → Form

@@ -1,19 +1,19 @@
 -- Names that hide each other, by the numbers of those that were met.
 use Rattle.std.specs.Prelude.{◌≡◌, ℕ, zero, suc, ◌<◌, ◌⊎◌, Bool, true, false, List, [], ◌∷◌, ◌++◌, length, take, map, All, get_or, slice_index_or, ◌==◌}
 use Rattle.spec_text.specs.Bytes.{Name}
-use Rattle.term_reader.specs.declared.name_stack.Place.{Place}
+use Rattle.term_reader.specs.declared.name_stack.NameEntry.{NameEntry}
 
 -- what no number of places means
-abbrev pub no_place : Place
+abbrev pub no_place : NameEntry
 no_place = record { number = 0; hidden = 0 }
 
 -- the names that stand at places, oldest first
-abbrev pub names_at : List Name → List Place → List Name
-names_at met places = map (λ (p : Place). slice_index_or met p.number []) places
+abbrev pub names_at : List Name → List NameEntry → List Name
+names_at met places = map (λ (p : NameEntry). slice_index_or met p.number []) places
 
 -- the numbers of the names that stand at places
-abbrev pub numbers_in : List Place → List ℕ
-numbers_in places = map (λ (p : Place). p.number) places
+abbrev pub numbers_in : List NameEntry → List ℕ
+numbers_in places = map (λ (p : NameEntry). p.number) places
 
 -- one more than a place after the first, or 1 where there is none and the first is meant
 abbrev pub place_after : ℕ → Bool → ℕ
@@ -27,11 +27,11 @@ latest_of n [] = 0
 latest_of n (m ∷ ms) = place_after (latest_of n ms) (m == n)
 
 -- Places of names that were met: what is known of each name is where it stands last.
-pub record IsStack (met : List Name) (latest : List ℕ) (places : List Place) : Type 0 where
+pub record IsStack (met : List Name) (latest : List ℕ) (places : List NameEntry) : Type 0 where
   -- as many latest places as names
   pub long : length latest ≡ length met
   -- each place is of a name that was met
-  pub there : All (λ (p : Place). p.number < length met) places
+  pub there : All (λ (p : NameEntry). p.number < length met) places
   -- the latest place of each name
   pub each : (k : ℕ) → k < length met → slice_index_or latest k 0 ≡ latest_of k (numbers_in places)
   -- and before each of its places

@@ -10,7 +10,7 @@ use smt_sexpr::{Kind, Trees, View, look, same_bytes, split};
 
 /// Tells what may come next among attributes. Source: SMT-LIB 2.6, sections 3.4 and 3.6.
 #[derive(Clone, Copy, Debug, PartialEq, Eq)]
-pub enum Next {
+pub enum NextAttribute {
     /// A keyword alone.
     Keyword,
     /// A keyword, or the value of the one before.
@@ -19,13 +19,13 @@ pub enum Next {
     Name,
 }
 
-fn after_keyword(keyword: &[u8]) -> Next
+fn after_keyword(keyword: &[u8]) -> NextAttribute
     ensures { next_meant result ≡ after_keyword keyword.now }
 {
     if same_bytes(keyword, b"named") {
-        Next::Name
+        NextAttribute::Name
     } else {
-        Next::Value
+        NextAttribute::Value
     }
 }
 
@@ -33,20 +33,20 @@ fn after_keyword(keyword: &[u8]) -> Next
 ///
 /// After a keyword comes one value at most, and after `:named` a name.
 /// Source: SMT-LIB 2.6, sections 3.4 and 3.6.
-pub fn next_after(next: Next, item: Trees<'_>) -> Option<Next>
+pub fn next_after(next: NextAttribute, item: Trees<'_>) -> Option<NextAttribute>
     ensures { option_map next_meant result ≡ next_after (next_meant next) (tree_meant item.entry) }
 {
     match (next, look(item)) {
-        (Next::Name, View::Atom(_, kind, _)) => {
+        (NextAttribute::Name, View::Atom(_, kind, _)) => {
             if is_name(kind) {
-                return Some(Next::Keyword);
+                return Some(NextAttribute::Keyword);
             }
             None
         }
-        (Next::Name, View::List(_, _, _)) => None,
+        (NextAttribute::Name, View::List(_, _, _)) => None,
         (_, View::Atom(_, Kind::Keyword, name)) => Some(after_keyword(name)),
-        (Next::Value, _) => Some(Next::Keyword),
-        (Next::Keyword, _) => None,
+        (NextAttribute::Value, _) => Some(NextAttribute::Keyword),
+        (NextAttribute::Keyword, _) => None,
     }
 }
 
@@ -56,7 +56,7 @@ pub fn next_after(next: Next, item: Trees<'_>) -> Option<Next>
 pub fn are_attributes(attributes: Trees<'_>) -> bool
     ensures { result ≡ are_attributes a_keyword (trees_meant attributes.entry) }
 {
-    let mut next = Next::Keyword;
+    let mut next = NextAttribute::Keyword;
     let mut rest = attributes;
     'attributes: while let Some((item, after)) = split(rest) {
         let Some(then) = next_after(next, item) else {
@@ -66,7 +66,7 @@ pub fn are_attributes(attributes: Trees<'_>) -> bool
         rest = after;
     }
     match next {
-        Next::Name => false,
+        NextAttribute::Name => false,
         _ => true,
     }
 }

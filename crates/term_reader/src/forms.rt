@@ -13,7 +13,7 @@ use smt_sexpr::{
 
 /// Tells what a list in a term is. Source: SMT-LIB 2.6, section 3.6.
 #[derive(Clone, Copy, Debug)]
-pub enum Form<'a> {
+pub enum ListForm<'a> {
     /// No term is written so.
     Malformed,
     /// It has a reserved word as its head: the offset of the word.
@@ -92,36 +92,36 @@ fn is_annotated(arguments: Trees<'_>) -> bool
     are_attributes(attributes)
 }
 
-fn word_form<'a>(at: u64, name: &'a [u8], arguments: Trees<'a>) -> Form<'a>
+fn word_form<'a>(at: u64, name: &'a [u8], arguments: Trees<'a>) -> ListForm<'a>
     ensures { form_meant result ≡ word_form at name.now (trees_meant arguments.entry) }
 {
     if same_bytes(name, b"let") {
         if is_let(arguments) {
-            return Form::Binds;
+            return ListForm::Binds;
         }
-        return Form::Malformed;
+        return ListForm::Malformed;
     }
     if same_bytes(name, b"!") {
         if is_annotated(arguments) {
-            return Form::Annotates;
+            return ListForm::Annotates;
         }
-        return Form::Malformed;
+        return ListForm::Malformed;
     }
-    Form::Reserved(at)
+    ListForm::Reserved(at)
 }
 
 /// Tells what a list in a term is, by its first item and the others. It takes no memory, and time that goes with its items.
 ///
 /// Source: SMT-LIB 2.6, section 3.6.
-pub fn list_form<'a>(head: Trees<'a>, arguments: Trees<'a>) -> Form<'a>
+pub fn list_form<'a>(head: Trees<'a>, arguments: Trees<'a>) -> ListForm<'a>
     ensures { form_meant result ≡ form (tree_meant head.entry) (trees_meant arguments.entry) }
 {
     let Some(_) = split(arguments) else {
-        return Form::Malformed;
+        return ListForm::Malformed;
     };
     match look(head) {
-        View::Atom(at, Kind::Simple | Kind::Quoted, name) => Form::Applies(u64::from(at), name),
+        View::Atom(at, Kind::Simple | Kind::Quoted, name) => ListForm::Applies(u64::from(at), name),
         View::Atom(at, Kind::Reserved, name) => word_form(u64::from(at), name, arguments),
-        _ => Form::Malformed,
+        _ => ListForm::Malformed,
     }
 }

@@ -11,7 +11,7 @@ use world_io::NoMemory;
 
 /// Holds one name of a stack: its number among all names that were met, and where it stood last before.
 #[derive(Clone, Copy, Debug, PartialEq, Eq)]
-pub(crate) struct Place {
+pub(crate) struct NameEntry {
     /// The name's number.
     pub number: u64,
     /// One more than the place of the name's latest entry before this; 0 where it has none.
@@ -25,7 +25,7 @@ pub(crate) struct Place {
 pub struct NameStack {
     met: NameTable,
     latest: Vec<u64>,
-    places: Vec<Place>,
+    places: Vec<NameEntry>,
 }
 
 // The number of a name among those that were met, which it gets where it was not met before.
@@ -110,7 +110,7 @@ impl NameStack {
         self.places.reserve(1)?;
         let number = number_of(&mut self.met, &mut self.latest, name)?;
         let hidden = self.latest[number as usize];
-        self.places.push_reserved(Place { number, hidden });
+        self.places.push_reserved(NameEntry { number, hidden });
         self.latest[number as usize] = self.places.len() as u64;
         Ok(())
     }

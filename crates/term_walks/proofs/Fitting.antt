@@ -12,7 +12,7 @@ use Rattle.term_core.specs.declared.ids.SymbolId.{SymbolId}
 use Rattle.term_core.specs.Symbols.{symbol_at, IsSymbol}
 use Rattle.term_core.specs.Tables.{TableView, head_meant}
 use Rattle.term_walks.specs.declared.values.Value.{Value as CodeValue}
-use Rattle.term_walks.specs.declared.values.Row.{Row as CodeRow}
+use Rattle.term_walks.specs.declared.values.ValueRow.{ValueRow as CodeRow}
 use Rattle.term_walks.specs.declared.values.Table.{Table as CodeTable}
 use Rattle.term_walks.specs.declared.values.Interp.{Interp}
 use Rattle.term_walks.specs.Valuations.{value_meant, values_meant, row_meant, table_meant, no_table, IsNamed, AreNamed, IsRowNamed, AreRowsNamed, IsTableNamed, HasTables, Tells}

@@ -15,7 +15,7 @@ use Rattle.spec_sorts.specs.Subsets.{arguments_of}
 use Rattle.term_core.specs.declared.ids.TermId.{TermId}
 use Rattle.term_core.specs.Tables.{TableView, AreIn, AreDifferent, term_at, clause_at, takes}
 use Rattle.term_walks.specs.declared.values.Value.{Value as CodeValue}
-use Rattle.term_walks.specs.declared.valuation.Known.{Known}
+use Rattle.term_walks.specs.declared.valuation.KnownValue.{KnownValue}
 use Rattle.term_walks.specs.Valuations.{value_meant, values_meant}
 use Rattle.term_walks.specs.Orders.{number_term, In, Ascends, IsOrder, StandsBefore, HasArgumentsBefore}
 use Rattle.term_walks.specs.KnownValues.{known_meant, AreKnownValues}
@@ -73,7 +73,7 @@ unfolding bounded_values
 take_end t i ids k made le = ap (λ l. with_front (values_meant t.sorts made) (bounded_values i [] (terms_of (clause_at t l)))) (drop_of_length-le ids le) ∙ ap Ok (append-nil (values_meant t.sorts made))
 
 -- something more is known, of the next
-pub known_push : (t : TableView) (i : Interpretation) (order : List ℕ) (ks new : List Known) (x : Known) (at : ℕ) → new ≡ ks ++ x ∷ [] → length ks ≡ at → AreKnownValues t i order ks
+pub known_push : (t : TableView) (i : Interpretation) (order : List ℕ) (ks new : List KnownValue) (x : KnownValue) (at : ℕ) → new ≡ ks ++ x ∷ [] → length ks ≡ at → AreKnownValues t i order ks
     → known_meant t.sorts x ≡ bounded_value i [] (number_term t (get_or order at 0)) → AreKnownValues t i order new
 known_push t i order ks new x at e long are last j d lt =
     let within : j < length ks + 1 = subst (λ m. j < m) (ap length e ∙ length_push ks x) lt in

@@ -8,13 +8,13 @@ use Rattle.ratio128.specs.declared.wide.Wide.{Wide}
 use Rattle.ratio128.specs.Meant.{overflow}
 use Rattle.term_core.specs.Tables.{TableView}
 use Rattle.term_walks.specs.declared.values.Value.{Value as CodeValue}
-use Rattle.term_walks.specs.declared.valuation.Known.{Known}
-use Rattle.term_walks.specs.declared.valuation.Known.TheVariants as known
+use Rattle.term_walks.specs.declared.valuation.KnownValue.{KnownValue}
+use Rattle.term_walks.specs.declared.valuation.KnownValue.TheVariants as known
 use Rattle.term_walks.specs.Valuations.{value_meant, values_meant, IsNamed}
 use Rattle.term_walks.specs.Orders.{number_term}
 
 -- the value that is known, or the overflow
-abbrev pub known_meant : List Name → Known → Result Value Overflow
+abbrev pub known_meant : List Name → KnownValue → Result Value Overflow
 known_meant sorts (known.Value v) = Ok (value_meant sorts v)
 known_meant sorts (known.Wide w) = Err (overflow w)
 
@@ -24,10 +24,10 @@ taken_meant sorts None vs = Ok (values_meant sorts vs)
 taken_meant sorts (Some w) vs = Err (overflow w)
 
 -- the sort of an element that is known is one of the sorts
-abbrev pub IsKnownNamed : List Name → Known → Type 0
+abbrev pub IsKnownNamed : List Name → KnownValue → Type 0
 IsKnownNamed sorts (known.Value v) = IsNamed sorts v
 IsKnownNamed sorts (known.Wide w) = Unit {0}
 
 -- under an interpretation, this is what is to be known of the first terms of an order
-abbrev pub AreKnownValues : TableView → Interpretation → List ℕ → List Known → Type 0
-AreKnownValues t i order ks = (j : ℕ) (d : Known) → j < length ks → known_meant t.sorts (get_or ks j d) ≡ bounded_value i [] (number_term t (get_or order j 0))
+abbrev pub AreKnownValues : TableView → Interpretation → List ℕ → List KnownValue → Type 0
+AreKnownValues t i order ks = (j : ℕ) (d : KnownValue) → j < length ks → known_meant t.sorts (get_or ks j d) ≡ bounded_value i [] (number_term t (get_or order j 0))

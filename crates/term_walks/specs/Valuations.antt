@@ -13,7 +13,7 @@ use Rattle.term_core.specs.Symbols.{sort_name, IsSort, symbol_at, IsSymbol}
 use Rattle.term_core.specs.Tables.{TableView}
 use Rattle.term_walks.specs.declared.values.Value.{Value as CodeValue}
 use Rattle.term_walks.specs.declared.values.Value.TheVariants as values
-use Rattle.term_walks.specs.declared.values.Row.{Row as CodeRow}
+use Rattle.term_walks.specs.declared.values.ValueRow.{ValueRow as CodeRow}
 use Rattle.term_walks.specs.declared.values.Table.{Table as CodeTable}
 use Rattle.term_walks.specs.declared.values.Interp.{Interp}
 use Rattle.term_walks.specs.declared.values.ValueStop.{ValueStop}

@@ -12,4 +12,4 @@ mod values;
 pub use count::fit_in;
 pub use substitution::fill;
 pub use valuation::value;
-pub use values::{Interp, Row, Table, Value, ValueStop};
+pub use values::{Interp, Table, Value, ValueRow, ValueStop};

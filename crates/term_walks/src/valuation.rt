@@ -20,7 +20,7 @@ use world_io::NoMemory;
 
 /// Says what is known of a term: its value, or its first operation that leaves the bound on fractions.
 #[derive(Clone, Copy)]
-pub enum Known {
+pub enum KnownValue {
     /// The value.
     Value(Value),
     /// The operation.
@@ -73,8 +73,8 @@ fn value_along(
         known.push(next)?;
     }
     match known_at(order, known.as_slice(), id.0) {
-        Known::Value(value) => Ok(value),
-        Known::Wide(wide) => Err(ValueStop::Wide(wide)),
+        KnownValue::Value(value) => Ok(value),
+        KnownValue::Wide(wide) => Err(ValueStop::Wide(wide)),
     }
 }
 
@@ -84,9 +84,9 @@ fn known_next(
     interp: &Interp,
     id: TermId,
     order: &[u64],
-    known: &[Known],
+    known: &[KnownValue],
     taken: &mut Vec<Value>,
-) -> Result<Known, NoMemory>
+) -> Result<KnownValue, NoMemory>
     requires there { IsIn table.now id }
     requires interprets { HasTables table.now interp.now }
     requires ascends { Ascends order.now }
@@ -99,7 +99,7 @@ fn known_next(
     table.ids_are_unique();
     let node = table.node(id);
     match take_values(taken, order, known, node.arguments.as_slice())? {
-        Some(wide) => Ok(Known::Wide(wide)),
+        Some(wide) => Ok(KnownValue::Wide(wide)),
         None => Ok(known_by_head(interp, node.head, taken.as_slice())),
     }
 }
@@ -108,7 +108,7 @@ fn known_next(
 fn take_values(
     taken: &mut Vec<Value>,
     order: &[u64],
-    known: &[Known],
+    known: &[KnownValue],
     arguments: &[TermId],
 ) -> Result<Option<Wide>, NoMemory>
     requires ascends { Ascends order.now }
@@ -122,17 +122,17 @@ fn take_values(
     taken.clear();
     'arguments: for id in arguments.iter() {
         match known_at(order, known, id.0) {
-            Known::Value(value) => {
+            KnownValue::Value(value) => {
                 taken.push(value)?;
             }
-            Known::Wide(wide) => return Ok(Some(wide)),
+            KnownValue::Wide(wide) => return Ok(Some(wide)),
         }
     }
     Ok(None)
 }
 
 /// Says what is known of the term of a number.
-fn known_at(order: &[u64], known: &[Known], number: u64) -> Known
+fn known_at(order: &[u64], known: &[KnownValue], number: u64) -> KnownValue
     requires ascends { Ascends order.now }
     requires there { StandsBefore order.now (length known.now) number }
     ensures exact { (t : TableView) (i : Interpretation) → AreKnownValues t i order.now known.now
@@ -144,7 +144,7 @@ fn known_at(order: &[u64], known: &[Known], number: u64) -> Known
 }
 
 /// Says what is known of a head at its arguments' values.
-fn known_by_head(interp: &Interp, head: Head, values: &[Value]) -> Known
+fn known_by_head(interp: &Interp, head: Head, values: &[Value]) -> KnownValue
     requires { HasTable interp.now head }
     ensures exact { (t : TableView) (i : Interpretation) → Tells t interp.now i → HasHead t head
         → AreNamed t.sorts values.now
@@ -153,7 +153,7 @@ fn known_by_head(interp: &Interp, head: Head, values: &[Value]) -> Known
         → IsKnownNamed t.sorts result }
 {
     match head_value(interp, head, values) {
-        Ok(value) => Known::Value(value),
-        Err(wide) => Known::Wide(wide),
+        Ok(value) => KnownValue::Value(value),
+        Err(wide) => KnownValue::Wide(wide),
     }
 }

@@ -28,7 +28,7 @@ pub enum Value {
 
 /// Says the value of a symbol at arguments.
 #[derive(Drop, Debug)]
-pub struct Row {
+pub struct ValueRow {
     /// The arguments' values, in their order.
     pub arguments: Vec<Value>,
     /// The value there.
@@ -41,7 +41,7 @@ pub struct Row {
 #[derive(Drop, Debug)]
 pub struct Table {
     /// The rows.
-    pub rows: Vec<Row>,
+    pub rows: Vec<ValueRow>,
     /// The value for all other arguments.
     pub default: Value,
 }
@@ -140,7 +140,7 @@ impl Value {
     }
 }
 
-impl Row {
+impl ValueRow {
     /// Tells whether the row is the one for these arguments.
     fn fits(&self, arguments: &[Value]) -> bool
         ensures { (sorts : List Name) → HaveNoTwice sorts → AreNamed sorts self.now.arguments.items

@@ -3,7 +3,7 @@
 use crate::rows::{are, bytes_of, number};
 use smt_lexer::place_at;
 use smt_sexpr::{
-    Item, Kind, LimitedText, Next, Place, Refused, Sexpr, Trees, is_keyword, is_reserved,
+    Item, Kind, LimitedText, NextSexpr, Place, Refused, Sexpr, Trees, is_keyword, is_reserved,
     is_simple, is_symbol, is_word, list_first, list_inside, offset, print, same_bytes, tree_alone,
     want, want_end, want_keyword, word_first,
 };
@@ -136,17 +136,17 @@ fn is_one(
 /// Tells whether what was read is what is wanted.
 fn fits(
     alloc: Global,
-    read: Result<Next<'_>, Refused>,
+    read: Result<NextSexpr<'_>, Refused>,
     kind: &str,
     printed: &[u8],
     numbers: &str,
 ) -> Result<bool, NoMemory> {
     match read {
-        Ok(Next::One(s, after)) => {
+        Ok(NextSexpr::One(s, after)) => {
             Ok(kind == "One" && is_one(alloc, &s, after, printed, numbers)?)
         }
-        Ok(Next::Close(after)) => Ok(kind == "Close" && are(&[after.offset], numbers)),
-        Ok(Next::End) => Ok(kind == "End"),
+        Ok(NextSexpr::Close(after)) => Ok(kind == "Close" && are(&[after.offset], numbers)),
+        Ok(NextSexpr::End) => Ok(kind == "End"),
         Err(Refused::Memory) => Err(NoMemory),
         Err(Refused::Fault(r)) => {
             Ok(kind == r.fault.name() && are(&[r.place.offset, r.place.line, r.place.col], numbers))

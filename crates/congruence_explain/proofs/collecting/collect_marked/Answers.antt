@@ -1,7 +1,7 @@
 -- The loop begins with the path, and ends at the oldest edge.
 use Rattle.std.proofs.Common.{◌≡◌, ◌+◌, ◌-◌, [], List, refl, sym, ◌∙◌, subst, arith}
 use Rattle.congruence_explain.specs.declared.claims.Claim.TheVariants.{Equality}
-use Rattle.congruence_explain.specs.declared.claims.Said.{Said}
+use Rattle.congruence_explain.specs.declared.claims.SignedClaim.{SignedClaim}
 use Rattle.congruence_explain.specs.Claims.{literal_claimed}
 use Rattle.congruence_explain.specs.Steps.{derived, setting, notes, Going}
 use Rattle.congruence_explain.proofs.Going.{going_start, going_ends}
@@ -21,7 +21,7 @@ edges-init g c =
       derives = c.tell.ensures.derives;
       within = omega (arith, c.len-k.ensures);
       count = c.tell.ensures.count ∙ c.requires.1.1.1;
-      going = subst (λ (ss : List Said). Going s c.len-k.result asked (notes g.start new needed ss)) (sym c.new-stated.ensures.items) (subst (λ n. Going s n asked (notes g.start new needed [])) (sym c.len-k.ensures) begun);
+      going = subst (λ (ss : List SignedClaim). Going s c.len-k.result asked (notes g.start new needed ss)) (sym c.new-stated.ensures.items) (subst (λ n. Going s n asked (notes g.start new needed [])) (sym c.len-k.ensures) begun);
     }
 
 pub edges-preserved : goal.edges-preserved

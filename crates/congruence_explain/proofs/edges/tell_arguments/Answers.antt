@@ -3,7 +3,7 @@ use Rattle.std.proofs.Common.{◌≡◌, ◌++◌, ◌∷◌, [], List, map, sym
 use Rattle.std.specs.Prelude.{All}
 use Rattle.spec_text.specs.Trees.{none}
 use Rattle.spec_rules.specs.Rules.{IsRight}
-use Rattle.congruence_explain.specs.declared.claims.Said.{Said}
+use Rattle.congruence_explain.specs.declared.claims.SignedClaim.{SignedClaim}
 use Rattle.congruence_explain.specs.Rules.{arguments_rule}
 use Rattle.congruence_explain.specs.Claims.{IsClaimOf, term_said, literal_said, equality_claim, all_unequal}
 use Rattle.congruence_explain.specs.Steps.{derived, spoken, steps_since}
@@ -85,8 +85,8 @@ put_alone-requires g c =
     let rule : c.rule_of_arguments.result ≡ arguments_rule xs = c.rule_of_arguments.ensures ∙ ap arguments_rule (c.deref-3.ensures.value ∙ sym c.deref.ensures.value) in (
       c.tell_pairs.ensures.derives,
       (
-        subst (λ (ss : List Said). All (λ s. IsClaimOf (spoken g.start) t s.claim) ss) (sym whole) (arguments_in t ts v f b k lt label xs ys xs_are ys_are x y a_is b_is),
-        subst (λ (ss : List Said). IsRight c.rule_of_arguments.result [] none (map (term_said t) ss)) (sym whole)
+        subst (λ (ss : List SignedClaim). All (λ s. IsClaimOf (spoken g.start) t s.claim) ss) (sym whole) (arguments_in t ts v f b k lt label xs ys xs_are ys_are x y a_is b_is),
+        subst (λ (ss : List SignedClaim). IsRight c.rule_of_arguments.result [] none (map (term_said t) ss)) (sym whole)
             (subst (λ r. IsRight r [] none (map (term_said t) (all_unequal xs ys ++ equality_claim x y ∷ []))) (sym rule) (arguments_right t ts v f b k lt label xs ys xs_are ys_are x y a_is b_is)),
       ),
     )

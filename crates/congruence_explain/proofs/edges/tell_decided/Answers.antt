@@ -5,7 +5,7 @@ use Rattle.spec_text.specs.Trees.{none}
 use Rattle.spec_sorts.specs.Literals.{Literal}
 use Rattle.spec_rules.specs.Rules.{IsRight}
 use Rattle.congruence_relation.specs.Relation.{truth_of}
-use Rattle.congruence_explain.specs.declared.claims.Said.{Said}
+use Rattle.congruence_explain.specs.declared.claims.SignedClaim.{SignedClaim}
 use Rattle.congruence_explain.specs.Claims.{IsClaimOf, term_said, literal_said, equality_claim, said_value}
 use Rattle.congruence_explain.specs.Steps.{derived, spoken, steps_since}
 use Rattle.congruence_explain.proofs.Decided.{value_in, value_right, decided_clause, decided_in, decided_right, two_more}
@@ -19,8 +19,8 @@ put_alone-requires g c =
     let said : c.value_said.result ∷ [] ≡ said_value (truth_of ts p) p ∷ [] = (λ i. (c.value_said.ensures ∙ ap (λ v. said_value v p) c.truth-value.ensures) i ∷ []) in (
       c.requires.0,
       (
-        subst (λ (ss : List Said). All (λ s. IsClaimOf (spoken g.start) t s.claim) ss) (sym said) (value_in t ts c.requires.1.truths (spoken g.start) p p),
-        subst (λ (ss : List Said). IsRight c.rule_of_value.result [] none (map (term_said t) ss)) (sym said)
+        subst (λ (ss : List SignedClaim). All (λ s. IsClaimOf (spoken g.start) t s.claim) ss) (sym said) (value_in t ts c.requires.1.truths (spoken g.start) p p),
+        subst (λ (ss : List SignedClaim). IsRight c.rule_of_value.result [] none (map (term_said t) ss)) (sym said)
             (subst (λ r. IsRight r [] none (map (term_said t) (said_value (truth_of ts p) p ∷ []))) (sym c.rule_of_value.ensures) (value_right t ts c.requires.1.truths p)),
       ),
     )
@@ -34,8 +34,8 @@ put_alone-requires-2 g c =
     (λ i. (c.equality.ensures ∙ ap (equality_claim l.term) c.truth-value.ensures) i ∷ c.denial.ensures i ∷ (c.value_said-2.ensures ∙ ap (λ v. said_value v (not l.positive)) c.truth-value.ensures) i ∷ []) in (
       c.put_alone.ensures.derives,
       (
-        subst (λ (ss : List Said). All (λ s. IsClaimOf (spoken g.start) t s.claim) ss) (sym said) (decided_in t ts c.requires.1.truths (spoken g.start) l c.requires.1.atom c.requires.1.made),
-        subst (λ (ss : List Said). IsRight c.rule_of_decided.result [] none (map (term_said t) ss)) (sym said)
+        subst (λ (ss : List SignedClaim). All (λ s. IsClaimOf (spoken g.start) t s.claim) ss) (sym said) (decided_in t ts c.requires.1.truths (spoken g.start) l c.requires.1.atom c.requires.1.made),
+        subst (λ (ss : List SignedClaim). IsRight c.rule_of_decided.result [] none (map (term_said t) ss)) (sym said)
             (subst (λ r. IsRight r [] none (map (term_said t) (decided_clause t ts c.requires.1.truths l))) (sym c.rule_of_decided.ensures) (decided_right t ts c.requires.1.truths l c.requires.1.atom)),
       ),
     )

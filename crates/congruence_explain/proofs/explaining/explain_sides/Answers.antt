@@ -2,7 +2,7 @@
 use Rattle.std.proofs.Common.{◌≡◌, ◌++◌, ◌∷◌, [], List, true, refl, sym, ◌∙◌, ap, subst}
 use Rattle.std.specs.Prelude.{All}
 use Rattle.std.proofs.lemmas.List.Elements.{All-push}
-use Rattle.congruence_explain.specs.declared.claims.Said.{Said}
+use Rattle.congruence_explain.specs.declared.claims.SignedClaim.{SignedClaim}
 use Rattle.congruence_explain.specs.Claims.{IsClaimOf, said_value}
 use Rattle.congruence_explain.specs.Steps.{derived, spoken, setting, steps_since}
 use Rattle.congruence_explain.proofs.Concluding.{start_derives, start_length, sides_found, denials_in, premises_since, resolution_follows, sides_conflict, explained_put, each_other}
@@ -26,8 +26,8 @@ put-requires g c =
     let collected = c.in_ok-stated.ensures.collected in
     let found = sides_found g.start c.args.table.now c.args.log.now c.requires.0 c.requires.1.0 c.ids_are_unique.ensures v e c.sides.result.0 c.sides.result.1 c.requires.1.1.1 c.sides.ensures in
     let whole : c.deref.result.now ≡ stated ++ said_value e true ∷ [] = c.deref.ensures.value ∙ c.in_ok-push.ensures.items ∙ ap (λ x. stated ++ x ∷ []) c.value_said.ensures in
-    let claims = subst (λ (ss : List Said). All (λ s. IsClaimOf (spoken g.start) t s.claim) ss) (sym whole)
-    (All-push (λ (s : Said). IsClaimOf (spoken g.start) t s.claim) stated (said_value e true) (denials_in t ts v g.start.facts b stated collected.held) (c.requires.1.1.1.atom, c.requires.1.1.1.made)) in
+    let claims = subst (λ (ss : List SignedClaim). All (λ s. IsClaimOf (spoken g.start) t s.claim) ss) (sym whole)
+    (All-push (λ (s : SignedClaim). IsClaimOf (spoken g.start) t s.claim) stated (said_value e true) (denials_in t ts v g.start.facts b stated collected.held) (c.requires.1.1.1.atom, c.requires.1.1.1.made)) in
     let from_is = start_length g.start c.args.table.now c.args.log.now c.requires.0 c.requires.1.0 c.len-from.result c.len-from.ensures in
     let conflict = sides_conflict (setting t ts v) (steps_since g.start (derived u log)) e c.sides.result.0 c.sides.result.1 stated c.deref.result.now found.0 collected whole in (
       c.collect.ensures.derives,

@@ -3,7 +3,7 @@ use Rattle.std.proofs.Common.{◌≡◌, [], List, refl, sym, subst}
 use Rattle.std.specs.Prelude.{All}
 use Rattle.spec_sorts.specs.Literals.{complement}
 use Rattle.spec_proofs.specs.Resolution.{Conflicts}
-use Rattle.congruence_explain.specs.declared.claims.Said.{Said}
+use Rattle.congruence_explain.specs.declared.claims.SignedClaim.{SignedClaim}
 use Rattle.congruence_explain.specs.Claims.{IsClaimOf}
 use Rattle.congruence_explain.specs.Steps.{derived, spoken, setting, steps_since, all_denied, IsDenial}
 use Rattle.congruence_explain.proofs.Concluding.{start_derives, start_length, denials_in, premises_since, resolution_follows, truths_conflict, explained_put, each_denied}
@@ -23,7 +23,7 @@ put-requires g c =
     let stated = c.in_ok-stated.stated.items in
     let collected = c.in_ok-stated.ensures.collected in
     let whole : c.deref.result.now ≡ stated = c.deref.ensures.value in
-    let claims = subst (λ (ss : List Said). All (λ s. IsClaimOf (spoken g.start) t s.claim) ss) (sym whole) (denials_in t ts v g.start.facts b stated collected.held) in
+    let claims = subst (λ (ss : List SignedClaim). All (λ s. IsClaimOf (spoken g.start) t s.claim) ss) (sym whole) (denials_in t ts v g.start.facts b stated collected.held) in
     let from_is = start_length g.start c.args.table.now c.args.log.now c.requires.0 c.requires.1.0 c.len-from.result c.len-from.ensures in
     let s = setting t ts v in
     let conflict = truths_conflict s (steps_since g.start (derived c.collect.new.table c.collect.new.log)) (steps_since g.start (derived u log)) stated collected c.in_ok-tell_apart.ensures.steps in (
@@ -31,7 +31,7 @@ put-requires g c =
       (
         claims,
         (
-          resolution_follows g.start u log c.len-from.result c.in_ok-premises.premises.items c.deref.result.now from_is c.in_ok-premises.ensures claims (subst (λ (ss : List Said). Conflicts complement (steps_since g.start (derived u log)) (all_denied t ss)) (sym whole) conflict),
+          resolution_follows g.start u log c.len-from.result c.in_ok-premises.premises.items c.deref.result.now from_is c.in_ok-premises.ensures claims (subst (λ (ss : List SignedClaim). Conflicts complement (steps_since g.start (derived u log)) (all_denied t ss)) (sym whole) conflict),
           premises_since g.start log c.len-from.result c.in_ok-premises.premises.items from_is c.in_ok-premises.ensures,
         ),
       ),
@@ -42,5 +42,5 @@ returns-clause-step g c =
     let v = c.args.forest.now.now in
     let s = setting g.start.table c.args.truths v in
     let stated = c.in_ok-stated.stated.items in
-    let each = each_denied s [] c.deref.result.now (subst (λ (ss : List Said). All (IsDenial s) ss) (sym c.deref.ensures.value) c.in_ok-stated.ensures.collected.held) in
+    let each = each_denied s [] c.deref.result.now (subst (λ (ss : List SignedClaim). All (IsDenial s) ss) (sym c.deref.ensures.value) c.in_ok-stated.ensures.collected.held) in
     explained_put s g.start (derived c.tell_apart.new.table c.tell_apart.new.log) (derived c.put.new.table c.put.new.log) c.deref.result.now [] refl each c.put.result c.put.ensures.put

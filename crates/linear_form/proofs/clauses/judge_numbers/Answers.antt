@@ -1,7 +1,7 @@
 -- That the clause is judged by its parts.
 use Rattle.std.proofs.Common.{List, subst}
 use Rattle.spec_arithmetic.specs.Contradictions.{judged_parts}
-use Rattle.linear_form.specs.declared.sums.Part.{Part}
+use Rattle.linear_form.specs.declared.sums.WeightedForm.{WeightedForm}
 use Rattle.linear_form.specs.Sums.{parts_meant, HaveVariablesOf, JudgesSum}
 use Rattle.linear_form.specs.Clauses.{numbered_meant, judged_numbers}
 use Rattle.linear_form.proofs.SumSteps.{judges_failed}
@@ -18,4 +18,4 @@ pub returns : goal.returns
 returns c =
     let t = c.args.table.now in
     parts_judged (numbered_meant t c.args.numbers.now) (parts_meant t c.in_ok-parts.parts.items) c.judge_parts.result c.in_ok-parts.ensures.comes
-    (subst (λ (ps : List Part). HaveVariablesOf t ps → JudgesSum (judged_parts (parts_meant t ps)) c.judge_parts.result) c.as_slice.ensures.value (c.judge_parts.ensures t c.ids_are_unique.ensures) c.in_ok-parts.ensures.there)
+    (subst (λ (ps : List WeightedForm). HaveVariablesOf t ps → JudgesSum (judged_parts (parts_meant t ps)) c.judge_parts.result) c.as_slice.ensures.value (c.judge_parts.ensures t c.ids_are_unique.ensures) c.in_ok-parts.ensures.there)

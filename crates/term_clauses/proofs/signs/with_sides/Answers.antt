@@ -2,7 +2,7 @@
 use Rattle.std.proofs.Common.{◌≡◌, false, [], ◌∷◌, ◌++◌, List, map, take, get_or, ap, ◌∙◌, refl, arith}
 use Rattle.spec_sorts.specs.Terms.{Term}
 use Rattle.spec_sorts.specs.Subsets.{arguments_of}
-use Rattle.spec_proofs.specs.declared.Side.{Side}
+use Rattle.spec_proofs.specs.declared.ArgumentLiteral.{ArgumentLiteral}
 use Rattle.spec_rules.specs.Schemes.{side_of}
 use Rattle.term_core.specs.declared.ids.TermId.{TermId}
 use Rattle.term_core.specs.Tables.{term_at, AreIn}
@@ -12,7 +12,7 @@ use Rattle.term_clauses.proofs.Arguments.{Widens-self, Widens-trans, literal_the
 use Rattle.term_clauses.proofs.signs.with_sides.Goals as goal
 
 -- what no number of sides means
-abbrev no_side : Side
+abbrev no_side : ArgumentLiteral
 no_side = record { place = 0; positive = false }
 
 pub returns-in_err-push-clause-wider : goal.returns-in_err-push-clause-wider

@@ -3,7 +3,7 @@ use Rattle.std.proofs.Common.{◌≡◌, ◌≢◌, ◌∙◌, List, [], get_or,
 use Rattle.std.proofs.lemmas.List.{get_or_default}
 use Rattle.term_core.specs.declared.ids.Lit.{Lit}
 use Rattle.clause_literals.specs.Statuses.{IsFalsified}
-use Rattle.clause_store.specs.declared.entry.Entry.{Entry}
+use Rattle.clause_store.specs.declared.entry.StoredClause.{StoredClause}
 use Rattle.clause_store.specs.declared.pair.Pair.{Pair}
 use Rattle.clause_store.specs.Stores.{no_pair}
 use Rattle.clause_store.specs.Entries.{clauses_of, bare}
@@ -163,12 +163,12 @@ force-requires-2-clause-others c =
     let there = clause_there s.entries.items s.pairs.items c.args.n ps c.requires.there in
     let is2 = entry_clause s.entries.items c.args.n c.index-2.result.now lt c.index-2.ensures c.deref-2.result.now c.deref-2.ensures.value in
     let entries = c.watch-3.ensures.entries ∙ c.watch-2.ensures.entries in
-    subst (λ (es : List Entry). AreFalseBut c.args.trail.now.literals (get_or (clauses_of es) c.args.n []) c.in-Some.one) (sym entries) (subst (λ (xs : List Lit). AreFalseBut c.args.trail.now.literals xs c.in-Some.one) is2 c.in_default-find_open.ensures)
+    subst (λ (es : List StoredClause). AreFalseBut c.args.trail.now.literals (get_or (clauses_of es) c.args.n []) c.in-Some.one) (sym entries) (subst (λ (xs : List Lit). AreFalseBut c.args.trail.now.literals xs c.in-Some.one) is2 c.in_default-find_open.ensures)
 
 pub returns-clause-goes : goal.returns-clause-goes
 returns-clause-goes c =
     let entries = c.watch-3.ensures.entries ∙ c.watch-2.ensures.entries in
-    goes_past _ _ _ _ _ _ (subst (λ (es : List Entry). Advances (bare es) c.args.trail.now c.force-2.new.trail) entries c.force-2.ensures.advances) (repaired_on _ _ _ _ c.watch-2.ensures.repaired c.watch-3.ensures.repaired)
+    goes_past _ _ _ _ _ _ (subst (λ (es : List StoredClause). Advances (bare es) c.args.trail.now c.force-2.new.trail) entries c.force-2.ensures.advances) (repaired_on _ _ _ _ c.watch-2.ensures.repaired c.watch-3.ensures.repaired)
 
 pub returns-clause-repaired : goal.returns-clause-repaired
 returns-clause-repaired c =

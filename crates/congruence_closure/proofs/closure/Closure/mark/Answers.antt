@@ -1,6 +1,6 @@
 -- The mark has what there is now.
 use Rattle.std.proofs.Common.{◌≡◌, ◌++◌, ◌∷◌, [], refl, sym, ap, ◌∙◌, subst}
-use Rattle.congruence_closure.specs.declared.closure.Mark.{Mark}
+use Rattle.congruence_closure.specs.declared.closure.ClosureMark.{ClosureMark}
 use Rattle.congruence_closure.specs.State.{PartsState, extent_of}
 use Rattle.congruence_closure.specs.Whole.{ClosureFits}
 use Rattle.congruence_closure.proofs.Marks.{whole_marked}
@@ -8,7 +8,7 @@ use Rattle.congruence_closure.proofs.closure.Closure.mark.Goals as goal
 
 pub invariant_of-self-2 : goal.invariant_of-self-2
 invariant_of-self-2 c =
-    let m : Mark = record { extent = c.extent.result; pending = c.in_ok-pending.pending; settled = c.self.inside.settled } in
+    let m : ClosureMark = record { extent = c.extent.result; pending = c.in_ok-pending.pending; settled = c.self.inside.settled } in
     let is : c.push_reserved.new.self.items ≡ c.self.inside.marks.items ++ record { extent = c.extent.result; pending = c.in_ok-pending.pending; settled = c.self.inside.settled } ∷ []
     = c.push_reserved.ensures.items ∙ ap (λ ms. ms ++ record { extent = c.extent.result; pending = c.in_ok-pending.pending; settled = c.self.inside.settled } ∷ []) c.in_ok-reserve.ensures.items in
     subst (ClosureFits c.mark.new.self c.self.inside.settled) (sym is)

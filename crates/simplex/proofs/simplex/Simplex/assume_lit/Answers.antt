@@ -5,7 +5,7 @@ use Rattle.std.proofs.lemmas.Bool.{false≢true}
 use Rattle.proof_log.specs.Theories.{TheoryView}
 use Rattle.held_literals.proofs.Rooms.{held_more}
 use Rattle.simplex_check.proofs.KeptFirst.{keeps_more}
-use Rattle.simplex_atoms.specs.declared.place.Place.{Place}
+use Rattle.simplex_atoms.specs.declared.place.Slack.{Slack}
 use Rattle.simplex_atoms.specs.Places.{place_in}
 use Rattle.simplex_held.specs.Stated.{stated_at, stated_by}
 use Rattle.simplex.specs.Views.{SimplexView, SimplexFits, IsOf, placed_count}
@@ -25,7 +25,7 @@ hold_by-requires-clause-room c =
     } in
     let there = subst (λ (x : SimplexView). Contains x.theory.watched l.term) (sym c.self.view_is) c.requires.watched in
     let fresh = subst (λ (x : SimplexView). Contains x.theory.held l → ⊥) (sym c.self.view_is) c.requires.new in
-    subst (λ (o : Option Place). length (stated_at o l) ≤ s.bounds.room) (sym c.in-Some.ensures)
+    subst (λ (o : Option Slack). length (stated_at o l) ≤ s.bounds.room) (sym c.in-Some.ensures)
     (room_for v c.self.invariant.0 c.marks_are_prefixes.ensures l
     (held_more s.literals.held s.literals.watched l c.are_of_watched_terms.ensures there fresh))
 
@@ -41,7 +41,7 @@ invariant_of-self c =
       starts = s.starts.items;
     } in
     let stated : HoldsStated s.bounds c.hold_by.new.bounds (stated_by s.atoms.placed l) =
-    subst (λ (o : Option Place). HoldsStated s.bounds c.hold_by.new.bounds (stated_at o l)) c.in-Some.ensures
+    subst (λ (o : Option Slack). HoldsStated s.bounds c.hold_by.new.bounds (stated_at o l)) c.in-Some.ensures
     (record { held = c.hold_by.ensures.held; variables = c.hold_by.ensures.variables; room = c.hold_by.ensures.room }) in (
       subst (λ (x : TheoryView). SimplexFits (record { theory = x; atoms = s.atoms; board = s.board; bounds = c.hold_by.new.bounds; starts = s.starts.items }))
           (sym c.hold.ensures) (fits_held v c.self.invariant.0 c.marks_are_prefixes.ensures l c.hold_by.new.bounds stated),
@@ -62,7 +62,7 @@ invariant_of-self-in_default c =
     } in
     let none = no_place c.place.result (place_in s.atoms.placed l.term) c.place.ensures c.in_default.not-Some in
     let stated : HoldsStated s.bounds s.bounds (stated_by s.atoms.placed l) =
-    subst (λ (o : Option Place). HoldsStated s.bounds s.bounds (stated_at o l)) (sym none) (nothing_stated s.bounds) in (
+    subst (λ (o : Option Slack). HoldsStated s.bounds s.bounds (stated_at o l)) (sym none) (nothing_stated s.bounds) in (
       subst (λ (x : TheoryView). SimplexFits (record { theory = x; atoms = s.atoms; board = s.board; bounds = s.bounds; starts = s.starts.items }))
           (sym c.hold.ensures) (fits_held v c.self.invariant.0 c.marks_are_prefixes.ensures l s.bounds stated),
       c.self.invariant.1 ∙ ap (λ (x : TheoryView). placed_count s.atoms.placed x.watched) (sym c.hold.ensures),

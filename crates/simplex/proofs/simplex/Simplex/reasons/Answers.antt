@@ -1,6 +1,6 @@
 -- The bounds are those that held literals state.
 use Rattle.std.proofs.Common.{IfErr, IfOk, sym, ◌∙◌, subst}
-use Rattle.simplex_check.specs.declared.check.Outcome.TheVariants.{Crossed, Conflict}
+use Rattle.simplex_check.specs.declared.check.CheckOutcome.TheVariants.{Crossed, Conflict}
 use Rattle.simplex_atoms.specs.Atoms.{AtomsFit}
 use Rattle.simplex_reasons.specs.Reasons.{OnReasonOverflow}
 use Rattle.simplex_held.proofs.Stating.{bounds_stated}

@@ -1,7 +1,7 @@
 use Rattle.std.proofs.Common.{◌≡◌, ◌≤◌, ◌-◌, ◌+◌, length, take, ap, sym, ◌∙◌, arith}
 use Rattle.std.proofs.lemmas.List.{take-map, length-set, length-take-le, take-take}
 use Rattle.std.proofs.Math.Seq.{take-length}
-use Rattle.simplex_bounds.specs.declared.held.Entry.{Entry}
+use Rattle.simplex_bounds.specs.declared.held.HeldBound.{HeldBound}
 use Rattle.simplex_bounds.specs.Kept.{bounds_of}
 use Rattle.simplex_bounds.proofs.Changes.{kept_back}
 use Rattle.simplex_bounds.proofs.held.Bounds.back.Goals as goal
@@ -29,4 +29,4 @@ returns-clause-held c =
     let i = c.loop-self.invariant in
     let all : length es.items ≡ c.args.len = omega (arith, es.ok.0, i.enough, c.loop-self-test.false, c.len.ensures) in
     let kept : es.items ≡ take c.args.len c.self.inside.entries.items = sym (take-length es.items) ∙ ap (λ n. take n es.items) all ∙ i.same in
-    rw (← c.self.view_is) (ap bounds_of kept ∙ sym (take-map (λ (e : Entry). e.bound) c.args.len c.self.inside.entries.items))
+    rw (← c.self.view_is) (ap bounds_of kept ∙ sym (take-map (λ (e : HeldBound). e.bound) c.args.len c.self.inside.entries.items))

@@ -1,0 +1,89 @@
+-- One part of propagation after the other.
+use Rattle.std.proofs.Common.{arith, ◌≡◌, ◌≢◌, ◌-◌, ◌<◌, ◌≤◌, ◌∙◌, ℕ, List, length, take, inl, inr, ap, subst, sym}
+use Rattle.std.proofs.lemmas.Bool.{cases_lt}
+use Rattle.std.proofs.lemmas.Bool.Decides.{nat_tests}
+use Rattle.std.proofs.lemmas.List.{length-append}
+use Rattle.clause_store.specs.declared.entry.StoredClause.{StoredClause}
+use Rattle.clause_store.specs.declared.watched.Watched.{Watched}
+use Rattle.clause_store.specs.Entries.{clauses_of, bare}
+use Rattle.clause_store.specs.Propagating.{IsPropagated}
+use Rattle.clause_store.specs.Watching.{AreResting}
+use Rattle.clause_store.specs.Resting.{last_of}
+use Rattle.clause_store.proofs.Atwork.{adds_after, adds_marked, kept_by, quiet_by, rested_still, works_on}
+use Rattle.clause_store.proofs.Working.{last_none, last_read, last_within}
+use Rattle.clause_store.proofs.parts.StoreParts.propagate.Goals as goal
+use Rattle.clause_store.proofs.parts.StoreParts.propagate.Goals.{then-is_empty, else-is_empty}
+
+pub returns-in-Some-clause-kept : goal.returns-in-Some-clause-kept
+returns-in-Some-clause-kept c = kept_by c.begin.new.self c.begin.new.trail c.begin.ensures.work
+
+pub returns-in_err-n-clause-kept : goal.returns-in_err-n-clause-kept
+returns-in_err-n-clause-kept c = kept_by c.settle_all.new.self c.settle_all.new.trail c.settle_all.ensures.work
+
+pub returns-in_err-n-clause-adds : goal.returns-in_err-n-clause-adds
+returns-in_err-n-clause-adds c = adds_after c.args.self.now c.begin.new.self c.settle_all.new.self c.args.trail.now c.begin.new.trail c.settle_all.new.trail c.begin.ensures.watched c.begin.ensures.advances c.settle_all.ensures.goes
+
+pub returns-in-Some-2-clause-kept : goal.returns-in-Some-2-clause-kept
+returns-in-Some-2-clause-kept c = kept_by c.settle_all.new.self c.settle_all.new.trail c.settle_all.ensures.work
+
+pub returns-in-Some-2-clause-adds : goal.returns-in-Some-2-clause-adds
+returns-in-Some-2-clause-adds c = adds_after c.args.self.now c.begin.new.self c.settle_all.new.self c.args.trail.now c.begin.new.trail c.settle_all.new.trail c.begin.ensures.watched c.begin.ensures.advances c.settle_all.ensures.goes
+
+pub walk_from-requires-clause-from : goal.walk_from-requires-clause-from
+walk_from-requires-clause-from c =
+    let rests = c.begin.new.self.rests.items in
+    let from : c.if-is_empty.from ≡ last_of rests = elim c.if-is_empty.branch [
+      | then-is_empty w ↦ w.from-is ∙ sym (last_none rests (grind (arith, nat_tests, w.if-is_empty.ensures, c.begin.new.self.rests.ok.0)))
+      | else-is_empty w ↦
+          let filled : 0 ≢ length rests = grind (arith, nat_tests, w.if-is_empty.ensures, c.begin.new.self.rests.ok.0) in
+          let some : 0 < length rests = elim (cases_lt 0 (length rests)) [ inl lt ↦ lt | inr le ↦ absurd (filled (omega (arith, le))) ] in
+          w.from-is ∙ last_read rests (w.len.result - 1) w.index.result.now (omega (arith, w.len.ensures, c.begin.new.self.rests.ok.0)) some w.index.ensures
+    ] in
+    let within : last_of rests ≤ length c.begin.new.trail.literals = omega (arith, last_within rests c.begin.new.trail.propagated c.begin.ensures.work.rests.within, c.is_sound.ensures.propagated) in
+    let a = c.settle_all.ensures.goes.advances.0 in
+    omega (arith, from, within, ap length a.literals, length-append c.begin.new.trail.literals a.more)
+
+pub walk_from-requires-clause-rested : goal.walk_from-requires-clause-rested
+walk_from-requires-clause-rested c =
+    let rests = c.begin.new.self.rests.items in
+    let from : c.if-is_empty.from ≡ last_of rests = elim c.if-is_empty.branch [
+      | then-is_empty w ↦ w.from-is ∙ sym (last_none rests (grind (arith, nat_tests, w.if-is_empty.ensures, c.begin.new.self.rests.ok.0)))
+      | else-is_empty w ↦
+          let filled : 0 ≢ length rests = grind (arith, nat_tests, w.if-is_empty.ensures, c.begin.new.self.rests.ok.0) in
+          let some : 0 < length rests = elim (cases_lt 0 (length rests)) [ inl lt ↦ lt | inr le ↦ absurd (filled (omega (arith, le))) ] in
+          w.from-is ∙ last_read rests (w.len.result - 1) w.index.result.now (omega (arith, w.len.ensures, c.begin.new.self.rests.ok.0)) some w.index.ensures
+    ] in
+    let within : last_of rests ≤ length c.begin.new.trail.literals = omega (arith, last_within rests c.begin.new.trail.propagated c.begin.ensures.work.rests.within, c.is_sound.ensures.propagated) in
+    subst (λ (n : ℕ). AreResting c.settle_all.new.self.settled c.settle_all.new.self.watched.pairs.items (take n c.settle_all.new.trail.literals) c.settle_all.new.trail.literals) (sym from)
+    (rested_still c.begin.new.self c.settle_all.new.self c.begin.new.trail c.settle_all.new.trail (last_of rests) within c.settle_all.ensures.goes c.in_default.ensures.ends)
+
+pub returns-in_err-n-2-clause-kept : goal.returns-in_err-n-2-clause-kept
+returns-in_err-n-2-clause-kept c = kept_by c.walk_from.new.self c.walk_from.new.trail c.walk_from.ensures.work
+
+pub returns-in_err-n-2-clause-adds : goal.returns-in_err-n-2-clause-adds
+returns-in_err-n-2-clause-adds c = adds_after c.args.self.now c.begin.new.self c.walk_from.new.self c.args.trail.now c.begin.new.trail c.walk_from.new.trail c.begin.ensures.watched c.begin.ensures.advances
+    (works_on c.begin.new.self c.settle_all.new.self c.walk_from.new.self c.begin.new.trail c.settle_all.new.trail c.walk_from.new.trail c.settle_all.ensures.goes c.walk_from.ensures.goes)
+
+pub returns-in-Some-3-clause-kept : goal.returns-in-Some-3-clause-kept
+returns-in-Some-3-clause-kept c = kept_by c.walk_from.new.self c.walk_from.new.trail c.walk_from.ensures.work
+
+pub returns-in-Some-3-clause-adds : goal.returns-in-Some-3-clause-adds
+returns-in-Some-3-clause-adds c = adds_after c.args.self.now c.begin.new.self c.walk_from.new.self c.args.trail.now c.begin.new.trail c.walk_from.new.trail c.begin.ensures.watched c.begin.ensures.advances
+    (works_on c.begin.new.self c.settle_all.new.self c.walk_from.new.self c.begin.new.trail c.settle_all.new.trail c.walk_from.new.trail c.settle_all.ensures.goes c.walk_from.ensures.goes)
+
+pub returns-in_err-finish-clause-adds : goal.returns-in_err-finish-clause-adds
+returns-in_err-finish-clause-adds c = adds_marked (bare c.args.self.now.watched.entries.items) c.args.trail.now c.walk_from.new.trail c.finish.new.trail
+    (adds_after c.args.self.now c.begin.new.self c.walk_from.new.self c.args.trail.now c.begin.new.trail c.walk_from.new.trail c.begin.ensures.watched c.begin.ensures.advances
+    (works_on c.begin.new.self c.settle_all.new.self c.walk_from.new.self c.begin.new.trail c.settle_all.new.trail c.walk_from.new.trail c.settle_all.ensures.goes c.walk_from.ensures.goes)) c.finish.ensures.same
+
+pub returns-clause-adds : goal.returns-clause-adds
+returns-clause-adds c = adds_marked (bare c.args.self.now.watched.entries.items) c.args.trail.now c.walk_from.new.trail c.finish.new.trail
+    (adds_after c.args.self.now c.begin.new.self c.walk_from.new.self c.args.trail.now c.begin.new.trail c.walk_from.new.trail c.begin.ensures.watched c.begin.ensures.advances
+    (works_on c.begin.new.self c.settle_all.new.self c.walk_from.new.self c.begin.new.trail c.settle_all.new.trail c.walk_from.new.trail c.settle_all.ensures.goes c.walk_from.ensures.goes)) c.finish.ensures.same
+
+pub returns-clause-ends : goal.returns-clause-ends
+returns-clause-ends c =
+    let es : c.walk_from.new.self.watched.entries.items ≡ c.args.self.now.watched.entries.items = c.walk_from.ensures.goes.entries ∙ c.settle_all.ensures.goes.entries ∙ ap (λ (w : Watched). w.entries.items) c.begin.ensures.watched in
+    subst (λ (xs : List StoredClause). IsPropagated (clauses_of xs) c.finish.new.trail.literals) es
+    (subst (IsPropagated (clauses_of c.walk_from.new.self.watched.entries.items)) (sym c.finish.ensures.same.same.literals)
+    (quiet_by c.walk_from.new.self c.walk_from.new.trail c.walk_from.ensures.work c.walk_from.ensures.all (rw c.in_default-3.is at c.in_ok-n-2.ensures.ends)))

@@ -1,0 +1,17 @@
+-- The clauses rest by the literals that are done.
+use Rattle.std.proofs.Common.{◌≡◌, ◌≤◌, ◌-◌, length, take}
+use Rattle.clause_store.specs.Watching.{AreResting}
+use Rattle.clause_store.specs.Resting.{IsAtWork, WorksOn}
+use Rattle.clause_store.proofs.parts.StoreParts.walk_from.Given as goal
+
+abbrev pub invariant-literals : goal.invariant-literals
+invariant-literals l = record {
+  work : IsAtWork l.self l.trail;
+  all : l.self.settled ≡ length l.self.watched.entries.items;
+  there : l.done ≤ length l.trail.literals;
+  goes : WorksOn l.fn.self l.self l.fn.trail l.trail;
+  rested : AreResting l.self.settled l.self.watched.pairs.items (take l.done l.trail.literals) l.trail.literals;
+}
+
+abbrev pub decreases-literals : goal.decreases-literals
+decreases-literals l = l.trail.vars - l.done

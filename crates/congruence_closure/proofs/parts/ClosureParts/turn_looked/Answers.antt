@@ -1,0 +1,25 @@
+-- The next listed term is looked at.
+use Rattle.std.proofs.Common.{◌≡◌, ◌<◌, length, sym, ap, ◌∙◌, subst, arith}
+use Rattle.congruence_relation.specs.Relation.{Facts}
+use Rattle.congruence_closure.specs.State.{Left, PartsView, HasKey, IsApart}
+use Rattle.congruence_closure.specs.Kept.{state_of}
+use Rattle.congruence_closure.proofs.Steps.{kept_looked}
+use Rattle.congruence_closure.proofs.parts.ClosureParts.turn_looked.Goals as goal
+
+pub invariant_of-self : goal.invariant_of-self
+invariant_of-self c =
+    let told = rw c.in-Quiet.is at c.in_ok-turn.ensures.ok in
+    let looked : c.self-2.inside.looked ≡ c.self.inside.looked
+    = ap (λ (v : PartsView). v.now.left.looked) c.self-2.view_is ∙ ap (λ (l : Left). l.looked) told.0 ∙ sym (ap (λ (v : PartsView). v.now.left.looked) c.self.view_is) in
+    let size : length c.self-2.inside.listing ≡ length c.args.self.now.now.facts.listed
+    = ap (λ (v : PartsView). length v.now.facts.listed) c.self-2.view_is ∙ ap (λ (f : Facts). length f.listed) c.look.ensures.goes.facts in
+    let low : c.self-2.inside.looked < length c.self-2.inside.listing
+    = omega (arith, looked, size, c.requires, ap (λ (v : PartsView). v.now.left.looked) c.self.view_is) in
+    let key = subst (λ (v : PartsView). HasKey v.now c.self.inside.looked) (sym c.self-2.view_is) told.2 in
+    let apart = subst (λ (v : PartsView). IsApart v.now c.self.inside.looked) (sym c.self-2.view_is) told.3 in
+    record {
+      kept = kept_looked (state_of c.self-2.inside) c.self-2.invariant.kept low (subst (HasKey (state_of c.self-2.inside)) (sym looked) key) (subst (IsApart (state_of c.self-2.inside)) (sym looked) apart);
+      terms = c.self-2.invariant.terms;
+      room = c.self-2.invariant.room;
+      next = c.self-2.invariant.next;
+    }
