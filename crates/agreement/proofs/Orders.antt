@@ -65,26 +65,26 @@ module _ (xs : List Shared) (near : NeighboursConcur xs) where
   -- in order by values, terms of one value are of one class
   values_tell : IsSortedBy by_value xs → (x y : Shared) → Contains xs x → Contains xs y → delta x.value ≡ delta y.value → x.class ≡ y.class
   values_tell up x y x_in y_in e =
-      all_alike by_value (ranks_by values_total (λ (s : Shared). s.value)) (λ (s : Shared). s.class) xs up beside x y x_in y_in
+      all_alike by_value (ranks_by values_total (λ (s : Shared). s.value)) (λ (s : Shared). s.class) xs up interface x y x_in y_in
       (ap is_lt (tied_values x.value y.value e)) (ap is_lt (tied_values y.value x.value (sym e)))
     where
-      beside : (k : ℕ) (d : Shared) → k + 1 < length xs → by_value (get_or xs k d) (get_or xs (k + 1) d) ≡ false
+      interface : (k : ℕ) (d : Shared) → k + 1 < length xs → by_value (get_or xs k d) (get_or xs (k + 1) d) ≡ false
           → by_value (get_or xs (k + 1) d) (get_or xs k d) ≡ false → (get_or xs k d).class ≡ (get_or xs (k + 1) d).class
-      beside k d l h back =
+      interface k d l h back =
           (near k d l).1 (same_value (get_or xs k d).value (get_or xs (k + 1) d).value (tied values_total (get_or xs k d).value (get_or xs (k + 1) d).value h back))
 
   -- in order by classes, terms of one class have one value
   classes_tell : IsSortedBy by_class xs → (x y : Shared) → Contains xs x → Contains xs y → x.class ≡ y.class → delta x.value ≡ delta y.value
   classes_tell up x y x_in y_in e =
-      all_alike by_class (ranks_by nat_cmp_total (λ (s : Shared). s.class)) (λ (s : Shared). delta s.value) xs up beside x y x_in y_in
+      all_alike by_class (ranks_by nat_cmp_total (λ (s : Shared). s.class)) (λ (s : Shared). delta s.value) xs up interface x y x_in y_in
       (ap is_lt (same_class x.class y.class e)) (ap is_lt (same_class y.class x.class (sym e)))
     where
       same_class : (a b : ℕ) → a ≡ b → nat_cmp a b ≡ Equal
       same_class a b e = ap (λ k. nat_cmp k b) e ∙ tied_itself nat_cmp_total b
 
-      beside : (k : ℕ) (d : Shared) → k + 1 < length xs → by_class (get_or xs k d) (get_or xs (k + 1) d) ≡ false
+      interface : (k : ℕ) (d : Shared) → k + 1 < length xs → by_class (get_or xs k d) (get_or xs (k + 1) d) ≡ false
           → by_class (get_or xs (k + 1) d) (get_or xs k d) ≡ false → delta (get_or xs k d).value ≡ delta (get_or xs (k + 1) d).value
-      beside k d l h back = (near k d l).0 (tied_class (get_or xs k d).class (get_or xs (k + 1) d).class h back)
+      interface k d l h back = (near k d l).0 (tied_class (get_or xs k d).class (get_or xs (k + 1) d).class h back)
         where
           tied_class : (a b : ℕ) → is_lt (nat_cmp a b) ≡ false → is_lt (nat_cmp b a) ≡ false → a ≡ b
           tied_class a b h k = grind (arith)
@@ -126,9 +126,9 @@ pair_back xs ys s t p h = record {
 -- where neighbours are alike in both orders, the theories agree on all
 pub agree_in : (xs ys zs : List Shared) → IsPermutation xs ys → IsPermutation ys zs → IsSortedBy by_value ys → IsSortedBy by_class zs
     → NeighboursConcur ys → NeighboursConcur zs → Agree xs
-agree_in xs ys zs p q up rise near beside x y x_in y_in =
+agree_in xs ys zs p q up rise near interface x y x_in y_in =
     let x_there = Contains-permutation xs ys x p x_in in
     let y_there = Contains-permutation xs ys y p y_in in (
-      classes_tell zs beside rise x y (Contains-permutation ys zs x q x_there) (Contains-permutation ys zs y q y_there),
+      classes_tell zs interface rise x y (Contains-permutation ys zs x q x_there) (Contains-permutation ys zs y q y_there),
       values_tell ys near up x y x_there y_there,
     )

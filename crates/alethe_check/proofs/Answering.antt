@@ -5,7 +5,7 @@ use Rattle.spec_commands.specs.Checks.{term_limit, HasNoCheck}
 use Rattle.spec_proofs.specs.declared.ProofKind.TheVariants.{NoSuchCheck}
 use Rattle.spec_proofs.specs.Faults.{Fault}
 use Rattle.spec_checking.specs.Accepted.{IsVerdict}
-use Rattle.assertion_stack.specs.Stacks.{Standing}
+use Rattle.assertion_stack.specs.Stacks.{OverTable}
 use Rattle.alethe_reader.specs.declared.errors.LocatedFault.{LocatedFault}
 use Rattle.alethe_reader.specs.Holding.{known_on}
 use Rattle.alethe_reader.specs.Reads.{located_view}
@@ -15,7 +15,7 @@ use Rattle.alethe_check.specs.Judging.{IsJudgedFrom}
 use Rattle.alethe_check.specs.Loads.{bare, IsLoaded}
 use Rattle.alethe_check.specs.Verdicts.{AnswersVerdict, Refuses, fault_view}
 
--- the faults of verdicts stand in the proof
+-- the faults of verdicts are in the proof
 abbrev pub FaultsStand : Type 0
 FaultsStand = (script proof : List ℕ) (k : ℕ) (f : Fault) → IsVerdict script k proof (Some f) → f.offset ≤ length proof
 
@@ -31,7 +31,7 @@ module _ (script : List ℕ) (k : ℕ) (proof : List ℕ) where
   pub no_check : (r : ProofStop) → HasNoCheck term_limit script k → Refuses proof 0 NoSuchCheck r → AnswersVerdict script k proof (Err r)
   no_check r h s = answered record { offset = 0; kind = NoSuchCheck } r (inr (h, refl)) s
 
-  module _ (x : Standing) (l : IsLoaded script k x) where
+  module _ (x : OverTable) (l : IsLoaded script k x) where
     verdict : (found : Option Fault) → IsJudgedFrom (known_on l.stack) proof found → IsVerdict script k proof found
     verdict found j = inl (bare l.stack, l.current, record { commands = j.commands; ending = j.ending; read = j.read; fault = j.fault })
 

@@ -19,12 +19,12 @@ use Rattle.smt_sexpr.specs.Reads.{ReadsSexpr}
 use Rattle.smt_sexpr.proofs.Limits.{stops_in}
 use Rattle.assertion_stack.specs.declared.stack.Effect.{Effect as CodeEffect}
 use Rattle.assertion_stack.specs.declared.stack.Effect.TheVariants as effects
-use Rattle.assertion_stack.specs.Stacks.{Standing, IsStack, Steps, effect_meant}
+use Rattle.assertion_stack.specs.Stacks.{OverTable, IsStack, Steps, effect_meant}
 use Rattle.alethe_reader.proofs.Rows.{nothing_first, read_first}
 use Rattle.alethe_check.specs.Loads.{bare, IsLoaded}
 
 -- A script was read up to an offset: each reading from there on is one of all, and has its check.
-pub record Loading (bytes : List ℕ) (k : ℕ) (x : Standing) (at left : ℕ) : Type 0 where
+pub record Loading (bytes : List ℕ) (k : ℕ) (x : OverTable) (at left : ℕ) : Type 0 where
   -- what is stated
   pub stack : Stack
   -- what the code holds stands for it
@@ -33,7 +33,7 @@ pub record Loading (bytes : List ℕ) (k : ℕ) (x : Standing) (at left : ℕ) :
   pub onward : (us : Trees) (rest : List (ℕ × Lexeme)) → AreTrees 0 (lexemes_from bytes at) us rest
       → (ts : Trees) × AreTrees 0 (lexemes 0 0 bytes) ts rest × (current_at term_limit empty_stack k ts ≡ current_at term_limit stack left us)
 
-pub loading_begins : (bytes : List ℕ) (k : ℕ) (x : Standing) (at : ℕ) → at ≡ 0 → IsStack term_limit x empty_stack → Loading bytes k x at k
+pub loading_begins : (bytes : List ℕ) (k : ℕ) (x : OverTable) (at : ℕ) → at ≡ 0 → IsStack term_limit x empty_stack → Loading bytes k x at k
 loading_begins bytes k x at e h = record { stack = empty_stack; stands = h; onward = λ us rest a. (us, subst (λ n. AreTrees 0 (lexemes_from bytes n) us rest) e a, refl) }
 
 read_whole : (text : List ℕ) (ts : Trees) (rest : List (ℕ × Lexeme)) (stop : Option Located) → AreTrees 0 (lexemes 0 0 (kept text)) ts rest → EndsTrees (length (kept text)) rest stop → IsReadUpTo text ts (limited (is_long text) stop)
@@ -66,7 +66,7 @@ one_less place zero next other e s rest = let n : next ≡ 0 = omega (arith, e) 
 one_less place (suc zero) next other e s rest = absurd (other refl)
 one_less place (suc (suc k)) next other e s rest = let n : next ≡ suc k = omega (arith, e) in ap (rest s) (sym n)
 
-module _ (text : List ℕ) (k : ℕ) (x : Standing) (from : Place) (left : ℕ) (l : Loading (kept text) k x from.offset left) where
+module _ (text : List ℕ) (k : ℕ) (x : OverTable) (from : Place) (left : ℕ) (l : Loading (kept text) k x from.offset left) where
   -- the script ends here
   script_ends : (stop : Option Located) → EndsTrees (length (kept text)) (lexemes_from (kept text) from.offset) stop → HasNoCheck term_limit text k
   script_ends stop s =
@@ -87,11 +87,11 @@ module _ (text : List ℕ) (k : ℕ) (x : Standing) (from : Place) (left : ℕ) 
     next_tree us rest a = l.onward (more (tree_of s) us) rest (read_first (kept text) from 0 s after (omega arith) r us rest a)
 
     -- what the command comes to
-    abbrev pub Stepped : CodeEffect → Standing → Type 0
+    abbrev pub Stepped : CodeEffect → OverTable → Type 0
     Stepped answer new = Steps term_limit (step term_limit l.stack (tree_of s)) s new (Ok answer)
 
     -- the check, or the end of the script
-    pub check_here : (place : ℕ) (new : Standing) → left ≡ 1 → Stepped (effects.Check place) new → EachIsRead (kept text) after.offset → IsLoaded text k new
+    pub check_here : (place : ℕ) (new : OverTable) → left ≡ 1 → Stepped (effects.Check place) new → EachIsRead (kept text) after.offset → IsLoaded text k new
     check_here place new one d b =
         let o = next_tree b.0 b.1 b.2 in
         let stop = stop_of (length (kept text)) b.1 b.3 in
@@ -102,7 +102,7 @@ module _ (text : List ℕ) (k : ℕ) (x : Standing) (from : Place) (left : ℕ) 
           stands = d.3;
         }
 
-    pub leaves_here : (new : Standing) → Stepped effects.Exit new → EachIsRead (kept text) after.offset → HasNoCheck term_limit text k
+    pub leaves_here : (new : OverTable) → Stepped effects.Exit new → EachIsRead (kept text) after.offset → HasNoCheck term_limit text k
     leaves_here new d b =
         let o = next_tree b.0 b.1 b.2 in
         let stop = stop_of (length (kept text)) b.1 b.3 in
@@ -110,14 +110,14 @@ module _ (text : List ℕ) (k : ℕ) (x : Standing) (from : Place) (left : ℕ) 
         record { commands = o.0; end = limited (is_long text) stop.0; read = read_whole text o.0 b.1 stop.0 o.1 stop.1; none_here = o.2 ∙ here }
 
     -- the script goes on
-    pub refused_here : (f : Refusal) (new : Standing) → new ≡ x → Steps term_limit (step term_limit l.stack (tree_of s)) s new (Err (refusals.Fault f)) → Loading (kept text) k new after.offset left
+    pub refused_here : (f : Refusal) (new : OverTable) → new ≡ x → Steps term_limit (step term_limit l.stack (tree_of s)) s new (Err (refusals.Fault f)) → Loading (kept text) k new after.offset left
     refused_here f new same d = record {
       stack = l.stack;
-      stands = subst (λ (y : Standing). IsStack term_limit y l.stack) (sym same) l.stands;
+      stands = subst (λ (y : OverTable). IsStack term_limit y l.stack) (sym same) l.stands;
       onward = λ us rest a. let o = next_tree us rest a in (o.0, o.1, o.2 ∙ refused_is l.stack (tree_of s) us left _ d.0);
     }
 
-    pub taken_here : (answer : CodeEffect) (next : ℕ) (new : Standing) → ((z : Stack) (rest : Stack → ℕ → Option Check) → after_effect (effect_meant answer) z left rest ≡ rest z next) → Stepped answer new → Loading (kept text) k new after.offset next
+    pub taken_here : (answer : CodeEffect) (next : ℕ) (new : OverTable) → ((z : Stack) (rest : Stack → ℕ → Option Check) → after_effect (effect_meant answer) z left rest ≡ rest z next) → Stepped answer new → Loading (kept text) k new after.offset next
     taken_here answer next new goes d = record {
       stack = d.0.stack;
       stands = d.3;

@@ -3,7 +3,7 @@ use Rattle.std.specs.Prelude.{ℕ, Bool, true, false, List, [], Option, Some, No
 use Rattle.world_io.specs.declared.bytes.NoMemory.{NoMemory}
 use Rattle.spec_commands.specs.Stack.{Stack}
 use Rattle.spec_commands.specs.Checks.{Check, term_limit, IsCurrent, HasNoCheck}
-use Rattle.assertion_stack.specs.Stacks.{Standing, standing, IsStack}
+use Rattle.assertion_stack.specs.Stacks.{OverTable, over_table, IsStack}
 use Rattle.alethe_check.specs.declared.load.Script.{Script}
 
 -- a check that assumes nothing beside what is asserted
@@ -11,7 +11,7 @@ abbrev pub bare : Stack → Check
 bare s = record { stack = s; assumptions = [] }
 
 -- A stack of the code has what is current at the k-th check of a text.
-pub record IsLoaded (text : List ℕ) (k : ℕ) (x : Standing) : Type 0 where
+pub record IsLoaded (text : List ℕ) (k : ℕ) (x : OverTable) : Type 0 where
   -- what is current there
   pub stack : Stack
   -- it is that of the text
@@ -20,13 +20,13 @@ pub record IsLoaded (text : List ℕ) (k : ℕ) (x : Standing) : Type 0 where
   pub stands : IsStack term_limit x stack
 
 -- whether there is a k-th check, at which a stack of the code has what is current; of memory that ran out nothing is said
-abbrev pub Reaches : List ℕ → ℕ → Result Bool NoMemory → Standing → Type 0
+abbrev pub Reaches : List ℕ → ℕ → Result Bool NoMemory → OverTable → Type 0
 Reaches text k (Ok true) x = IsLoaded text k x
 Reaches text k (Ok false) x = HasNoCheck term_limit text k
 Reaches text k (Err e) x = Unit {0}
 
 -- what is current at the k-th check; or there is no such check
 abbrev pub Loads : List ℕ → ℕ → Result (Option Script) NoMemory → Type 0
-Loads text k (Ok (Some x)) = IsLoaded text k (standing x.table x.stack)
+Loads text k (Ok (Some x)) = IsLoaded text k (over_table x.table x.stack)
 Loads text k (Ok None) = HasNoCheck term_limit text k
 Loads text k (Err e) = Unit {0}

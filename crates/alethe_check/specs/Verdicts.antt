@@ -18,7 +18,7 @@ AnswersVerdict script k proof (Ok u) = IsVerdict script k proof None
 AnswersVerdict script k proof (Err (stops.Fault f)) = IsVerdict script k proof (Some (fault_view f)) × IsPlaceOf proof f.place
 AnswersVerdict script k proof (Err stops.Memory) = Unit {0}
 
--- the fault is of this kind, and stands at this offset of the proof
+-- the fault is of this kind, and is at this offset of the proof
 abbrev pub Refuses : List ℕ → ℕ → ProofKind → ProofStop → Type 0
 Refuses proof offset kind (stops.Fault f) = (f.kind ≡ kind) × (f.place.offset ≡ offset) × IsPlaceOf proof f.place
 Refuses proof offset kind stops.Memory = ⊥

@@ -5,7 +5,7 @@ ghost use Rattle.std.specs.Prelude.{◌≤◌, ℕ, length, OnOk};
 ghost use Rattle.spec_commands.specs.Stack.{Stack as ScriptStack};
 ghost use Rattle.spec_commands.specs.Checks.{HasNoModel, term_limit};
 ghost use Rattle.spec_checking.specs.Accepted.{IsAccepted};
-ghost use Rattle.assertion_stack.specs.Stacks.{standing, HasStack, IsStack};
+ghost use Rattle.assertion_stack.specs.Stacks.{over_table, HasStack, IsStack};
 ghost use Rattle.alethe_reader.specs.Holding.{known_on};
 ghost use Rattle.alethe_check.specs.Judging.{JudgesAll};
 ghost use Rattle.alethe_check.specs.Verdicts.{AnswersVerdict, Refuses};
@@ -64,8 +64,8 @@ fn refused(proof: &[u8], fault: ProofKind, offset: u64) -> ProofStop
 
 /// Judges a proof at the check before which a script has stated so much: its first fault, or none.
 fn judge_at(alloc: Global, stated: Script, proof: &[u8]) -> Result<(), CommandError>
-    requires { HasStack (standing stated.table stated.stack) }
-    ensures { (limit : ℕ) (s : ScriptStack) → IsStack limit (standing stated.table stated.stack) s
+    requires { HasStack (over_table stated.table stated.stack) }
+    ensures { (limit : ℕ) (s : ScriptStack) → IsStack limit (over_table stated.table stated.stack) s
         → JudgesAll proof.now (known_on s) result }
 {
     let known = ProofState::at_check(alloc, stated.table, stated.stack)?;
@@ -76,7 +76,7 @@ fn judge_at(alloc: Global, stated: Script, proof: &[u8]) -> Result<(), CommandEr
 fn judge_texts(alloc: Global, script: &[u8], at: u64, proof: &[u8]) -> Result<(), ProofStop>
     ensures { AnswersVerdict script.now at proof.now result }
 {
-    spec_checking::laws::faults_stand_in_their_proof();
+    spec_checking::laws::faults_are_in_their_proof();
     match current_at(alloc, script, at) {
         Ok(Some(stated)) => match judge_at(alloc, stated, proof) {
             Ok(()) => Ok(()),

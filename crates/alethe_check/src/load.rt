@@ -3,7 +3,7 @@
 ghost use Rattle.spec_commands.specs.Stack.{empty_stack};
 ghost use Rattle.spec_commands.specs.Checks.{term_limit};
 ghost use Rattle.smt_sexpr.specs.Limited.{whole_of};
-ghost use Rattle.assertion_stack.specs.Stacks.{standing, IsStack};
+ghost use Rattle.assertion_stack.specs.Stacks.{over_table, IsStack};
 ghost use Rattle.alethe_check.specs.Loads.{Loads, Reaches};
 
 use assertion_stack::{Effect, Stack, TERM_LIMIT};
@@ -31,8 +31,8 @@ fn reaches_check(
     table: &mut TermTable,
     stack: &mut Stack,
 ) -> Result<bool, NoMemory>
-    requires { IsStack term_limit (standing table.old stack.old) empty_stack }
-    ensures { Reaches (whole_of text.entry) at result (standing table.new stack.new) }
+    requires { IsStack term_limit (over_table table.old stack.old) empty_stack }
+    ensures { Reaches (whole_of text.entry) at result (over_table table.new stack.new) }
 {
     spec_text::laws::each_text_is_read();
     let mut place = start();

@@ -16,7 +16,7 @@ use Rattle.term_core.proofs.NamesApart.{bytes_same, same_bytes}
 use Rattle.term_core.proofs.TermsExtend.{clause_at-kept, AreIn-kept}
 use Rattle.term_reader.specs.Scopes.{ScopeMeans}
 use Rattle.assertion_stack.specs.declared.stack.Stack.{Stack as CodeStack}
-use Rattle.assertion_stack.specs.Stacks.{standing, IsStack}
+use Rattle.assertion_stack.specs.Stacks.{over_table, IsStack}
 use Rattle.alethe_reader.specs.declared.proof_state.ProofState.{ProofState}
 use Rattle.alethe_reader.specs.Holding.{IsKnown, entries_of, known_on, with_entry}
 use Rattle.alethe_reader.specs.Parts.{HaveSameMembers, with_made}
@@ -42,7 +42,7 @@ module _ (t : TableView) where
       go true q rec = absurd (first zero (omega arith) (same_bytes m n q))
       go false q rec = rec
 
-  -- the clause of a name stands at the name's number
+  -- the clause of a name is at the name's number
   pub find_numbered : (ns : List Name) (cs : List (List TermId)) (n : Name) (k : ℕ) → HaveNoTwice ns → length ns ≡ length cs → k < length ns → get_or ns k [] ≡ n → (clause_of (entries_of t ns cs) n ≡ Some (clause_at t (get_or cs k []))) × (k < length cs)
   find_numbered ns cs n k apart l lt e =
       let first : (j : ℕ) → j < k → get_or ns j [] ≡ n → ⊥ = λ j h s. let twice = apart j k (omega arith) lt (s ∙ sym e) in absurd (omega (arith, twice)) in
@@ -105,7 +105,7 @@ known_made h new k ds is grows stands asserted names clauses =
     }
 
 -- what is known at a check, before the first command
-pub known_first : (limit : ℕ) (t : TableView) (x : CodeStack) (s : Stack) (new : ProofState) → IsStack limit (standing t x) s → HaveSameMembers x.assertions.ids new.asserted.keys
+pub known_first : (limit : ℕ) (t : TableView) (x : CodeStack) (s : Stack) (new : ProofState) → IsStack limit (over_table t x) s → HaveSameMembers x.assertions.ids new.asserted.keys
     → new.table ≡ t → new.scope ≡ x.scope → new.names ≡ [] → new.clauses.items ≡ [] → IsKnown new (known_on s)
 known_first limit t x s new is same table scope names clauses =
     let asked : clause_at t x.assertions.ids ≡ (known_on s).asserted = is.terms ∙ ap terms_asserted (sym (append-nil (assertions_of s))) in

@@ -61,7 +61,7 @@ stops_either : (listed : Bool) (end : ℕ) (rest : List (ℕ × Lexeme)) (stop :
 stops_either false end rest stop s = stops_row end rest stop s
 stops_either true end rest stop s = stops_list end rest stop s
 
--- what ends commands that stand in no list is as much after a list
+-- what ends commands that are in no list is as much after a list
 row_behind : (end : ℕ) (rest : List (ℕ × Lexeme)) (e : Ending) → EndsRow end rest e → EndsBehind end rest e
 row_behind end rest complete h = h
 row_behind end rest (broken f) h = h
@@ -131,7 +131,7 @@ none_blank_behind : (xs ys : List (ℕ × Lexeme)) → HasNoBlank (xs ++ ys) →
 none_blank_behind [] ys h = h
 none_blank_behind (x ∷ xs) ys h = none_blank_behind xs ys (not_blank_behind x (xs ++ ys) h)
 
--- what stops commands that stand in no list ends them
+-- what stops commands that are in no list ends them
 row_ending : (end : ℕ) (rest : List (ℕ × Lexeme)) → StopsAt end 0 rest → (e : Ending) × EndsRow end rest e
 row_ending end rest (inl x) = (complete, x.1)
 row_ending end rest (inr (inl x)) = absurd (x.0 refl)
@@ -147,7 +147,7 @@ behind_ending end xs (more t us) rest a s =
     } in
     (left_over (offset_of t), (t, spelled_all us ++ rest, front, refl))
 
--- what stops commands that stand in a list ends them
+-- what stops commands that are in a list ends them
 list_ending : (end : ℕ) (rest : List (ℕ × Lexeme)) → HasNoBlank rest → StopsAt end 1 rest → (e : Ending) × EndsList end rest e
 list_ending end rest h (inl x) = let zero_is = x.0 in absurd (omega (arith, zero_is))
 list_ending end rest h (inr (inl x)) =

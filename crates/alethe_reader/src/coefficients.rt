@@ -1,6 +1,6 @@
 //! Reads the numbers that the arguments of a step write, as `la_generic` takes them.
 //!
-//! Texts that are open stand in a row with what is still to be done, so nothing recurses.
+//! Texts that are open are in a row with what is still to be done, so nothing recurses.
 
 ghost use Rattle.std.specs.Prelude.{◌≡◌, ℕ, ◌+◌, ◌<◌, false, IfOk};
 ghost use Rattle.spec_text.specs.Trees.{list};

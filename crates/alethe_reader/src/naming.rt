@@ -1,8 +1,8 @@
-//! The names that `:named` gives in texts, and the faults that stand at them.
+//! The names that `:named` gives in texts, and the faults that are at them.
 
 ghost use Rattle.std.specs.Prelude.{◌≡◌, IfOk, ◌∷◌};
 ghost use Rattle.spec_sorts.specs.Forms.{a_keyword, named_words};
-ghost use Rattle.spec_checking.specs.Reading.{names_given, named_in, named_in_all, one_stands_at, kind_by};
+ghost use Rattle.spec_checking.specs.Reading.{names_given, named_in, named_in_all, one_is_at, kind_by};
 ghost use Rattle.smt_sexpr.specs.Items.{trees_meant, tree_meant};
 ghost use Rattle.smt_sexpr.specs.Views.{word_view};
 ghost use Rattle.term_reader.specs.Forms.{next_meant};
@@ -17,9 +17,9 @@ use std::alloc::Global;
 use term_reader::{ListForm, NextAttribute, ReadError, list_form, next_after};
 use world_io::NoMemory;
 
-/// Tells whether a name stands at an offset that is the first tree, where that is wanted as a name.
+/// Tells whether a name is at an offset that is the first tree, where that is wanted as a name.
 fn is_wanted_at(next: NextAttribute, item: Trees<'_>, at: u64) -> bool
-    ensures { result ≡ one_stands_at (listed_word (wanted_word (next_meant next) (tree_meant item.entry))) at }
+    ensures { result ≡ one_is_at (listed_word (wanted_word (next_meant next) (tree_meant item.entry))) at }
 {
     match (next, look(item)) {
         (NextAttribute::Name, View::Atom(place, _, _)) => u64::from(place) == at,
@@ -37,9 +37,9 @@ fn next_wanted(next: NextAttribute, item: Trees<'_>) -> NextAttribute
     }
 }
 
-/// Tells whether one of the names that attributes give stands at an offset.
+/// Tells whether one of the names that attributes give is at an offset.
 fn attributes_name_at(attributes: Trees<'_>, at: u64) -> bool
-    ensures { result ≡ one_stands_at (named_words a_keyword (trees_meant attributes.entry)) at }
+    ensures { result ≡ one_is_at (named_words a_keyword (trees_meant attributes.entry)) at }
 {
     let mut next = NextAttribute::Keyword;
     let mut rest = attributes;
@@ -53,9 +53,9 @@ fn attributes_name_at(attributes: Trees<'_>, at: u64) -> bool
     false
 }
 
-/// Tells whether one of the names that a list gives to its term stands at an offset.
+/// Tells whether one of the names that a list gives to its term is at an offset.
 fn list_names_at(inside: Trees<'_>, at: u64) -> bool
-    ensures { result ≡ one_stands_at (names_given (trees_meant inside.entry)) at }
+    ensures { result ≡ one_is_at (names_given (trees_meant inside.entry)) at }
 {
     let Some((head, arguments)) = split(inside) else {
         return false;
@@ -69,11 +69,11 @@ fn list_names_at(inside: Trees<'_>, at: u64) -> bool
     }
 }
 
-/// Tells whether one of the names that are given in texts stands at an offset.
+/// Tells whether one of the names that are given in texts is at an offset.
 ///
-/// Lists that are open stand in a row, so nothing recurses. `NoMemory` may come where a list stands in the texts.
+/// Lists that are open are in a row, so nothing recurses. `NoMemory` may come where a list is in the texts.
 fn texts_name_at(alloc: Global, texts: Trees<'_>, at: u64) -> Result<bool, NoMemory>
-    ensures { IfOk result (λ yes. yes ≡ one_stands_at (named_in_all (trees_meant texts.entry)) at) }
+    ensures { IfOk result (λ yes. yes ≡ one_is_at (named_in_all (trees_meant texts.entry)) at) }
 {
     let mut open = Vec::new(alloc);
     let mut rest = texts;
@@ -98,11 +98,11 @@ fn texts_name_at(alloc: Global, texts: Trees<'_>, at: u64) -> Result<bool, NoMem
     }
 }
 
-/// Tells whether one of the names that are given in the first tree stands at an offset.
+/// Tells whether one of the names that are given in the first tree is at an offset.
 ///
 /// `NoMemory` may come where the tree is a list.
 fn text_names_at(alloc: Global, text: Trees<'_>, at: u64) -> Result<bool, NoMemory>
-    ensures { IfOk result (λ yes. yes ≡ one_stands_at (named_in (tree_meant text.entry)) at) }
+    ensures { IfOk result (λ yes. yes ≡ one_is_at (named_in (tree_meant text.entry)) at) }
 {
     match look(text) {
         View::Atom(_, _, _) => Ok(false),
@@ -115,7 +115,7 @@ fn text_names_at(alloc: Global, text: Trees<'_>, at: u64) -> Result<bool, NoMemo
     }
 }
 
-/// Says what a fault of a text is in a proof, by whether it stands at a name that is given to a term.
+/// Says what a fault of a text is in a proof, by whether it is at a name that is given to a term.
 fn kind_by(given: bool, fault: Fault) -> ProofKind
     ensures { result ≡ kind_by given fault }
 {

@@ -29,7 +29,7 @@ fn find(state: &ProofState, name: &[u8]) -> Option<u64>
     }
 }
 
-/// Finds the number of the clause of a name that stands at an offset.
+/// Finds the number of the clause of a name that is at an offset.
 fn clause_named(state: &ProofState, at: u64, name: &[u8]) -> Result<u64, CommandError>
     requires { HasKnown state.now }
     ensures gives { Gives (clause_numbered state.now) result

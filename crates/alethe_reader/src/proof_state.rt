@@ -5,7 +5,7 @@ ghost use Rattle.spec_text.specs.Bytes.{among};
 ghost use Rattle.spec_commands.specs.Stack.{Stack as ScriptStack};
 ghost use Rattle.spec_checking.specs.Commands.{Known};
 ghost use Rattle.term_core.specs.Tables.{AreIn, IsIn, clause_at, term_at};
-ghost use Rattle.assertion_stack.specs.Stacks.{standing, IsStack};
+ghost use Rattle.assertion_stack.specs.Stacks.{over_table, IsStack};
 ghost use Rattle.alethe_reader.specs.Holding.{IsKnown, HasKnown, known_on, with_entry};
 ghost use Rattle.alethe_reader.specs.Parts.{HaveSameMembers};
 ghost use Rattle.alethe_reader.specs.declared.errors.CommandError.TheVariants as errors;
@@ -17,7 +17,7 @@ use std::alloc::Global;
 use term_core::{Clause, NameTable, TermId, TermTable};
 use term_reader::Scope;
 
-/// Holds what is known. The clause of a name stands at the name's number.
+/// Holds what is known. The clause of a name is at the name's number.
 ///
 /// Contracts see it as what is known before a command of a proof, by the relation `IsKnown`. Source: Alethe specification,
 /// commands.
@@ -59,7 +59,7 @@ impl ProofState {
         table: TermTable,
         stack: Stack,
     ) -> Result<ProofState, CommandError>
-        ensures known { IfOk result (λ h. (limit : ℕ) (s : ScriptStack) → IsStack limit (standing table stack) s
+        ensures known { IfOk result (λ h. (limit : ℕ) (s : ScriptStack) → IsStack limit (over_table table stack) s
             → IsKnown h (known_on s)) }
         ensures memory { IfErr result (λ e. e ≡ errors.Memory) }
     {

@@ -19,7 +19,7 @@ use std::alloc::Global;
 
 /// A proof's text, and the place up to which its commands were read.
 ///
-/// The commands stand after a first word `unsat` or without it, one after the other or in one list. Of the text the first
+/// The commands are after a first word `unsat` or without it, one after the other or in one list. Of the text the first
 /// 2^26 bytes are read. Contracts see the text and the commands that are to come, by the relation `AreRemaining`.
 /// Source: Alethe specification, proofs.
 #[derive(Clone, Copy, Debug)]
@@ -28,7 +28,7 @@ pub struct Reader<'a> {
     text: LimitedText<'a>,
     /// The place right after what was read.
     at: Place,
-    /// Whether the commands stand in a list.
+    /// Whether the commands are in a list.
     listed: bool,
     /// It is a place of the bytes that are read.
     ghost inside: { IsPlaceOf (kept (whole_of text)) at },

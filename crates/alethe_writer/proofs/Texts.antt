@@ -57,7 +57,7 @@ given_text (q ∷ qs) =
 spaces_append : (ts us : List Tree) → after_spaces (ts ++ us) ≡ after_spaces ts ++ after_spaces us
 spaces_append ts us = flat_map-append (λ t. 32 ∷ printed t) ts us
 
--- what stands after a step's clause
+-- what is after a step's clause
 rule_text : (r : Rule) (ps : List Reference) (qs : List Fraction) → after_spaces (keyword_tree (codes "rule") ∷ word_tree (rule_name r) ∷ premise_trees ps ++ given_trees (trees_of (map fraction_tree qs))) ++ codes ")\n" ≡ codes " :rule " ++ (rule_name r ++ (premises_text ps ++ (given_listed qs ++ codes ")\n")))
 rule_text r ps qs =
     let rest = premise_trees ps ++ given_trees (trees_of (map fraction_tree qs)) in

@@ -47,7 +47,7 @@ impl Plan {
         self.steps.len() as u64
     }
 
-    /// The number of a term's definition; `None` where it stands in place.
+    /// The number of a term's definition; `None` where it is in place.
     pub(crate) fn definition(&self, id: TermId) -> Option<u64>
         ensures { result ≡ get_or self.now.terms id.0 None }
     {

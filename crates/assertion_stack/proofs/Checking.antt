@@ -12,7 +12,7 @@ use Rattle.spec_commands.specs.Stack.{Assertion, Stack, Key, done, unsupported, 
 use Rattle.term_reader.specs.declared.faults.ReadError.{ReadError}
 use Rattle.assertion_stack.specs.declared.stack.Effect.{Effect as CodeEffect}
 use Rattle.assertion_stack.specs.declared.stack.Effect.TheVariants as effects
-use Rattle.assertion_stack.specs.Stacks.{Standing, Performs, KeepsAtCheck}
+use Rattle.assertion_stack.specs.Stacks.{OverTable, Performs, KeepsAtCheck}
 
 -- the command asks for a check
 abbrev pub IsCheck : Command → Type 0
@@ -75,7 +75,7 @@ module _ (limit at : ℕ) (s : Stack) where
   other_none Exit other = leave_none s
 
   -- what another command does, is no check
-  pub not_asked : (c : Command) → (IsCheck c → ⊥) → (old new : Standing) (r : Result CodeEffect ReadError) → Performs limit (performed limit at s c) new r → KeepsAtCheck r old new
+  pub not_asked : (c : Command) → (IsCheck c → ⊥) → (old new : OverTable) (r : Result CodeEffect ReadError) → Performs limit (performed limit at s c) new r → KeepsAtCheck r old new
   not_asked c other old new (Ok (effects.Check at)) p = absurd (other_none c other p.0 at [] p.1 (sym p.2))
   not_asked c other old new (Ok effects.Done) p = tt
   not_asked c other old new (Ok effects.Unsupported) p = tt

@@ -9,10 +9,10 @@ use Rattle.term_core.specs.Tables.{TableView, Extends}
 use Rattle.term_core.proofs.TermsExtend.{HasSortIn-kept, sort_meant-kept, HaveSortsIn-more, sorts_meant-more, IsIn-kept, term_at-kept}
 use Rattle.term_reader.specs.declared.scope.Function.{Function}
 use Rattle.term_reader.specs.declared.scope.Function.TheVariants.{Declared, Defined}
-use Rattle.term_reader.specs.Scopes.{ScopeView, SortStands, FunctionStands, ScopeMeans}
+use Rattle.term_reader.specs.Scopes.{ScopeView, SortMeans, FunctionMeans, ScopeMeans}
 
 module _ (old new : TableView) (grows : Extends old new) where
-  pub sort_grown : (s : Option TableSort) (r : Option Sort) → SortStands old s r → SortStands new s r
+  pub sort_grown : (s : Option TableSort) (r : Option Sort) → SortMeans old s r → SortMeans new s r
   sort_grown None None h = tt
   sort_grown (Some s) (Some r) h = (HasSortIn-kept old new grows s h.0, sort_meant-kept old new grows s h.0 ∙ h.1)
   sort_grown None (Some r) h = absurd h
@@ -24,7 +24,7 @@ module _ (old new : TableView) (grows : Extends old new) where
   all_mean : (ss : List TableSort) → HaveSortsIn old.sorts ss → sorts_meant new.sorts ss ≡ sorts_meant old.sorts ss
   all_mean ss h = ap (λ l. sorts_meant l ss) grows.sorts ∙ sorts_meant-more old.sorts grows.more_sorts ss h
 
-  pub function_grown : (f : Option Function) (k : Option Known) → FunctionStands old f k → FunctionStands new f k
+  pub function_grown : (f : Option Function) (k : Option Known) → FunctionMeans old f k → FunctionMeans new f k
   function_grown None None h = tt
   function_grown None (Some k) h = absurd h
   function_grown (Some (Declared id)) None h = absurd h
@@ -45,8 +45,8 @@ module _ (old new : TableView) (grows : Extends old new) where
   }
 
 -- where names are the same
-pub stands_grown : (old new : TableView) (v : ScopeView) (s : Signature) → Extends old new → ScopeMeans old v s → ScopeMeans new v s
-stands_grown old new v s grows h = record {
+pub means_grown : (old new : TableView) (v : ScopeView) (s : Signature) → Extends old new → ScopeMeans old v s → ScopeMeans new v s
+means_grown old new v s grows h = record {
   sorts = λ n. sort_grown old new grows _ _ (h.sorts n);
   functions = λ n. function_grown old new grows _ _ (h.functions n);
   count = h.count;

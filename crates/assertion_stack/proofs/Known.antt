@@ -14,30 +14,30 @@ use Rattle.term_core.specs.declared.sorts.Sort.{Sort as TableSort}
 use Rattle.term_core.specs.Tables.{TableView}
 use Rattle.term_reader.specs.declared.scope.Function.{Function}
 use Rattle.term_reader.specs.declared.scope.Function.TheVariants.{Declared, Defined}
-use Rattle.term_reader.specs.Scopes.{ScopeView, sort_under, function_under, SortStands, FunctionStands, ScopeMeans}
+use Rattle.term_reader.specs.Scopes.{ScopeView, sort_under, function_under, SortMeans, FunctionMeans, ScopeMeans}
 
 -- a new name, where one test tells of its name what another does
 pub new_by : (w : Setting) (f : Name → Bool) (x : Word) (taken : Bool) → taken ≡ f x.bytes → new_name w (λ _. taken) x ≡ new_name w f x
 new_by w f x taken e = ap (λ b. require (not (is_barred w x)) x.at Reserved >>= λ free. require (not b) x.at Twice >>= λ new. Ok x.bytes) e
 
 module _ (t : TableView) (v : ScopeView) (s : Signature) (n : Name) (h : ScopeMeans t v s) where
-  sort_there : (o : Option TableSort) (r : Option Sort) → SortStands t o r → (x : TableSort) → o ≡ Some x → is_some r ≡ true
+  sort_there : (o : Option TableSort) (r : Option Sort) → SortMeans t o r → (x : TableSort) → o ≡ Some x → is_some r ≡ true
   sort_there (Some y) (Some r) g x e = refl
   sort_there (Some y) None g x e = absurd g
   sort_there None r g x e = cc
 
-  no_sort_there : (o : Option TableSort) (r : Option Sort) → SortStands t o r → o ≡ None → is_some r ≡ false
+  no_sort_there : (o : Option TableSort) (r : Option Sort) → SortMeans t o r → o ≡ None → is_some r ≡ false
   no_sort_there None None g e = refl
   no_sort_there None (Some r) g e = absurd g
   no_sort_there (Some y) r g e = cc
 
-  function_there : (o : Option Function) (k : Option Known) → FunctionStands t o k → (x : Function) → o ≡ Some x → true ≡ is_some k
+  function_there : (o : Option Function) (k : Option Known) → FunctionMeans t o k → (x : Function) → o ≡ Some x → true ≡ is_some k
   function_there None k g x e = cc
   function_there (Some f) (Some k) g x e = refl
   function_there (Some (Declared id)) None g x e = absurd g
   function_there (Some (Defined m)) None g x e = absurd g
 
-  no_function_there : (o : Option Function) (k : Option Known) → FunctionStands t o k → o ≡ None → false ≡ is_some k
+  no_function_there : (o : Option Function) (k : Option Known) → FunctionMeans t o k → o ≡ None → false ≡ is_some k
   no_function_there None None g e = refl
   no_function_there None (Some k) g e = absurd g
   no_function_there (Some f) k g e = cc

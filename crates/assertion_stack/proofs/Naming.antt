@@ -14,7 +14,7 @@ use Rattle.term_core.proofs.NamesApart.{same_bytes}
 use Rattle.term_reader.specs.declared.scope.Function.{Function}
 use Rattle.term_reader.specs.NameStacks.{newest}
 use Rattle.term_reader.proofs.NameStacks.{newest_push}
-use Rattle.term_reader.specs.Scopes.{ScopeView, sort_under, function_under, SortStands, FunctionStands, ScopeMeans}
+use Rattle.term_reader.specs.Scopes.{ScopeView, sort_under, function_under, SortMeans, FunctionMeans, ScopeMeans}
 use Rattle.assertion_stack.proofs.Growing.{sort_grown, function_grown}
 
 -- a sort that is there is found there
@@ -70,31 +70,31 @@ no_symbol_named (of_function (declared f) ∷ s) n e = go (bytes_eq f.name n) e 
 
 module _ (old new : TableView) (grows : Extends old new) (v : ScopeView) (s : Signature) (h : ScopeMeans old v s) where
   -- a name of a sort more
-  pub stands_sort : (n : Name) (x : TableSort) (r : Sort) → length v.sort_names ≡ length v.sorts → sort_as s n ≡ None → HasSortIn new.sorts x → sort_meant new.sorts x ≡ r
+  pub means_sort : (n : Name) (x : TableSort) (r : Sort) → length v.sort_names ≡ length v.sorts → sort_as s n ≡ None → HasSortIn new.sorts x → sort_meant new.sorts x ≡ r
       → ScopeMeans new (record v { sort_names = v.sort_names ++ n ∷ []; sorts = v.sorts ++ x ∷ [] }) (s ++ of_sort n r ∷ [])
-  stands_sort n x r long free there means = record {
-    sorts = λ m. subst (λ o. SortStands new (look_up (newest (v.sort_names ++ n ∷ []) (v.sorts ++ x ∷ [])) m) o) (sym (sort_last s n r m free))
-        (subst (λ l. SortStands new (look_up l m) (cond (bytes_eq n m) (Some r) (sort_as s m))) (sym (newest_push v.sort_names v.sorts n x long)) (go m (bytes_eq n m)));
-    functions = λ m. subst (FunctionStands new (function_under v m)) (sym (known_before s (of_sort n r ∷ []) m refl)) (function_grown old new grows _ _ (h.functions m));
+  means_sort n x r long free there means = record {
+    sorts = λ m. subst (λ o. SortMeans new (look_up (newest (v.sort_names ++ n ∷ []) (v.sorts ++ x ∷ [])) m) o) (sym (sort_last s n r m free))
+        (subst (λ l. SortMeans new (look_up l m) (cond (bytes_eq n m) (Some r) (sort_as s m))) (sym (newest_push v.sort_names v.sorts n x long)) (go m (bytes_eq n m)));
+    functions = λ m. subst (FunctionMeans new (function_under v m)) (sym (known_before s (of_sort n r ∷ []) m refl)) (function_grown old new grows _ _ (h.functions m));
     count = omega (arith, h.count, length-append v.sort_names (n ∷ []), length-append s (of_sort n r ∷ []));
     sorted = sort_keeps_sorts s n r h.sorted;
   }
     where
-      go : (m : Name) (b : Bool) → SortStands new (cond b (Some x) (sort_under v m)) (cond b (Some r) (sort_as s m))
+      go : (m : Name) (b : Bool) → SortMeans new (cond b (Some x) (sort_under v m)) (cond b (Some r) (sort_as s m))
       go m true = (there, means)
       go m false = sort_grown old new grows _ _ (h.sorts m)
 
   -- a declared symbol more
-  pub stands_symbol : (x : Function) (f : Symbol) → length v.names ≡ length v.functions → known_as s f.name ≡ None → FunctionStands new (Some x) (Some (declared f))
+  pub means_symbol : (x : Function) (f : Symbol) → length v.names ≡ length v.functions → known_as s f.name ≡ None → FunctionMeans new (Some x) (Some (declared f))
       → ScopeMeans new (record v { names = v.names ++ f.name ∷ []; functions = v.functions ++ x ∷ [] }) (s ++ of_function (declared f) ∷ [])
-  stands_symbol x f long free there = record {
-    sorts = λ m. subst (SortStands new (sort_under v m)) (sym (sort_before s (of_function (declared f) ∷ []) m refl)) (sort_grown old new grows _ _ (h.sorts m));
-    functions = λ m. subst (λ o. FunctionStands new (look_up (newest (v.names ++ f.name ∷ []) (v.functions ++ x ∷ [])) m) o) (sym (known_last s (declared f) m free))
-        (subst (λ l. FunctionStands new (look_up l m) (cond (bytes_eq f.name m) (Some (declared f)) (known_as s m))) (sym (newest_push v.names v.functions f.name x long)) (go m (bytes_eq f.name m)));
+  means_symbol x f long free there = record {
+    sorts = λ m. subst (SortMeans new (sort_under v m)) (sym (sort_before s (of_function (declared f) ∷ []) m refl)) (sort_grown old new grows _ _ (h.sorts m));
+    functions = λ m. subst (λ o. FunctionMeans new (look_up (newest (v.names ++ f.name ∷ []) (v.functions ++ x ∷ [])) m) o) (sym (known_last s (declared f) m free))
+        (subst (λ l. FunctionMeans new (look_up l m) (cond (bytes_eq f.name m) (Some (declared f)) (known_as s m))) (sym (newest_push v.names v.functions f.name x long)) (go m (bytes_eq f.name m)));
     count = omega (arith, h.count, length-append v.names (f.name ∷ []), length-append s (of_function (declared f) ∷ []));
     sorted = symbol_keeps_sorts s f h.sorted;
   }
     where
-      go : (m : Name) (b : Bool) → FunctionStands new (cond b (Some x) (function_under v m)) (cond b (Some (declared f)) (known_as s m))
+      go : (m : Name) (b : Bool) → FunctionMeans new (cond b (Some x) (function_under v m)) (cond b (Some (declared f)) (known_as s m))
       go m true = there
       go m false = function_grown old new grows _ _ (h.functions m)

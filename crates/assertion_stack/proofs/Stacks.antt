@@ -28,7 +28,7 @@ use Rattle.term_core.specs.Tables.{TableView, term_at, IsIn, AreIn, clause_at}
 use Rattle.term_core.proofs.TermsExtend.{AreIn-kept, clause_at-kept}
 use Rattle.term_reader.specs.Building.{KeepsTable, MeansTerm}
 use Rattle.term_reader.specs.Scopes.{ScopeView, ScopeMeans}
-use Rattle.term_reader.proofs.Standing.{stands_kept}
+use Rattle.term_reader.proofs.OverTable.{meaning_kept}
 use Rattle.term_reader.specs.Names.{located_of}
 use Rattle.term_reader.specs.declared.faults.ReadError.{ReadError}
 use Rattle.term_reader.specs.declared.faults.ReadError.TheVariants as errors
@@ -38,14 +38,14 @@ use Rattle.assertion_stack.specs.declared.options.Options.{Options as CodeOption
 use Rattle.assertion_stack.specs.declared.stack.Stack.{Stack as CodeStack}
 use Rattle.assertion_stack.specs.Assertions.{no_assertions, starts_of, texts_printed}
 use Rattle.assertion_stack.specs.Views.{Fails}
-use Rattle.assertion_stack.specs.Stacks.{options_meant, Standing, standing, IsStack, with_asserted}
+use Rattle.assertion_stack.specs.Stacks.{options_meant, OverTable, over_table, IsStack, with_asserted}
 use Rattle.assertion_stack.proofs.Levels.{rest_with, sorts_with, starts_last, terms_last, texts_last}
 
 -- a stack in a table that has terms more
-pub stack_grown : (limit : ℕ) (old new : TableView) (x : CodeStack) (s : Stack) → IsStack limit (standing old x) s → KeepsTable old new → IsStack limit (standing new x) s
+pub stack_grown : (limit : ℕ) (old new : TableView) (x : CodeStack) (s : Stack) → IsStack limit (over_table old x) s → KeepsTable old new → IsStack limit (over_table new x) s
 stack_grown limit old new x s h k = record {
   limit_is = h.limit_is;
-  scope = stands_kept old new k x.scope (signature_of s) h.scope;
+  scope = meaning_kept old new k x.scope (signature_of s) h.scope;
   symbols = ap (λ d. d.symbols) k.declared ∙ h.symbols;
   sorts = λ n e. ap (λ d. among d.sorts n) k.declared ∙ h.sorts n e;
   inside = AreIn-kept old new k.extends x.assertions.ids h.inside;
@@ -57,7 +57,7 @@ stack_grown limit old new x s h k = record {
 }
 
 -- the first stack
-pub first_stack : (limit : ℕ) (t : TableView) (x : CodeStack) → x.limit ≡ limit → ScopeMeans t x.scope [] → t.sorts ≡ [] → t.symbols ≡ [] → x.assertions ≡ no_assertions → options_meant x.options ≡ empty_stack.options → x.started ≡ false → IsStack limit (standing t x) empty_stack
+pub first_stack : (limit : ℕ) (t : TableView) (x : CodeStack) → x.limit ≡ limit → ScopeMeans t x.scope [] → t.sorts ≡ [] → t.symbols ≡ [] → x.assertions ≡ no_assertions → options_meant x.options ≡ empty_stack.options → x.started ≡ false → IsStack limit (over_table t x) empty_stack
 first_stack limit t x l scope sorts symbols assertions options started = record {
   limit_is = l;
   scope = scope;
@@ -71,9 +71,9 @@ first_stack limit t x l scope sorts symbols assertions options started = record 
   started = started;
 }
 
-module _ (limit : ℕ) (t : TableView) (x : CodeStack) (s : Stack) (h : IsStack limit (standing t x) s) where
+module _ (limit : ℕ) (t : TableView) (x : CodeStack) (s : Stack) (h : IsStack limit (over_table t x) s) where
   -- the start is over
-  pub begun_stack : IsStack limit (standing t (record x { started = true })) (begun s)
+  pub begun_stack : IsStack limit (over_table t (record x { started = true })) (begun s)
   begun_stack = record {
     limit_is = h.limit_is;
     scope = h.scope;
@@ -88,7 +88,7 @@ module _ (limit : ℕ) (t : TableView) (x : CodeStack) (s : Stack) (h : IsStack 
   }
 
   -- an option is set
-  pub option_stack : (k : Key) (b : Bool) (o : CodeOptions) → options_meant o ≡ with_option k b (options_meant x.options) → IsStack limit (standing t (record x { options = o })) (record s { options = with_option k b s.options })
+  pub option_stack : (k : Key) (b : Bool) (o : CodeOptions) → options_meant o ≡ with_option k b (options_meant x.options) → IsStack limit (over_table t (record x { options = o })) (record s { options = with_option k b s.options })
   option_stack k b o e = record {
     limit_is = h.limit_is;
     scope = h.scope;
@@ -262,9 +262,9 @@ module _ (limit at : ℕ) (s : Stack) (d : Parts) where
     define_fails new errors.Memory e = tt
 
 -- a stack with names and terms that were read
-module _ (limit : ℕ) (old new : TableView) (x : CodeStack) (s : Stack) (v : ScopeView) (ds : List Definition) (h : IsStack limit (standing old x) s) (k : KeepsTable old new) (stands : ScopeMeans new v (signatures.with_definitions (signature_of s) ds)) where
+module _ (limit : ℕ) (old new : TableView) (x : CodeStack) (s : Stack) (v : ScopeView) (ds : List Definition) (h : IsStack limit (over_table old x) s) (k : KeepsTable old new) (stands : ScopeMeans new v (signatures.with_definitions (signature_of s) ds)) where
   -- definitions more
-  pub named : IsStack limit (standing new (record x { scope = v })) (with_definitions s ds)
+  pub named : IsStack limit (over_table new (record x { scope = v })) (with_definitions s ds)
   named = record {
     limit_is = h.limit_is;
     scope = subst (ScopeMeans new v) (sym (signature_with s ds)) stands;
@@ -279,8 +279,8 @@ module _ (limit : ℕ) (old new : TableView) (x : CodeStack) (s : Stack) (v : Sc
   }
 
 -- and an assertion more
-pub one_asserted : (limit : ℕ) (t : TableView) (x : CodeStack) (s : Stack) (tree : Tree) (u : Term) (id : TermId) → IsStack limit (standing t x) s → MeansTerm t u id
-    → IsStack limit (standing t (with_asserted x id (printed tree))) (begun (with_assertion s tree u))
+pub one_asserted : (limit : ℕ) (t : TableView) (x : CodeStack) (s : Stack) (tree : Tree) (u : Term) (id : TermId) → IsStack limit (over_table t x) s → MeansTerm t u id
+    → IsStack limit (over_table t (with_asserted x id (printed tree))) (begun (with_assertion s tree u))
 one_asserted limit t x s tree u id h m =
     let a : Assertion = record { text = tree; term = u } in record {
       limit_is = h.limit_is;
@@ -296,7 +296,7 @@ one_asserted limit t x s tree u id h m =
     }
 
 -- a text for each asserted term
-pub one_for_each : (limit : ℕ) (x : Standing) (s : Stack) → IsStack limit x s → length x.stack.assertions.texts ≡ length x.stack.assertions.ids
+pub one_for_each : (limit : ℕ) (x : OverTable) (s : Stack) → IsStack limit x s → length x.stack.assertions.texts ≡ length x.stack.assertions.ids
 one_for_each limit x s h =
     ap length h.written ∙ length-map (assertions_of s) (λ (a : Assertion). printed a.text) ∙ sym (ap length h.terms ∙ length-map (assertions_of s) (λ (a : Assertion). a.term))
     ∙ length-map x.stack.assertions.ids (term_at x.table)

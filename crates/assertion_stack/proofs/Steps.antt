@@ -17,10 +17,10 @@ use Rattle.smt_command.specs.Commands.{ReadsScriptCommand}
 use Rattle.term_reader.specs.declared.faults.ReadError.{ReadError}
 use Rattle.term_reader.specs.declared.faults.ReadError.TheVariants as errors
 use Rattle.assertion_stack.specs.Views.{Fails}
-use Rattle.assertion_stack.specs.Stacks.{Standing, Steps}
+use Rattle.assertion_stack.specs.Stacks.{OverTable, Steps}
 
 -- what is no command
-pub not_taken : (limit : ℕ) (s : Stack) (x : Sexpr) (r : Refused) (new : Standing) → ReadsScriptCommand x (Err r) → Steps limit (step limit s (tree_of x)) x new (Err r)
+pub not_taken : (limit : ℕ) (s : Stack) (x : Sexpr) (r : Refused) (new : OverTable) → ReadsScriptCommand x (Err r) → Steps limit (step limit s (tree_of x)) x new (Err r)
 unfolding step ◌>>=◌
 not_taken limit s x (refusals.Fault r) new h = (ap (λ a. a >>= λ c. performed limit (offset_of (tree_of x)) s c) h.0, h.1)
 not_taken limit s x refusals.Memory new h = absurd h

@@ -35,18 +35,18 @@ effect_meant (effects.Say text) = say text.now
 effect_meant effects.Exit = leave
 
 -- A stack of the code, and the table that has its terms.
-pub record Standing : Type 0 where
+pub record OverTable : Type 0 where
   -- the table
   pub table : TableView
   -- the stack
   pub stack : CodeStack
 
 -- a stack with a table
-abbrev pub standing : TableView → CodeStack → Standing
-standing t x = record { table = t; stack = x }
+abbrev pub over_table : TableView → CodeStack → OverTable
+over_table t x = record { table = t; stack = x }
 
--- The stack of the definitions, under a limit, for which a stack of the code stands in a table.
-pub record IsStack (limit : ℕ) (x : Standing) (s : Stack) : Type 0 where
+-- The stack of the definitions, under a limit, for which a stack of the code is in a table.
+pub record IsStack (limit : ℕ) (x : OverTable) (s : Stack) : Type 0 where
   -- the limit
   pub limit_is : x.stack.limit ≡ limit
   -- names stand for what is declared and defined
@@ -69,7 +69,7 @@ pub record IsStack (limit : ℕ) (x : Standing) (s : Stack) : Type 0 where
   pub started : x.stack.started ≡ s.started
 
 -- in a table the stack stands for some stack
-abbrev pub HasStack : Standing → Type 0
+abbrev pub HasStack : OverTable → Type 0
 HasStack x = (limit : ℕ) × (s : Stack) × IsStack limit x s
 
 -- a name of a sort more, by a command that ends the start
@@ -94,18 +94,18 @@ with_asserted x id text = record x {
 }
 
 -- what a command answers and leaves, or its fault, unless memory ran out
-abbrev pub Performs : ℕ → Answer Taken → Standing → Result CodeEffect ReadError → Type 0
+abbrev pub Performs : ℕ → Answer Taken → OverTable → Result CodeEffect ReadError → Type 0
 Performs limit left new (Ok e) = (d : Taken) × (left ≡ Ok d) × (effect_meant e ≡ d.effect) × IsStack limit new d.stack
 Performs limit left new (Err stop) = Fails stop left
 
 -- what the command of an s-expression answers and leaves, or its first fault with its place in the text, unless memory ran out
-abbrev pub Steps : ℕ → Answer Taken → Sexpr → Standing → Result CodeEffect Refused → Type 0
+abbrev pub Steps : ℕ → Answer Taken → Sexpr → OverTable → Result CodeEffect Refused → Type 0
 Steps limit left x new (Ok e) = (d : Taken) × (left ≡ Ok d) × (effect_meant e ≡ d.effect) × IsStack limit new d.stack
 Steps limit left x new (Err (refusals.Fault r)) =
     (left ≡ Err (record { offset = r.place.offset; fault = r.fault })) × IsPlaceOf (text_of x) r.place
 Steps limit left x new (Err refusals.Memory) = Unit {0}
 
 -- a check leaves the table, and of the stack it changes no more than that it ends the start
-abbrev pub KeepsAtCheck : {E : Type 0} → Result CodeEffect E → Standing → Standing → Type 0
-KeepsAtCheck (Ok (effects.Check at)) old new = new ≡ standing old.table (record old.stack { started = true })
+abbrev pub KeepsAtCheck : {E : Type 0} → Result CodeEffect E → OverTable → OverTable → Type 0
+KeepsAtCheck (Ok (effects.Check at)) old new = new ≡ over_table old.table (record old.stack { started = true })
 KeepsAtCheck _ old new = Unit {0}

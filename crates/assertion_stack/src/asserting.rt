@@ -7,7 +7,7 @@ ghost use Rattle.spec_commands.specs.Stack.{Stack as ScriptStack, performed};
 ghost use Rattle.smt_sexpr.specs.Items.{tree_meant};
 ghost use Rattle.term_reader.specs.Building.{KeepsTable};
 ghost use Rattle.smt_command.specs.Commands.{parts_view};
-ghost use Rattle.assertion_stack.specs.Stacks.{standing, HasStack, IsStack, Performs, with_asserted};
+ghost use Rattle.assertion_stack.specs.Stacks.{over_table, HasStack, IsStack, Performs, with_asserted};
 
 use crate::names::in_script;
 use crate::printing::print;
@@ -64,14 +64,14 @@ impl Stack {
         at: u64,
         tree: Trees<'_>,
     ) -> Result<Effect<'a>, ReadError>
-        requires { HasStack (standing table.old self.old) }
-        ensures performs { (limit : ℕ) (s : ScriptStack) → IsStack limit (standing table.old self.old) s
-            → Performs limit (performed limit at s (Assert (tree_meant tree.entry))) (standing table.new self.new)
+        requires { HasStack (over_table table.old self.old) }
+        ensures performs { (limit : ℕ) (s : ScriptStack) → IsStack limit (over_table table.old self.old) s
+            → Performs limit (performed limit at s (Assert (tree_meant tree.entry))) (over_table table.new self.new)
             result }
         ensures kept { OnOk result (KeepsTable table.old table.new) }
         ensures same { OnErr result ((self.new ≡ self.old) × (table.new ≡ table.old)) }
     {
-        self.scope.each_name_stands_for_something();
+        self.scope.each_name_means_something();
         let room = room(self, at);
         let terms = table.len();
         let sorts = self.scope.sorts_len();
@@ -113,9 +113,9 @@ impl Stack {
         at: u64,
         parts: FunctionText<'_>,
     ) -> Result<Effect<'a>, ReadError>
-        requires { HasStack (standing table.old self.old) }
-        ensures performs { (limit : ℕ) (s : ScriptStack) → IsStack limit (standing table.old self.old) s
-            → Performs limit (performed limit at s (DefineFun (parts_view parts.entry))) (standing table.new self.new)
+        requires { HasStack (over_table table.old self.old) }
+        ensures performs { (limit : ℕ) (s : ScriptStack) → IsStack limit (over_table table.old self.old) s
+            → Performs limit (performed limit at s (DefineFun (parts_view parts.entry))) (over_table table.new self.new)
             result }
         ensures kept { OnOk result (KeepsTable table.old table.new) }
         ensures same { OnErr result ((self.new ≡ self.old) × (table.new ≡ table.old)) }

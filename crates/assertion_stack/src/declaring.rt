@@ -11,7 +11,7 @@ ghost use Rattle.smt_sexpr.specs.Views.{word_view};
 ghost use Rattle.spec_sorts.specs.Signatures.{known_as};
 ghost use Rattle.term_core.specs.Symbols.{HasSortIn, HaveSortsIn, symbol_named, symbol_of};
 ghost use Rattle.term_core.specs.Tables.{Extends};
-ghost use Rattle.assertion_stack.specs.Stacks.{standing, IsStack, HasStack, Performs, with_sort, with_function};
+ghost use Rattle.assertion_stack.specs.Stacks.{over_table, IsStack, HasStack, Performs, with_sort, with_function};
 
 use crate::faults::refused;
 use crate::names::{new_function, new_sort, sorts_in};
@@ -48,7 +48,7 @@ fn add_sort(stack: &mut Stack, table: &mut TermTable, name: &[u8]) -> Result<(),
     ensures declared { OnOk result (table.new ≡ record table.old { sorts = table.old.sorts ++ name.now ∷ [] }) }
     ensures same { OnErr result ((stack.new ≡ stack.old) × (table.new ≡ table.old)) }
 {
-    stack.scope.each_name_stands_for_something();
+    stack.scope.each_name_means_something();
     let sorts = stack.scope.sorts_len();
     let functions = stack.scope.len();
     let number = SortId(table.symbols().sorts_len());
@@ -82,7 +82,7 @@ fn add_symbol(
     }) }
     ensures same { OnErr result ((stack.new ≡ stack.old) × (table.new ≡ table.old)) }
 {
-    stack.scope.each_name_stands_for_something();
+    stack.scope.each_name_means_something();
     let sorts = stack.scope.sorts_len();
     let functions = stack.scope.len();
     let number = SymbolId(table.symbols().len());
@@ -108,18 +108,18 @@ fn declare_over<'a>(
     parameters: &[Sort],
     gives: Sort,
 ) -> Result<Effect<'a>, ReadError>
-    requires new { (limit : ℕ) × (s : ScriptStack) × IsStack limit (standing table.old stack.old) s
+    requires new { (limit : ℕ) × (s : ScriptStack) × IsStack limit (over_table table.old stack.old) s
         × (known_as (signature_of s) name.now ≡ None) }
     requires sorts { HaveSortsIn table.old.sorts parameters.now × HasSortIn table.old.sorts gives }
-    ensures performs { (limit : ℕ) (s : ScriptStack) → IsStack limit (standing table.old stack.old) s
+    ensures performs { (limit : ℕ) (s : ScriptStack) → IsStack limit (over_table table.old stack.old) s
         → known_as (signature_of s) name.now ≡ None
         → Performs limit (roomy limit at [] (begun (with_declaration s
         (of_function (declared (symbol_of table.old.sorts name.now parameters.now gives))))))
-        (standing table.new stack.new) result }
+        (over_table table.new stack.new) result }
     ensures kept { OnOk result (Extends table.old table.new) }
     ensures same { OnErr result ((stack.new ≡ stack.old) × (table.new ≡ table.old)) }
 {
-    stack.scope.each_name_stands_for_something();
+    stack.scope.each_name_means_something();
     if !has_room(stack) {
         return Err(refused(at, Fault::Full));
     }
@@ -143,14 +143,14 @@ impl Stack {
         at: u64,
         word: Word<'_>,
     ) -> Result<Effect<'a>, ReadError>
-        requires { HasStack (standing table.old self.old) }
-        ensures performs { (limit : ℕ) (s : ScriptStack) → IsStack limit (standing table.old self.old) s
-            → Performs limit (performed limit at s (DeclareSort (word_view word.entry))) (standing table.new self.new)
+        requires { HasStack (over_table table.old self.old) }
+        ensures performs { (limit : ℕ) (s : ScriptStack) → IsStack limit (over_table table.old self.old) s
+            → Performs limit (performed limit at s (DeclareSort (word_view word.entry))) (over_table table.new self.new)
             result }
         ensures kept { OnOk result (Extends table.old table.new) }
         ensures same { OnErr result ((self.new ≡ self.old) × (table.new ≡ table.old)) }
     {
-        self.scope.each_name_stands_for_something();
+        self.scope.each_name_means_something();
         let name = match new_sort(&self.scope, word) {
             Ok(name) => name,
             Err(fault) => return Err(ReadError::Fault(fault)),
@@ -178,12 +178,12 @@ impl Stack {
         word: Word<'_>,
         sort: Trees<'_>,
     ) -> Result<Effect<'a>, ReadError>
-        ensures performs { (limit : ℕ) (s : ScriptStack) → IsStack limit (standing table.now self.old) s
+        ensures performs { (limit : ℕ) (s : ScriptStack) → IsStack limit (over_table table.now self.old) s
             → Performs limit (performed limit at s (DefineSort (word_view word.entry) (tree_meant sort.entry)))
-            (standing table.now self.new) result }
+            (over_table table.now self.new) result }
         ensures same { OnErr result (self.new ≡ self.old) }
     {
-        self.scope.each_name_stands_for_something();
+        self.scope.each_name_means_something();
         let name = match new_sort(&self.scope, word) {
             Ok(name) => name,
             Err(fault) => return Err(ReadError::Fault(fault)),
@@ -214,10 +214,10 @@ impl Stack {
         word: Word<'_>,
         sort: Trees<'_>,
     ) -> Result<Effect<'a>, ReadError>
-        requires { HasStack (standing table.old self.old) }
-        ensures performs { (limit : ℕ) (s : ScriptStack) → IsStack limit (standing table.old self.old) s
+        requires { HasStack (over_table table.old self.old) }
+        ensures performs { (limit : ℕ) (s : ScriptStack) → IsStack limit (over_table table.old self.old) s
             → Performs limit (performed limit at s (DeclareFun (word_view word.entry) none (tree_meant sort.entry)))
-            (standing table.new self.new) result }
+            (over_table table.new self.new) result }
         ensures kept { OnOk result (Extends table.old table.new) }
         ensures same { OnErr result ((self.new ≡ self.old) × (table.new ≡ table.old)) }
     {
@@ -249,11 +249,11 @@ impl Stack {
         parameters: Trees<'_>,
         sort: Trees<'_>,
     ) -> Result<Effect<'a>, ReadError>
-        requires { HasStack (standing table.old self.old) }
-        ensures performs { (limit : ℕ) (s : ScriptStack) → IsStack limit (standing table.old self.old) s
+        requires { HasStack (over_table table.old self.old) }
+        ensures performs { (limit : ℕ) (s : ScriptStack) → IsStack limit (over_table table.old self.old) s
             → Performs limit (performed limit at s
             (DeclareFun (word_view word.entry) (trees_meant parameters.entry) (tree_meant sort.entry)))
-            (standing table.new self.new) result }
+            (over_table table.new self.new) result }
         ensures kept { OnOk result (Extends table.old table.new) }
         ensures same { OnErr result ((self.new ≡ self.old) × (table.new ≡ table.old)) }
     {

@@ -5,16 +5,16 @@ ghost use Rattle.spec_commands.specs.Stack.{Stack as ScriptStack};
 ghost use Rattle.term_core.specs.Tables.{TableView};
 ghost use Rattle.term_reader.specs.Building.{KeepsTable};
 ghost use Rattle.assertion_stack.specs.declared.stack.Stack.{Stack};
-ghost use Rattle.assertion_stack.specs.Stacks.{Standing, standing, IsStack};
+ghost use Rattle.assertion_stack.specs.Stacks.{OverTable, over_table, IsStack};
 
 /// States that a stack stays the stack that it is while its table grows by terms alone.
-pub fn stacks_stand_in_grown_tables()
-    ensures { (limit : ℕ) (old new : TableView) (x : Stack) (s : ScriptStack) → IsStack limit (standing old x) s
-        → KeepsTable old new → IsStack limit (standing new x) s }
+pub fn stacks_hold_in_grown_tables()
+    ensures { (limit : ℕ) (old new : TableView) (x : Stack) (s : ScriptStack) → IsStack limit (over_table old x) s
+        → KeepsTable old new → IsStack limit (over_table new x) s }
 {}
 
 /// States that a stack has as many texts as asserted terms: `written` has one for each of `current`.
 pub fn each_assertion_has_its_text()
-    ensures { (limit : ℕ) (x : Standing) (s : ScriptStack) → IsStack limit x s
+    ensures { (limit : ℕ) (x : OverTable) (s : ScriptStack) → IsStack limit x s
         → length x.stack.assertions.texts ≡ length x.stack.assertions.ids }
 {}

@@ -10,7 +10,7 @@ use smt_sexpr::{Kind, Trees, View, look, split};
 use std::alloc::Global;
 use world_io::{Bytes, NoMemory};
 
-/// Lends what stands before a word and after it: quotes, bars where the name wants them, or a colon.
+/// Lends what is before a word and after it: quotes, bars where the name wants them, or a colon.
 fn marks_of<'a>(kind: Kind, bytes: &'a [u8]) -> (&'a [u8], &'a [u8])
     ensures { result.0.now ++ (bytes.now ++ result.1.now) ≡ printed_word kind bytes.now }
 {
@@ -47,7 +47,7 @@ fn add_word(out: &mut Vec<u8>, kind: Kind, bytes: &[u8]) -> Result<(), NoMemory>
     Ok(())
 }
 
-/// Ends a list, before the trees that stand after it.
+/// Ends a list, before the trees that are after it.
 fn end_list(out: &mut Vec<u8>, after: Trees<'_>) -> Result<(), NoMemory>
     ensures { OnOk result (out.new.items ++ printed_all (trees_meant after.entry)
         ≡ out.old.items ++ (41 ∷ printed_after (trees_meant after.entry))) }
@@ -56,7 +56,7 @@ fn end_list(out: &mut Vec<u8>, after: Trees<'_>) -> Result<(), NoMemory>
     add_gap(out, after)
 }
 
-/// Puts an atom last, before the trees that stand after it.
+/// Puts an atom last, before the trees that are after it.
 fn add_atom(out: &mut Vec<u8>, kind: Kind, bytes: &[u8], after: Trees<'_>) -> Result<(), NoMemory>
     ensures { OnOk result (out.new.items ++ printed_all (trees_meant after.entry)
         ≡ out.old.items ++ (printed_word kind bytes.now ++ printed_after (trees_meant after.entry))) }
@@ -67,7 +67,7 @@ fn add_atom(out: &mut Vec<u8>, kind: Kind, bytes: &[u8], after: Trees<'_>) -> Re
 
 /// Prints trees, one after the other.
 ///
-/// Lists that are open stand in a row, so nothing recurses. `NoMemory` may come at any byte.
+/// Lists that are open are in a row, so nothing recurses. `NoMemory` may come at any byte.
 fn print_all(alloc: Global, trees: Trees<'_>) -> Result<Bytes, NoMemory>
     ensures { IfOk result (λ b. b ≡ printed_all (trees_meant trees.entry)) }
 {
@@ -97,7 +97,7 @@ fn print_all(alloc: Global, trees: Trees<'_>) -> Result<Bytes, NoMemory>
     }
 }
 
-/// Prints the first tree, as `smt_sexpr::print` does: one space stands between two trees of a list and none inside its
+/// Prints the first tree, as `smt_sexpr::print` does: one space is between two trees of a list and none inside its
 /// parentheses, white space and comments are left out, and a symbol has bars only where it is none without them.
 ///
 /// `NoMemory` may come at any byte. Source: SMT-LIB 2.6, sections 3.1 and 3.2.

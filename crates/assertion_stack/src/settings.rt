@@ -6,7 +6,7 @@ ghost use Rattle.spec_commands.specs.Stack.{Stack as ScriptStack, performed};
 ghost use Rattle.smt_sexpr.specs.Items.{tree_meant};
 ghost use Rattle.smt_sexpr.specs.Views.{word_view};
 ghost use Rattle.term_core.specs.Tables.{TableView};
-ghost use Rattle.assertion_stack.specs.Stacks.{standing, IsStack, Performs};
+ghost use Rattle.assertion_stack.specs.Stacks.{over_table, IsStack, Performs};
 
 use crate::faults::refused;
 use crate::stack::{Effect, Stack};
@@ -21,8 +21,8 @@ pub(crate) fn set_logic<'a>(
     at: u64,
     word: Word<'_>,
 ) -> Result<Effect<'a>, ReadError>
-    ensures performs { (limit : ℕ) (t : TableView) (s : ScriptStack) → IsStack limit (standing t stack.old) s
-        → Performs limit (performed limit at s (SetLogic (word_view word.entry))) (standing t stack.new) result }
+    ensures performs { (limit : ℕ) (t : TableView) (s : ScriptStack) → IsStack limit (over_table t stack.old) s
+        → Performs limit (performed limit at s (SetLogic (word_view word.entry))) (over_table t stack.new) result }
     ensures same { OnErr result (stack.new ≡ stack.old) }
 {
     if is_reserved(word.kind) {
@@ -45,8 +45,8 @@ pub(crate) fn set_option<'a>(
     name: &[u8],
     value: Trees<'_>,
 ) -> Result<Effect<'a>, ReadError>
-    ensures performs { (limit : ℕ) (t : TableView) (s : ScriptStack) → IsStack limit (standing t stack.old) s
-        → Performs limit (performed limit at s (SetOption name.now (tree_meant value.entry))) (standing t stack.new)
+    ensures performs { (limit : ℕ) (t : TableView) (s : ScriptStack) → IsStack limit (over_table t stack.old) s
+        → Performs limit (performed limit at s (SetOption name.now (tree_meant value.entry))) (over_table t stack.new)
         result }
     ensures same { OnErr result (stack.new ≡ stack.old) }
 {
@@ -60,10 +60,10 @@ pub(crate) fn set_option<'a>(
     Ok(Effect::Done)
 }
 
-/// Begins a check, by a command whose word stands at a place.
+/// Begins a check, by a command whose word is at a place.
 pub(crate) fn begin_check<'a>(stack: &mut Stack, place: u64) -> Effect<'a>
-    ensures performs { (limit at : ℕ) (t : TableView) (s : ScriptStack) → IsStack limit (standing t stack.old) s
-        → Performs limit (performed limit at s (CheckSat place)) (standing t stack.new) (Ok result) }
+    ensures performs { (limit at : ℕ) (t : TableView) (s : ScriptStack) → IsStack limit (over_table t stack.old) s
+        → Performs limit (performed limit at s (CheckSat place)) (over_table t stack.new) (Ok result) }
     ensures begun { stack.new ≡ record stack.old { started = true } }
 {
     stack.started = true;

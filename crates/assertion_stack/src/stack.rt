@@ -5,7 +5,7 @@ ghost use Rattle.spec_commands.specs.Stack.{Stack as ScriptStack, empty_stack, p
 ghost use Rattle.smt_command.specs.Commands.{command_view};
 ghost use Rattle.smt_sexpr.specs.Items.{tree_of};
 ghost use Rattle.term_core.specs.Tables.{TableView, Extends};
-ghost use Rattle.assertion_stack.specs.Stacks.{standing, HasStack, IsStack, Performs, Steps, KeepsAtCheck};
+ghost use Rattle.assertion_stack.specs.Stacks.{over_table, HasStack, IsStack, Performs, Steps, KeepsAtCheck};
 
 use crate::assertions::Assertions;
 use crate::faults::place_in;
@@ -22,10 +22,10 @@ use world_io::Bytes;
 /// The most names that a script may have, and the most different subterms that the terms of one command may have. It is own.
 pub const TERM_LIMIT: u64 = 1 << 24;
 
-/// What a script has stated: its names, its assertions, and its options. The terms are in a table that stands beside it.
+/// What a script has stated: its names, its assertions, and its options. The terms are in a table that is beside it.
 ///
 /// Contracts see it as a `Stack` of the definitions, by the relation `IsStack`. While the table grows by terms alone, it
-/// stays the same stack (`stacks_stand_in_grown_tables`). Source: SMT-LIB 2.6, section 4.1.4.
+/// stays the same stack (`stacks_hold_in_grown_tables`). Source: SMT-LIB 2.6, section 4.1.4.
 #[derive(Drop)]
 pub struct Stack {
     /// The most names that a script may have, and the most different subterms of the terms of one command.
@@ -51,7 +51,7 @@ pub enum Effect<'a> {
     Unsupported,
     /// It asks for a check of what is asserted, by its word at this offset.
     Check(u64),
-    /// It asks for a text to be written, which stands between its quotes.
+    /// It asks for a text to be written, which is between its quotes.
     Say(&'a [u8]),
     /// It ends the script.
     Exit,
@@ -63,7 +63,7 @@ impl Stack {
     /// `limit` is the most names that may be declared and defined, and the most different subterms that the terms of one
     /// command may have.
     pub fn new(alloc: Global, limit: u64) -> Stack
-        ensures { (t : TableView) → t.sorts ≡ [] → t.symbols ≡ [] → IsStack limit (standing t result) empty_stack }
+        ensures { (t : TableView) → t.sorts ≡ [] → t.symbols ≡ [] → IsStack limit (over_table t result) empty_stack }
     {
         Stack {
             limit,
@@ -89,7 +89,7 @@ impl Stack {
     }
 
     /// Lends the texts of the asserted terms, in the order of `current` and one for each: the tree that was read for it, as
-    /// `smt_sexpr::print` prints it. Names that `:named` makes stand in them.
+    /// `smt_sexpr::print` prints it. Names that `:named` makes are in them.
     ///
     /// Source: SMT-LIB 2.6, section 4.2.7.
     pub fn written(&self) -> &[Bytes]
@@ -122,14 +122,14 @@ impl Stack {
         table: &mut TermTable,
         sexpr: &'a Sexpr<'_>,
     ) -> Result<Effect<'a>, Refused>
-        requires { HasStack (standing table.old self.old) }
-        ensures steps { (limit : ℕ) (s : ScriptStack) → IsStack limit (standing table.old self.old) s
-            → Steps limit (step limit s (tree_of sexpr.now)) sexpr.now (standing table.new self.new) result }
-        ensures check { KeepsAtCheck result (standing table.old self.old) (standing table.new self.new) }
+        requires { HasStack (over_table table.old self.old) }
+        ensures steps { (limit : ℕ) (s : ScriptStack) → IsStack limit (over_table table.old self.old) s
+            → Steps limit (step limit s (tree_of sexpr.now)) sexpr.now (over_table table.new self.new) result }
+        ensures check { KeepsAtCheck result (over_table table.old self.old) (over_table table.new self.new) }
         ensures kept { OnOk result (Extends table.old table.new) }
         ensures same { OnErr result ((self.new ≡ self.old) × (table.new ≡ table.old)) }
     {
-        spec_commands::faults_stand_in_their_command();
+        spec_commands::faults_are_in_their_command();
         sexpr.offsets_have_places();
         let command = match command(sexpr) {
             Ok(command) => command,
@@ -154,10 +154,10 @@ fn perform<'a>(
     at: u64,
     command: Command<'a>,
 ) -> Result<Effect<'a>, ReadError>
-    requires { HasStack (standing table.old stack.old) }
-    ensures performs { (limit : ℕ) (s : ScriptStack) → IsStack limit (standing table.old stack.old) s
-        → Performs limit (performed limit at s (command_view command.entry)) (standing table.new stack.new) result }
-    ensures check { KeepsAtCheck result (standing table.old stack.old) (standing table.new stack.new) }
+    requires { HasStack (over_table table.old stack.old) }
+    ensures performs { (limit : ℕ) (s : ScriptStack) → IsStack limit (over_table table.old stack.old) s
+        → Performs limit (performed limit at s (command_view command.entry)) (over_table table.new stack.new) result }
+    ensures check { KeepsAtCheck result (over_table table.old stack.old) (over_table table.new stack.new) }
     ensures kept { OnOk result (Extends table.old table.new) }
     ensures same { OnErr result ((stack.new ≡ stack.old) × (table.new ≡ table.old)) }
 {

@@ -89,7 +89,7 @@ fn cut_by(
 
 /// Says where an atom cuts.
 ///
-/// Nothing is given where it is no order of numbers, where no term stands in it with a coefficient other than 0, and where a number
+/// Nothing is given where it is no order of numbers, where no term is in it with a coefficient other than 0, and where a number
 /// leaves 128 bits; `NoMemory` comes where there is no memory.
 pub(crate) fn cut_of(
     alloc: Global,

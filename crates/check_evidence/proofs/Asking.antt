@@ -16,7 +16,7 @@ use Rattle.spec_causes.specs.Shared.{IsSharedEquality}
 use Rattle.term_core.specs.Tables.{TableView, term_at, clause_at}
 use Rattle.proof_log.specs.Logs.{AreFormulasIn}
 use Rattle.assertion_stack.specs.declared.stack.Stack.{Stack as CodeStack}
-use Rattle.assertion_stack.specs.Stacks.{standing, IsStack}
+use Rattle.assertion_stack.specs.Stacks.{over_table, IsStack}
 use Rattle.search_loop.specs.Answered.{AreAnswered}
 use Rattle.solve_core.proofs.SearchAgreed.{shared_subterm}
 
@@ -24,7 +24,7 @@ use Rattle.solve_core.proofs.SearchAgreed.{shared_subterm}
 pub asserted_readable : (xs : List Assertion) → All (λ (a : Assertion). IsReadableWhole a.term) xs → All IsReadableWhole (terms_asserted xs)
 asserted_readable xs each = All-map IsReadableWhole (λ (a : Assertion). a.term) xs each
 
-module _ (limit : ℕ) (t : TableView) (x : CodeStack) (s : Stack) (h : IsStack limit (standing t x) s) where
+module _ (limit : ℕ) (t : TableView) (x : CodeStack) (s : Stack) (h : IsStack limit (over_table t x) s) where
   -- its assertions are formulas
   pub formulas_asked : All (λ (a : Assertion). IsFormulaOver (symbols_in (signature_of s)) a.term) (assertions_of s) → AreFormulasIn t x.assertions.ids
   formulas_asked each =
@@ -52,7 +52,7 @@ equality_readable ts each u h =
     subst IsReadableWhole (sym h.is) ((tt, (left.0, (right.0, tt))), (tt, (left.1, (right.1, tt))))
 
 -- so all that the search knows of can be read
-pub known_readable : (ts beside : List Term) → All IsReadableWhole ts → All (IsSharedEquality (subterms_in (asserting ts))) beside → All IsReadableWhole (known_terms (speaking ts beside))
-known_readable ts beside each equalities =
-    All-append IsReadableWhole beside (ts ++ []) (All-weaker (IsSharedEquality (subterms_in (asserting ts))) IsReadableWhole (equality_readable ts each) beside equalities)
+pub known_readable : (ts interface : List Term) → All IsReadableWhole ts → All (IsSharedEquality (subterms_in (asserting ts))) interface → All IsReadableWhole (known_terms (speaking ts interface))
+known_readable ts interface each equalities =
+    All-append IsReadableWhole interface (ts ++ []) (All-weaker (IsSharedEquality (subterms_in (asserting ts))) IsReadableWhole (equality_readable ts each) interface equalities)
     (subst (All IsReadableWhole) (sym (append-nil ts)) each)

@@ -9,7 +9,7 @@ use Rattle.spec_sorts.specs.Meaning.{value_under}
 use Rattle.spec_commands.specs.Stack.{Assertion, Stack, signature_of, assertions_of, terms_asserted}
 use Rattle.spec_commands.specs.Checks.{IsTrueAssertion}
 use Rattle.spec_causes.specs.Checks.{ArePivotsSpent}
-use Rattle.spec_sessions.specs.Evidence.{Limits, Kept, model, spent, strained, out_of_pivots, IsProblemOf, IsKeptOf, Justifies}
+use Rattle.spec_sessions.specs.Evidence.{Limits, Kept, model, spent, overflowed, out_of_pivots, IsProblemOf, IsKeptOf, Justifies}
 use Rattle.term_core.specs.Tables.{TableView, literal_at}
 use Rattle.term_walks.specs.declared.values.Interp.{Interp}
 use Rattle.proof_log.specs.Logs.{derivation_in}
@@ -18,7 +18,7 @@ use Rattle.sat_budget.specs.declared.limits.Reason.TheVariants as reasons
 use Rattle.search_loop.specs.declared.cdcl.Answer.TheVariants.{Sat, Unknown}
 use Rattle.solve_core.specs.declared.outcome.Outcome.{Outcome}
 use Rattle.ratio128.specs.Meant.{overflow}
-use Rattle.search_loop.specs.Stops.{IsStrained}
+use Rattle.search_loop.specs.Stops.{IsOverflowed}
 use Rattle.search_loop.specs.Rounds.{HasEvidence}
 use Rattle.spec_derivations.specs.Problems.{Problem}
 use Rattle.spec_derivations.specs.Examples.{speaking}
@@ -39,8 +39,8 @@ module _ (limits : Limits) (t : TableView) (s : Stack) (symbols : symbols_in (si
   abbrev asked : List Term
   asked = terms_asserted (assertions_of s)
 
-  pub model_shown : ((i : Interpretation) → All (HasValue (signature_of s) i) (assertions_of s)) → (interp : Interp) → o.answer ≡ Sat interp → (beside : List Term) → HasEvidence t (speaking asked beside) o.log o.budget (Sat interp) → IsShown limits t s (found.Model interp) o
-  model_shown values interp is beside h =
+  pub model_shown : ((i : Interpretation) → All (HasValue (signature_of s) i) (assertions_of s)) → (interp : Interp) → o.answer ≡ Sat interp → (interface : List Term) → HasEvidence t (speaking asked interface) o.log o.budget (Sat interp) → IsShown limits t s (found.Model interp) o
+  model_shown values interp is interface h =
       let i = h.interpretation.0 in
       let stands = h.interpretation.1 in
       let interprets = h.interprets i stands in
@@ -65,10 +65,10 @@ module _ (limits : Limits) (t : TableView) (s : Stack) (symbols : symbols_in (si
   module _ (d : Decides limits t s o) where
     -- the problem that was decided
     abbrev problem : Problem
-    problem = speaking asked d.beside
+    problem = speaking asked d.interface
 
     problem_is : IsProblemOf (check_on s) problem
-    problem_is = record { beside = d.beside; equalities = d.equalities; is = refl }
+    problem_is = record { interface = d.interface; equalities = d.equalities; is = refl }
 
     conflicts_shown : (n : ℕ) → o.answer ≡ Unknown (reasons.Conflicts n) → HasEvidence t problem o.log o.budget (Unknown (reasons.Conflicts n)) → IsShown limits t s (found.Reason (reasons.Conflicts n)) o
     conflicts_shown n is h =
@@ -91,8 +91,8 @@ module _ (limits : Limits) (t : TableView) (s : Stack) (symbols : symbols_in (si
     reason_shown overflows (reasons.Conflicts n) is h = conflicts_shown n is h
     reason_shown overflows (reasons.Overflow x) is h =
         let es = o.budget.exchanges in
-        let cause = cause_of problem (length kept.learned) es x (subst (λ (l : ℕ). IsStrained problem l es x) (sym many) h) in (
-          strained (overflow x.wide) kept,
+        let cause = cause_of problem (length kept.learned) es x (subst (λ (l : ℕ). IsOverflowed problem l es x) (sym many) h) in (
+          overflowed (overflow x.wide) kept,
           (overflows problem (length kept.learned) es (overflow x.wide) cause, (problem, problem_is, kept_within, cause)),
           (derivation_in t o.log, refl),
           (x, is, refl, refl),

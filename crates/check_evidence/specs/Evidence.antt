@@ -8,7 +8,7 @@ use Rattle.spec_commands.specs.Checks.{Check}
 use Rattle.spec_derivations.specs.Derivations.{Derivation}
 use Rattle.spec_proof_texts.specs.Lines.{proof_text}
 use Rattle.spec_proof_texts.specs.Plans.{Plan, IsPlan, lines_of}
-use Rattle.spec_sessions.specs.Evidence.{Limits, Kept, Found, model, proof, spent, strained, out_of_pivots, Checked, Justifies}
+use Rattle.spec_sessions.specs.Evidence.{Limits, Kept, Found, model, proof, spent, overflowed, out_of_pivots, Checked, Justifies}
 use Rattle.spec_sessions.specs.Meaning.{IsKeptCheck}
 use Rattle.term_core.specs.Tables.{TableView, literal_at}
 use Rattle.term_walks.specs.declared.values.Interp.{Interp}
@@ -21,7 +21,7 @@ use Rattle.sat_budget.specs.Budgets.{BudgetView}
 use Rattle.sat_budget.specs.declared.limits.Strain.{Strain}
 use Rattle.sat_budget.specs.declared.limits.Limits.{Limits as CodeLimits}
 use Rattle.sat_budget.specs.declared.limits.Reason.TheVariants as reasons
-use Rattle.assertion_stack.specs.Stacks.{Standing, IsStack}
+use Rattle.assertion_stack.specs.Stacks.{OverTable, IsStack}
 use Rattle.search_loop.specs.declared.cdcl.Answer.TheVariants.{Sat, Unsat, Unknown}
 use Rattle.solve_core.specs.declared.outcome.Outcome.{Outcome}
 use Rattle.solve_core.specs.Decisions.{HasDecision}
@@ -45,7 +45,7 @@ abbrev pub checked_on : Stack → Found → Checked
 checked_on s f = record { check = check_on s; found = f }
 
 -- A stack of the code stands for a stack, which commands left under a limit on terms and names.
-pub record IsHeld (terms : ℕ) (x : Standing) (s : Stack) : Type 0 where
+pub record IsHeld (terms : ℕ) (x : OverTable) (s : Stack) : Type 0 where
   -- it is the stack
   pub stack : IsStack terms x s
   -- commands left it, and its names can be printed
@@ -54,7 +54,7 @@ pub record IsHeld (terms : ℕ) (x : Standing) (s : Stack) : Type 0 where
   pub readable : AreReadable (signature_of s)
 
 -- it stands for some stack
-abbrev pub HoldsSome : ℕ → Standing → Type 0
+abbrev pub HoldsSome : ℕ → OverTable → Type 0
 HoldsSome terms x = (s : Stack) × IsHeld terms x s
 
 -- what a search keeps, as a table means it, with a derivation of its clauses
@@ -74,7 +74,7 @@ IsEvidence t budget (found.Proof log plan) f =
 IsEvidence t budget (found.Reason (reasons.Conflicts n)) f =
     (d : Derivation) × (f ≡ spent n d (map (map (literal_at t)) budget.learned))
 IsEvidence t budget (found.Reason (reasons.Overflow s)) f =
-    (d : Derivation) × (f ≡ strained (overflow s.wide) (kept_of t d budget))
+    (d : Derivation) × (f ≡ overflowed (overflow s.wide) (kept_of t d budget))
 IsEvidence t budget (found.Reason (reasons.Pivots n)) f = (d : Derivation) × (f ≡ out_of_pivots n (kept_of t d budget))
 
 -- it is evidence of something
@@ -91,7 +91,7 @@ IsFoundBy t o (proof text) =
 IsFoundBy t o (spent n d learned) =
     (o.answer ≡ Unknown (reasons.Conflicts n)) × (d ≡ derivation_in t o.log)
     × (learned ≡ map (map (literal_at t)) o.budget.learned)
-IsFoundBy t o (strained x k) =
+IsFoundBy t o (overflowed x k) =
     (s : Strain) × (o.answer ≡ Unknown (reasons.Overflow s)) × (x ≡ overflow s.wide)
     × (k ≡ kept_of t (derivation_in t o.log) o.budget)
 IsFoundBy t o (out_of_pivots n k) =
@@ -113,7 +113,7 @@ HasLearned limits t s f budget =
     (o : Outcome) × Decides limits t s o × IsFoundBy t o f × (budget ≡ o.budget)
 
 -- What a check of a stack found, and the stack of the code stands for the same stack.
-pub record HasChecked (limits : Limits) (s : Stack) (e : Evidence) (x : Standing) (budget : BudgetView) : Type 0 where
+pub record HasChecked (limits : Limits) (s : Stack) (e : Evidence) (x : OverTable) (budget : BudgetView) : Type 0 where
   -- the outcome of the decision
   pub outcome : Outcome
   -- it is right
@@ -126,6 +126,6 @@ pub record HasChecked (limits : Limits) (s : Stack) (e : Evidence) (x : Standing
   pub held : IsHeld limits.terms x s
 
 -- a check of a stack found something; or memory ran out
-abbrev pub Checks : Limits → Stack → Result Evidence NoMemory → Standing → BudgetView → Type 0
+abbrev pub Checks : Limits → Stack → Result Evidence NoMemory → OverTable → BudgetView → Type 0
 Checks limits s (Ok e) x budget = HasChecked limits s e x budget
 Checks limits s (Err _) x budget = IsHeld limits.terms x s

@@ -8,7 +8,7 @@ ghost use Rattle.spec_readable.specs.Readable.{AreReadable};
 ghost use Rattle.spec_sessions.specs.Evidence.{Limits as SpokenLimits};
 ghost use Rattle.spec_sessions.specs.Meaning.{IsKeptCheck};
 ghost use Rattle.sat_budget.specs.declared.limits.Limits.{Limits as CodeLimits};
-ghost use Rattle.assertion_stack.specs.Stacks.{standing};
+ghost use Rattle.assertion_stack.specs.Stacks.{over_table};
 ghost use Rattle.search_loop.specs.Rounds.{HasLimits};
 ghost use Rattle.solve_core.specs.Decisions.{HasDecision};
 ghost use Rattle.check_evidence.specs.Evidence.{limits_meant, check_on, IsHeld, HoldsSome, Decides, IsShown, Checks};
@@ -16,7 +16,7 @@ ghost use Rattle.check_evidence.specs.Evidence.{limits_meant, check_on, IsHeld, 
 use alethe_writer::printable::{logs_are_over_their_terms, terms_are_printable};
 use alethe_writer::{Plan, prepare};
 use assertion_stack::Stack;
-use assertion_stack::laws::stacks_stand_in_grown_tables;
+use assertion_stack::laws::stacks_hold_in_grown_tables;
 use proof_log::ProofLog;
 use sat_budget::{Budget, Limits, Reason};
 use solve_core::{Answer, Outcome, decide};
@@ -56,16 +56,16 @@ pub fn check(
     budget: &mut Budget,
     limits: &Limits,
 ) -> Result<Evidence, NoMemory>
-    requires held { HoldsSome limits.now.terms (standing table.old stack.now) }
-    ensures checks { (s : ScriptStack) → IsHeld limits.now.terms (standing table.old stack.now) s
-        → Checks (limits_meant limits.now) s result (standing table.new stack.now) budget.new }
+    requires held { HoldsSome limits.now.terms (over_table table.old stack.now) }
+    ensures checks { (s : ScriptStack) → IsHeld limits.now.terms (over_table table.old stack.now) s
+        → Checks (limits_meant limits.now) s result (over_table table.new stack.now) budget.new }
     ensures limits { IfOk result (λ _. HasLimits limits.now budget.new) }
     ensures table { OnErr result (table.new ≡ table.old) }
     ensures budget { OnErr result (budget.new ≡ budget.old) }
 {
     assertions_are_formulas();
     assertions_are_readable();
-    stacks_stand_in_grown_tables();
+    stacks_hold_in_grown_tables();
     let len = table.len();
     let outcome = decide(alloc, table, stack.assertions.as_slice(), limits)?;
     match evidence_of(alloc, table, outcome) {

@@ -1,4 +1,4 @@
--- Lists of consecutive numbers, how often a number stands in a list, and rows with places written.
+-- Lists of consecutive numbers, how often a number is in a list, and rows with places written.
 use Rattle.std.proofs.Common.{arith, ◌≡◌, ◌≢◌, ◌∙◌, ◌⊎◌, ℕ, zero, suc, ◌+◌, ◌<◌, ◌≤◌, ◌==◌, ◌&&◌, nat_le, nat_lt, List, [], ◌∷◌, ◌++◌, length, take, slice_index, slice_set, if◌then◌else◌, inl, inr, refl, sym, ap, ap₂}
 use Rattle.std.specs.List.{range_with_len}
 use Rattle.std.proofs.lemmas.Bool.{cases_eq}
@@ -37,12 +37,12 @@ occurrences-append t (x ∷ xs) ys = omega (arith, occurrences-append t xs ys)
 pub occurrences-count : (class : ℕ) (numbers : List ℕ) → occurrences class numbers ≡ members_count numbers class
 occurrences-count class = is_count_by (occurrences class) (λ number. number == class) refl (λ x xs. grind (arith, nat_tests))
 
--- each of consecutive numbers stands there once
+-- each of consecutive numbers is there once
 pub occurrences-range : (t a n : ℕ) → occurrences t (range_with_len a n) ≡ (if nat_le a t && nat_lt t (a + n) then 1 else 0)
 occurrences-range t a zero = grind (arith, nat_tests)
 occurrences-range t a (suc n) = ap (λ k. (if t == a then 1 else 0) + k) (occurrences-range t (a + 1) n) ∙ grind (arith, nat_tests)
 
--- what stands in a list occurs in it
+-- what is in a list occurs in it
 pub occurs : (t : ℕ) (xs : List ℕ) (k : ℕ) → k < length xs → slice_index xs k ≡ t → 0 < occurrences t xs
 occurs t [] k h e = absurd (omega (arith, h))
 occurs t (x ∷ xs) zero h e = grind (arith, nat_tests, e)

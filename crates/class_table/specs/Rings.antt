@@ -23,7 +23,7 @@ swapped next a b = slice_set (slice_set next a (slice_index next b)) b (slice_in
 abbrev pub once_if : Bool → ℕ
 once_if b = if b then 1 else 0
 
--- how often a number stands in a list
+-- how often a number is in a list
 abbrev pub occurrences : ℕ → List ℕ → ℕ
 occurrences n [] = 0
 occurrences n (x ∷ xs) = once_if (n == x) + occurrences n xs
@@ -33,7 +33,7 @@ abbrev pub RingLeads : List ℕ → ℕ → List ℕ → ℕ → Type 0
 RingLeads next start [] end = start ≡ end
 RingLeads next start (t ∷ ts) end = (start ≡ t) × RingLeads next (slice_index next t) ts end
 
--- The members of a class stand in a ring of such a size.
+-- The members of a class are in a ring of such a size.
 pub record IsRing (next numbers : List ℕ) (size class : ℕ) : Type 0 where
   -- the members, from one of them on
   pub ring : List ℕ
@@ -92,7 +92,7 @@ pub record IsClass (s : RingState) (class : ℕ) : Type 0 where
   pub low : class < length s.numbers
   -- which is one of its own
   pub live : slice_index s.numbers class ≡ class
-  -- its members stand in a ring
+  -- its members are in a ring
   pub ring : IsRing s.next s.numbers (slice_index s.sizes class) class
   -- and are counted
   pub size : slice_index s.sizes class ≡ occurrences class s.numbers

@@ -19,7 +19,7 @@ use Rattle.clause_literals.specs.declared.occurrences.Occurrences.{Occurrences}
 use Rattle.clause_literals.proofs.LiteralLists.{equal_is, contains_by}
 use Rattle.clause_literals.proofs.Counting.{Contains-first}
 
--- a literal stands at one place
+-- a literal is at one place
 same_place : (ls : List Lit) → HasNoTwice ls → (d : Lit) (i j : ℕ) → i < length ls → j < length ls → get_or ls i d ≡ get_or ls j d → i ≡ j
 same_place [] h d i j il jl e = absurd (omega (arith, il))
 same_place (x ∷ xs) h d zero zero il jl e = refl

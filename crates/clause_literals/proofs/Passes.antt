@@ -34,9 +34,9 @@ to_unit premises seen old mid new c l false m c_in u e =
     (subst (λ (h : List Lit). Advances premises h new) m.0 a, omega (arith, ap length m.0, ap length e, length_push mid l))
 
 -- to a settled one
-pub to_settled : (premises seen more : List (List Lit)) (old mid new c : List Lit) (b : Bool) → SoFar premises seen old mid b → new ≡ mid → PropagatesNothing mid c → more ≡ c ∷ seen → SoFar premises more old new b
-to_settled premises seen more old mid new c true m e s each = subst (λ (h : List Lit). Advances premises old h × (length old < length h)) (sym e) m
-to_settled premises seen more old mid new c false m e s each = (e ∙ m.0, λ d i. subst (λ (h : List Lit). PropagatesNothing h d) (sym e) (elim (cases c seen d (subst (λ (cs : List (List Lit)). Contains cs d) each i)) [ inl is ↦ subst (λ (x : List Lit). PropagatesNothing mid x) is s | inr was ↦ m.1 d was ]))
+pub to_inert : (premises seen more : List (List Lit)) (old mid new c : List Lit) (b : Bool) → SoFar premises seen old mid b → new ≡ mid → PropagatesNothing mid c → more ≡ c ∷ seen → SoFar premises more old new b
+to_inert premises seen more old mid new c true m e s each = subst (λ (h : List Lit). Advances premises old h × (length old < length h)) (sym e) m
+to_inert premises seen more old mid new c false m e s each = (e ∙ m.0, λ d i. subst (λ (h : List Lit). PropagatesNothing h d) (sym e) (elim (cases c seen d (subst (λ (cs : List (List Lit)). Contains cs d) each i)) [ inl is ↦ subst (λ (x : List Lit). PropagatesNothing mid x) is s | inr was ↦ m.1 d was ]))
 
 abbrev to_items : Vec Lit Global → List Lit
 to_items w = w.items
@@ -60,6 +60,6 @@ ended premises zero old new l m = m
 ended premises (suc n) old new l m = absurd (omega (arith, l))
 
 -- an open or a true clause
-pub settles : (c old new : List Lit) (f : ClauseStatus) → (f ≡ Unresolved) ⊎ (f ≡ Satisfied) → Scans c old new f → PropagatesNothing old c × (new ≡ old)
-settles c old new f (inl e) s = let t : IsUnresolved old c × (new ≡ old) = let P : ClauseStatus → Type 0 = Scans c old new in subst P e s in (inr t.0, t.1)
-settles c old new f (inr e) s = let t : IsSatisfied old c × (new ≡ old) = let P : ClauseStatus → Type 0 = Scans c old new in subst P e s in (inl t.0, t.1)
+pub is_inert : (c old new : List Lit) (f : ClauseStatus) → (f ≡ Unresolved) ⊎ (f ≡ Satisfied) → Scans c old new f → PropagatesNothing old c × (new ≡ old)
+is_inert c old new f (inl e) s = let t : IsUnresolved old c × (new ≡ old) = let P : ClauseStatus → Type 0 = Scans c old new in subst P e s in (inr t.0, t.1)
+is_inert c old new f (inr e) s = let t : IsSatisfied old c × (new ≡ old) = let P : ClauseStatus → Type 0 = Scans c old new in subst P e s in (inl t.0, t.1)

@@ -11,7 +11,7 @@ use Rattle.clause_literals.specs.Occurring.{OccursIn, IsIndexOf}
 use Rattle.clause_literals.specs.Statuses.{IsFalsified}
 use Rattle.clause_literals.specs.Propagation.{LeadsToConflict, untouched, Advances, AreTracked, TakesUp, BeginsPropagation, Loses, HasPropagatedAll}
 use Rattle.clause_literals.proofs.Advancing.{advances_none, advances_by, advances_on, held_on, refuted_by, refuted_on}
-use Rattle.clause_literals.proofs.Tracking.{begins_more, loses_one, within_take, loses_all, settled}
+use Rattle.clause_literals.proofs.Tracking.{begins_more, loses_one, within_take, loses_all, inert}
 use Rattle.clause_literals.proofs.Start.{taken_more}
 
 abbrev to_items : Vec Lit Global → List Lit
@@ -126,7 +126,7 @@ going_smaller premises first held new left done ok h lt a = let f = a.fewer (h.a
 pub going_all : (premises : List (List Lit)) → All HasNoTwice premises → (first held : List Lit) (left : List ℕ) (done : ℕ) → length held ≤ done → IsGoing premises first held left done → HasPropagatedAll premises first held
 going_all premises once first held left done all h = record {
   advances = h.advances;
-  settled = settled premises once (take done held) held left (take_all done held all) h.tracked;
+  inert = inert premises once (take done held) held left (take_all done held all) h.tracked;
 }
 
 -- what taking up all premises gives of their own numbers

@@ -120,8 +120,8 @@ module _ (premises : List (List Lit)) (once : All HasNoTwice premises) (held : L
   ]
 
 -- where all that holds was taken out
-pub settled : (premises : List (List Lit)) → All HasNoTwice premises → (seen held : List Lit) (left : List ℕ) → seen ≡ held → AreTracked (length premises) seen [] premises held left → (c : List Lit) → Contains premises c → PropagatesNothing held c
-settled premises once seen held left e all c i = subst (λ (x : List Lit). PropagatesNothing held x) (get_or_default premises i.0 [] c i.1 ∙ i.2) (elim (all i.0 i.1) [
+pub inert : (premises : List (List Lit)) → All HasNoTwice premises → (seen held : List Lit) (left : List ℕ) → seen ≡ held → AreTracked (length premises) seen [] premises held left → (c : List Lit) → Contains premises c → PropagatesNothing held c
+inert premises once seen held left e all c i = subst (λ (x : List Lit). PropagatesNothing held x) (get_or_default premises i.0 [] c i.1 ∙ i.2) (elim (all i.0 i.1) [
   | inl t ↦ inl t
   | inr h ↦ inr (counted_two held (get_or premises i.0 []) (once i.0 [] i.1) (subst (λ (s : List Lit). 2 ≤ unseen s (get_or premises i.0 [])) e (omega (arith, h.0, h.1))))
 ])

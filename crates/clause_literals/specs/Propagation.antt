@@ -31,7 +31,7 @@ untouched held premises = failing (λ c. list_any (has held) c) premises
 abbrev pub unseen : List Lit → List Lit → ℕ
 unseen seen clause = failing (λ m. has seen (lit_complement m)) clause
 
--- how often a number stands in a list
+-- how often a number is in a list
 abbrev pub times : ℕ → List ℕ → ℕ
 times k [] = zero
 times k (j ∷ js) = if j == k then suc (times k js) else times k js
@@ -79,7 +79,7 @@ pub record Loses (premises : List (List Lit)) (losing : List ℕ) (old new : Lis
 -- nothing more follows
 pub record HasPropagatedAll (premises : List (List Lit)) (old new : List Lit) : Type 0 where
   pub advances : Advances premises old new
-  pub settled : (c : List Lit) → Contains premises c → PropagatesNothing new c
+  pub inert : (c : List Lit) → Contains premises c → PropagatesNothing new c
 
 -- a premise comes to be false, or nothing more follows
 abbrev pub Propagates : List (List Lit) → List Lit → List Lit → Bool → Type 0

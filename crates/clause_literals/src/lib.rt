@@ -1,6 +1,6 @@
 //! Literals of clauses: which they are, what an assignment says of them, and unit propagation over clauses.
 //!
-//! `literals_of` gives the literals of a clause of the table of terms, and `without_sign` what a term is as it stands or negated. An
+//! `literals_of` gives the literals of a clause of the table of terms, and `without_sign` what a term is as it is or negated. An
 //! `Assignment` holds literals, oldest first, and `clause_status` says what they make of a clause. `resolves` goes on from the complements
 //! of a clause's literals by units, in time in proportion to all literals. The rules judge by these, and the search goes by them.
 #![tactic(auto)]

@@ -1,4 +1,4 @@
-//! Terms as they stand, and what negations negate.
+//! Terms as they are, and what negations negate.
 
 ghost use Rattle.std.specs.Prelude.{MatchOption, false};
 ghost use Rattle.spec_rules.specs.Rules.{flipped};
@@ -23,7 +23,7 @@ fn negated(table: &TermTable, id: TermId) -> Option<TermId>
     }
 }
 
-/// Gives the term as it stands, or where `positive` is false what it negates; nothing where it is no negation. It takes no memory, and
+/// Gives the term as it is, or where `positive` is false what it negates; nothing where it is no negation. It takes no memory, and
 /// the same time for all terms. Source: SMT-LIB 2.6, theory Core, for `not`.
 pub fn without_sign(table: &TermTable, positive: bool, id: TermId) -> Option<TermId>
     requires { IsIn table.now id }
@@ -39,7 +39,7 @@ pub fn without_sign(table: &TermTable, positive: bool, id: TermId) -> Option<Ter
 /// Takes a leading `not` off a term, or else puts one on, and gives what is left of that without the sign.
 ///
 /// A negation that is put on need not be the table's, and is not made. Where `positive` is false, the term itself is left of it; where
-/// `positive` is true, there is nothing, though that negation, as it stands, would be left. It would be a term of the head `Not`, which
+/// `positive` is true, there is nothing, though that negation, as it is, would be left. It would be a term of the head `Not`, which
 /// no caller asks for: a scheme that `rule_bool` turns has another (`IsTurning`). It takes no memory, and the same time for all terms.
 pub fn turned_without_sign(table: &TermTable, positive: bool, id: TermId) -> Option<TermId>
     requires { IsIn table.now id }

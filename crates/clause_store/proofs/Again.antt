@@ -21,11 +21,11 @@ module _ (p : StoreParts) (t : TrailView) (w : IsAtWork p t) (list : List ℕ) (
     abbrev n : ℕ
     n = get_or list k 0
 
-    here : (n < p.settled) × ((get_or p.watched.pairs.items n no_pair).first ≡ (get_or p.watched.pairs.items n no_pair).second)
-    here = w.settled.only n (subst (λ (xs : List ℕ). Contains xs n) is (Contains-get_or list k 0 lt))
+    here : (n < p.attached) × ((get_or p.watched.pairs.items n no_pair).first ≡ (get_or p.watched.pairs.items n no_pair).second)
+    here = w.attached.only n (subst (λ (xs : List ℕ). Contains xs n) is (Contains-get_or list k 0 lt))
 
     pub again_clause : get_or list k 0 < length (clauses_of p.watched.entries.items)
-    again_clause = omega (arith, here.0, w.settled.within)
+    again_clause = omega (arith, here.0, w.attached.within)
 
     pub again_entry : get_or list k 0 < length p.watched.entries.items
     again_entry = omega (arith, again_clause, clause_count p.watched.entries.items)
@@ -39,7 +39,7 @@ module _ (p : StoreParts) (t : TrailView) (w : IsAtWork p t) (list : List ℕ) (
 
       -- its only literal
       pub again_there : Contains (get_or (clauses_of p.watched.entries.items) (get_or list k 0) []) x.first
-      again_there = subst (Contains (get_or (clauses_of p.watched.entries.items) n [])) (sym again_literal) (w.settled.there n here.0)
+      again_there = subst (Contains (get_or (clauses_of p.watched.entries.items) n [])) (sym again_literal) (w.attached.there n here.0)
 
       pub again_alone : (m : Lit) → Contains (get_or (clauses_of p.watched.entries.items) (get_or list k 0) []) m → m ≡ x.first
       again_alone m i = (w.watched.pairs_by.each n again_clause).alone here.1 m i ∙ sym again_literal
@@ -52,9 +52,9 @@ module _ (p : StoreParts) (t : TrailView) (w : IsAtWork p t) (list : List ℕ) (
       ]
 
   -- where all of them hold, the clauses rest at no prefix
-  pub again_all : (k : ℕ) → length list ≤ k → (held : List Lit) → Hold held k → AreResting p.settled p.watched.pairs.items [] held
+  pub again_all : (k : ℕ) → length list ≤ k → (held : List Lit) → Hold held k → AreResting p.attached p.watched.pairs.items [] held
   again_all k le held h n lt = record {
     by_first = λ c. absurd (omega (arith, c.1));
     by_second = λ c. absurd (omega (arith, c.1));
-    alone = λ e. h n (subst (λ (xs : List ℕ). Contains xs n) (sym (take_all k p.short.items (omega (arith, le, ap length is)))) (w.settled.listed n lt e));
+    alone = λ e. h n (subst (λ (xs : List ℕ). Contains xs n) (sym (take_all k p.short.items (omega (arith, le, ap length is)))) (w.attached.listed n lt e));
   }

@@ -12,28 +12,28 @@ use Rattle.clause_store.specs.Stores.{StoreView, HasSeen, no_pair}
 use Rattle.clause_store.specs.Entries.{clauses_of, bare}
 use Rattle.clause_store.specs.Propagating.{AddsImplied, Advances, IsPropagated}
 use Rattle.clause_store.specs.Watching.{IsWatched, ArePairs, AreKnownIn, Rests, AreResting, AreLiteralsAmong, IsFresh, PropagatesPart}
-use Rattle.clause_store.specs.Resting.{store_of, IsPrefixOf, HaveRested, AreSettled, StoreFits, IsAtWork, WorksOn, IsSameBut}
+use Rattle.clause_store.specs.Resting.{store_of, IsPrefixOf, HaveRested, AreAttached, StoreFits, IsAtWork, WorksOn, IsSameBut}
 use Rattle.clause_store.proofs.Adding.{adds_on, advances_none, advances_on, holds_on, same_front}
 use Rattle.clause_store.proofs.Resting.{front_within, quiet, resting_on}
 use Rattle.clause_store.proofs.Seen.{seen_more}
 use Rattle.clause_store.proofs.Stored.{clause_count}
-use Rattle.clause_store.proofs.Working.{front_had, rested_by, rested_front, rested_goes, rested_more, settled_on}
+use Rattle.clause_store.proofs.Working.{front_had, rested_by, rested_front, rested_goes, rested_more, attached_on}
 
 -- after propagation that ended early the parts fit by what was seen
 pub kept_by : (p : StoreParts) (t : TrailView) → IsAtWork p t → StoreFits p
 kept_by p t w = record {
   watched = w.watched;
-  settled = w.settled;
-  rests = rested_by p.rests.items p.settled p.watched.pairs.items t.propagated t.propagated (length p.seen.items) t.literals p.seen.items w.seen.same w.seen.within w.rests.within w.rests;
+  attached = w.attached;
+  rests = rested_by p.rests.items p.attached p.watched.pairs.items t.propagated t.propagated (length p.seen.items) t.literals p.seen.items w.seen.same w.seen.within w.rests.within w.rests;
 }
 
 -- before it they fit by the trail, where no prefix is longer than what is marked
-pub work_by : (p : StoreParts) (t : TrailView) → IsWatched p.watched → AreSettled (clauses_of p.watched.entries.items) p.watched.pairs.items p.settled p.short.items → AreKnownIn p.watched t.vars → HasSeen (store_of p) t
-    → ((r : ℕ) → Contains p.rests.items r → r ≤ t.propagated) → HaveRested p.rests.items p.settled p.watched.pairs.items (length p.seen.items) p.seen.items → IsAtWork p t
+pub work_by : (p : StoreParts) (t : TrailView) → IsWatched p.watched → AreAttached (clauses_of p.watched.entries.items) p.watched.pairs.items p.attached p.short.items → AreKnownIn p.watched t.vars → HasSeen (store_of p) t
+    → ((r : ℕ) → Contains p.rests.items r → r ≤ t.propagated) → HaveRested p.rests.items p.attached p.watched.pairs.items (length p.seen.items) p.seen.items → IsAtWork p t
 work_by p t w s k seen within h = record {
   watched = w;
-  settled = s;
-  rests = rested_by p.rests.items p.settled p.watched.pairs.items (length p.seen.items) t.propagated t.propagated p.seen.items t.literals (sym seen.same) (omega arith) within h;
+  attached = s;
+  rests = rested_by p.rests.items p.attached p.watched.pairs.items (length p.seen.items) t.propagated t.propagated p.seen.items t.literals (sym seen.same) (omega arith) within h;
   known = k;
   seen = seen;
 }
@@ -64,7 +64,7 @@ resting_more count pairs F held h one n lt = elim (cases_lt n count) [
 -- ---- a part of propagation, from parts at work
 
 module _ (p q : StoreParts) (t u : TrailView) (le : t.propagated ≤ length t.literals) (ok : IsWatched q.watched) (es : q.watched.entries.items ≡ p.watched.entries.items) (se : q.seen.items ≡ p.seen.items)
-    (g : PropagatesPart (bare p.watched.entries.items) p.settled p.watched.pairs.items q.watched.pairs.items t u) (h : IsAtWork p t) where
+    (g : PropagatesPart (bare p.watched.entries.items) p.attached p.watched.pairs.items q.watched.pairs.items t u) (h : IsAtWork p t) where
   known_now : AreKnownIn q.watched u.vars
   known_now = subst (λ (es : List StoredClause). All (All (λ (l : Lit). l.term.0 < u.vars)) (clauses_of es)) (sym es) (subst (λ (n : ℕ). All (All (λ (l : Lit). l.term.0 < n)) (clauses_of p.watched.entries.items)) (sym g.advances.0.vars) h.known)
 
@@ -77,50 +77,50 @@ module _ (p q : StoreParts) (t u : TrailView) (le : t.propagated ≤ length t.li
   pairs_now : ArePairs (clauses_of p.watched.entries.items) q.watched.pairs.items
   pairs_now = subst (λ (es : List StoredClause). ArePairs (clauses_of es) q.watched.pairs.items) es ok.pairs_by
 
-  pub settled_now : AreSettled (clauses_of p.watched.entries.items) q.watched.pairs.items p.settled p.short.items
-  settled_now = settled_on (clauses_of p.watched.entries.items) p.settled p.short.items p.watched.pairs.items q.watched.pairs.items g.shapes pairs_now h.settled
+  pub attached_now : AreAttached (clauses_of p.watched.entries.items) q.watched.pairs.items p.attached p.short.items
+  attached_now = attached_on (clauses_of p.watched.entries.items) p.attached p.short.items p.watched.pairs.items q.watched.pairs.items g.shapes pairs_now h.attached
 
-  rested_now : HaveRested p.rests.items p.settled q.watched.pairs.items u.propagated u.literals
-  rested_now = rested_goes (bare p.watched.entries.items) p.rests.items p.settled p.watched.pairs.items q.watched.pairs.items t u le g h.rests
+  rested_now : HaveRested p.rests.items p.attached q.watched.pairs.items u.propagated u.literals
+  rested_now = rested_goes (bare p.watched.entries.items) p.rests.items p.attached p.watched.pairs.items q.watched.pairs.items t u le g h.rests
 
   -- no more was looked at
-  pub work_goes : q.settled ≡ p.settled → q.short.items ≡ p.short.items → q.rests.items ≡ p.rests.items → IsAtWork q u
+  pub work_goes : q.attached ≡ p.attached → q.short.items ≡ p.short.items → q.rests.items ≡ p.rests.items → IsAtWork q u
   work_goes st sh re = record {
     watched = ok;
-    settled = subst (λ (es : List StoredClause). AreSettled (clauses_of es) q.watched.pairs.items q.settled q.short.items) (sym es)
-        (subst (λ (n : ℕ). AreSettled (clauses_of p.watched.entries.items) q.watched.pairs.items n q.short.items) (sym st)
-        (subst (AreSettled (clauses_of p.watched.entries.items) q.watched.pairs.items p.settled) (sym sh) settled_now));
+    attached = subst (λ (es : List StoredClause). AreAttached (clauses_of es) q.watched.pairs.items q.attached q.short.items) (sym es)
+        (subst (λ (n : ℕ). AreAttached (clauses_of p.watched.entries.items) q.watched.pairs.items n q.short.items) (sym st)
+        (subst (AreAttached (clauses_of p.watched.entries.items) q.watched.pairs.items p.attached) (sym sh) attached_now));
     rests = subst (λ (n : ℕ). HaveRested q.rests.items n q.watched.pairs.items u.propagated u.literals) (sym st)
-        (subst (λ (rs : List ℕ). HaveRested rs p.settled q.watched.pairs.items u.propagated u.literals) (sym re) rested_now);
+        (subst (λ (rs : List ℕ). HaveRested rs p.attached q.watched.pairs.items u.propagated u.literals) (sym re) rested_now);
     known = known_now;
     seen = seen_now;
   }
 
-  pub works_goes : q.settled ≡ p.settled → WorksOn p q t u
+  pub works_goes : q.attached ≡ p.attached → WorksOn p q t u
   works_goes st = record {
     advances = g.advances;
     entries = es;
     seen = se;
-    prefixes = λ F w x. subst (λ (n : ℕ). AreResting n q.watched.pairs.items F u.literals) (sym st) (resting_goes p.watched.entries.items p.settled p.watched q.watched t u g F w x);
+    prefixes = λ F w x. subst (λ (n : ℕ). AreResting n q.watched.pairs.items F u.literals) (sym st) (resting_goes p.watched.entries.items p.attached p.watched q.watched t u g F w x);
   }
 
   -- one more was looked at, and the prefixes that are left are safe for it
-  module _ (Safe : ℕ → Type 0) (st : q.settled ≡ p.settled + 1) (settled : AreSettled (clauses_of p.watched.entries.items) q.watched.pairs.items (p.settled + 1) q.short.items)
-      (fr : IsFresh (get_or (clauses_of p.watched.entries.items) p.settled []) u.literals (get_or q.watched.pairs.items p.settled no_pair) Safe)
+  module _ (Safe : ℕ → Type 0) (st : q.attached ≡ p.attached + 1) (attached : AreAttached (clauses_of p.watched.entries.items) q.watched.pairs.items (p.attached + 1) q.short.items)
+      (fr : IsFresh (get_or (clauses_of p.watched.entries.items) p.attached []) u.literals (get_or q.watched.pairs.items p.attached no_pair) Safe)
       (front : IsPrefixOf q.rests.items p.rests.items) (safe : (r : ℕ) → Contains q.rests.items r → Safe r) where
     pub work_one : IsAtWork q u
     work_one = record {
       watched = ok;
-      settled = subst (λ (es : List StoredClause). AreSettled (clauses_of es) q.watched.pairs.items q.settled q.short.items) (sym es)
-          (subst (λ (n : ℕ). AreSettled (clauses_of p.watched.entries.items) q.watched.pairs.items n q.short.items) (sym st) settled);
+      attached = subst (λ (es : List StoredClause). AreAttached (clauses_of es) q.watched.pairs.items q.attached q.short.items) (sym es)
+          (subst (λ (n : ℕ). AreAttached (clauses_of p.watched.entries.items) q.watched.pairs.items n q.short.items) (sym st) attached);
       rests = subst (λ (n : ℕ). HaveRested q.rests.items n q.watched.pairs.items u.propagated u.literals) (sym st)
-          (rested_more q.rests.items p.settled q.watched.pairs.items u.propagated u.literals
-          (rested_front q.rests.items p.rests.items p.settled q.watched.pairs.items u.propagated u.literals front rested_now) one);
+          (rested_more q.rests.items p.attached q.watched.pairs.items u.propagated u.literals
+          (rested_front q.rests.items p.rests.items p.attached q.watched.pairs.items u.propagated u.literals front rested_now) one);
       known = known_now;
       seen = seen_now;
     }
       where
-        one : (r : ℕ) → Contains q.rests.items r → Rests (take r u.literals) (take r u.literals) (get_or q.watched.pairs.items p.settled no_pair)
+        one : (r : ℕ) → Contains q.rests.items r → Rests (take r u.literals) (take r u.literals) (get_or q.watched.pairs.items p.attached no_pair)
         one r c = fr.prefixes r (omega (arith, rested_now.within r (front_had q.rests.items p.rests.items front r c), g.advances.1, le, ap length g.advances.0.literals, length-append t.literals g.advances.0.more)) (safe r c)
 
     pub works_one : WorksOn p q t u
@@ -129,22 +129,22 @@ module _ (p q : StoreParts) (t u : TrailView) (le : t.propagated ≤ length t.li
       entries = es;
       seen = se;
       prefixes = λ F w x. subst (λ (n : ℕ). AreResting n q.watched.pairs.items F u.literals) (sym st)
-          (resting_more p.settled q.watched.pairs.items F u.literals (resting_goes p.watched.entries.items p.settled p.watched q.watched t u g F w x)
+          (resting_more p.attached q.watched.pairs.items F u.literals (resting_goes p.watched.entries.items p.attached p.watched q.watched t u g F w x)
           (fr.now F (λ l i. holds_on (bare p.watched.entries.items) t u g.advances.0 l (w l i))));
     }
 
 -- ---- where all were looked at
 
-module _ (p : StoreParts) (ok : IsWatched p.watched) (all : p.settled ≡ length p.watched.entries.items) where
-  pub count_settled : length p.watched.pairs.items ≡ p.settled
-  count_settled = omega (arith, all, ok.pairs_by.paired, clause_count p.watched.entries.items)
+module _ (p : StoreParts) (ok : IsWatched p.watched) (all : p.attached ≡ length p.watched.entries.items) where
+  pub count_attached : length p.watched.pairs.items ≡ p.attached
+  count_attached = omega (arith, all, ok.pairs_by.paired, clause_count p.watched.entries.items)
 
-  pub goes_settled : (new : List Pair) (t u : TrailView) → PropagatesPart (bare p.watched.entries.items) (length p.watched.pairs.items) p.watched.pairs.items new t u → PropagatesPart (bare p.watched.entries.items) p.settled p.watched.pairs.items new t u
-  goes_settled new t u g = subst (λ (n : ℕ). PropagatesPart (bare p.watched.entries.items) n p.watched.pairs.items new t u) count_settled g
+  pub goes_attached : (new : List Pair) (t u : TrailView) → PropagatesPart (bare p.watched.entries.items) (length p.watched.pairs.items) p.watched.pairs.items new t u → PropagatesPart (bare p.watched.entries.items) p.attached p.watched.pairs.items new t u
+  goes_attached new t u g = subst (λ (n : ℕ). PropagatesPart (bare p.watched.entries.items) n p.watched.pairs.items new t u) count_attached g
 
 -- the parts with another count of those that were looked at
 abbrev pub looked : StoreParts → ℕ → StoreParts
-looked p n = record { watched = p.watched; settled = n; short = p.short; seen = p.seen; rests = p.rests }
+looked p n = record { watched = p.watched; attached = n; short = p.short; seen = p.seen; rests = p.rests }
 
 -- ---- the whole of propagation
 
@@ -167,10 +167,10 @@ adds_marked s t u v g e = record {
 }
 
 -- a prefix that was there is left, and the pairs rest by it
-pub rested_still : (p q : StoreParts) (t u : TrailView) (n : ℕ) → n ≤ length t.literals → WorksOn p q t u → AreResting p.settled p.watched.pairs.items (take n t.literals) t.literals → AreResting q.settled q.watched.pairs.items (take n u.literals) u.literals
-rested_still p q t u n le g h = subst (λ (F : List Lit). AreResting q.settled q.watched.pairs.items F u.literals) (sym (same_front (bare p.watched.entries.items) t u n g.advances.0 le))
+pub rested_still : (p q : StoreParts) (t u : TrailView) (n : ℕ) → n ≤ length t.literals → WorksOn p q t u → AreResting p.attached p.watched.pairs.items (take n t.literals) t.literals → AreResting q.attached q.watched.pairs.items (take n u.literals) u.literals
+rested_still p q t u n le g h = subst (λ (F : List Lit). AreResting q.attached q.watched.pairs.items F u.literals) (sym (same_front (bare p.watched.entries.items) t u n g.advances.0 le))
     (g.prefixes (take n t.literals) (front_within n t.literals le) h)
 
 -- where all rest, nothing follows
-pub quiet_by : (p : StoreParts) (t : TrailView) → IsAtWork p t → p.settled ≡ length p.watched.entries.items → AreResting p.settled p.watched.pairs.items t.literals t.literals → IsPropagated (clauses_of p.watched.entries.items) t.literals
-quiet_by p t w all h = quiet (clauses_of p.watched.entries.items) p.watched.pairs.items t.literals w.watched.pairs_by (λ n lt. w.settled.there n (omega (arith, lt, all, clause_count p.watched.entries.items))) (λ n lt. h n (omega (arith, lt, all, clause_count p.watched.entries.items)))
+pub quiet_by : (p : StoreParts) (t : TrailView) → IsAtWork p t → p.attached ≡ length p.watched.entries.items → AreResting p.attached p.watched.pairs.items t.literals t.literals → IsPropagated (clauses_of p.watched.entries.items) t.literals
+quiet_by p t w all h = quiet (clauses_of p.watched.entries.items) p.watched.pairs.items t.literals w.watched.pairs_by (λ n lt. w.attached.there n (omega (arith, lt, all, clause_count p.watched.entries.items))) (λ n lt. h n (omega (arith, lt, all, clause_count p.watched.entries.items)))

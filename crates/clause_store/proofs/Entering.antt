@@ -9,7 +9,7 @@ use Rattle.clause_store.specs.declared.watched.Watched.{Watched}
 use Rattle.clause_store.specs.Stores.{no_pair}
 use Rattle.clause_store.specs.Entries.{clauses_of}
 use Rattle.clause_store.specs.Watching.{IsPairOf, ArePairs, IsEnteredIfTwo, IsWatched, IsOneMore, IsAsBefore, Rests}
-use Rattle.clause_store.specs.Resting.{HaveRested, AreSettled}
+use Rattle.clause_store.specs.Resting.{HaveRested, AreAttached}
 use Rattle.clause_store.proofs.Stored.{clause_count}
 use Rattle.clause_store.proofs.Indexing.{indexed_more}
 
@@ -40,8 +40,8 @@ watched_more old new e p w ee pe h m =
     }
 
 -- what was looked at is as it was
-pub settled_more : (clauses : List (List Lit)) (pairs : List Pair) (count : ℕ) (short : List ℕ) (clause : List Lit) (p : Pair) → ArePairs clauses pairs → AreSettled clauses pairs count short → AreSettled (clauses ++ clause ∷ []) (pairs ++ p ∷ []) count short
-settled_more clauses pairs count short clause p ps h = record {
+pub attached_more : (clauses : List (List Lit)) (pairs : List Pair) (count : ℕ) (short : List ℕ) (clause : List Lit) (p : Pair) → ArePairs clauses pairs → AreAttached clauses pairs count short → AreAttached (clauses ++ clause ∷ []) (pairs ++ p ∷ []) count short
+attached_more clauses pairs count short clause p ps h = record {
   within = omega (arith, h.within, length_push clauses clause);
   there = λ n lt. rw (get_or_append_left clauses (clause ∷ []) [] n (omega (arith, lt, h.within)), same n lt) (h.there n lt);
   listed = λ n lt e. h.listed n lt (rw (same n lt) at e);
@@ -58,19 +58,19 @@ rested_more rests count pairs most held p le h = record {
   rested = λ r c n lt. subst (Rests (take r held) (take r held)) (sym (get_or_append_left pairs (p ∷ []) no_pair n (omega (arith, lt, le)))) (h.rested r c n lt);
 }
 
-module _ (old new : Watched) (e : StoredClause) (w : IsWatched old) (m : IsOneMore old e new) (count : ℕ) (short : List ℕ) (h : AreSettled (clauses_of old.entries.items) old.pairs.items count short) where
-  pub settled_with : AreSettled (clauses_of new.entries.items) new.pairs.items count short
-  settled_with = subst (λ (qs : List Pair). AreSettled (clauses_of new.entries.items) qs count short) (sym m.pairs)
-      (subst (λ (cs : List (List Lit)). AreSettled cs (old.pairs.items ++ m.pair ∷ []) count short) (sym (ap clauses_of m.entries ∙ clauses_more old.entries.items e))
-      (settled_more (clauses_of old.entries.items) old.pairs.items count short e.literals.items m.pair w.pairs_by h))
+module _ (old new : Watched) (e : StoredClause) (w : IsWatched old) (m : IsOneMore old e new) (count : ℕ) (short : List ℕ) (h : AreAttached (clauses_of old.entries.items) old.pairs.items count short) where
+  pub attached_with : AreAttached (clauses_of new.entries.items) new.pairs.items count short
+  attached_with = subst (λ (qs : List Pair). AreAttached (clauses_of new.entries.items) qs count short) (sym m.pairs)
+      (subst (λ (cs : List (List Lit)). AreAttached cs (old.pairs.items ++ m.pair ∷ []) count short) (sym (ap clauses_of m.entries ∙ clauses_more old.entries.items e))
+      (attached_more (clauses_of old.entries.items) old.pairs.items count short e.literals.items m.pair w.pairs_by h))
 
   pub rested_with : (rests : List ℕ) (most : ℕ) (held : List Lit) → HaveRested rests count old.pairs.items most held → HaveRested rests count new.pairs.items most held
   rested_with rests most held r = subst (λ (qs : List Pair). HaveRested rests count qs most held) (sym m.pairs)
       (rested_more rests count old.pairs.items most held m.pair (omega (arith, h.within, w.pairs_by.paired)) r)
 
 -- where nothing came they are as they were
-pub settled_before : (old new : Watched) (count : ℕ) (short : List ℕ) → IsAsBefore old new → AreSettled (clauses_of old.entries.items) old.pairs.items count short → AreSettled (clauses_of new.entries.items) new.pairs.items count short
-settled_before old new count short m h = rw (m.entries, m.pairs) h
+pub attached_before : (old new : Watched) (count : ℕ) (short : List ℕ) → IsAsBefore old new → AreAttached (clauses_of old.entries.items) old.pairs.items count short → AreAttached (clauses_of new.entries.items) new.pairs.items count short
+attached_before old new count short m h = rw (m.entries, m.pairs) h
 
 pub rested_before : (old new : Watched) (rests : List ℕ) (count most : ℕ) (held : List Lit) → IsAsBefore old new → HaveRested rests count old.pairs.items most held → HaveRested rests count new.pairs.items most held
 rested_before old new rests count most held m h = rw m.pairs h

@@ -10,6 +10,6 @@ pub mod Walking
 pub mod Working
 pub mod Watches
 pub mod Atwork
-pub mod Settling
+pub mod Attaching
 pub mod Entering
 pub mod Again

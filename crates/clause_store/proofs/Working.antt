@@ -8,7 +8,7 @@ use Rattle.sat_trail.specs.Trails.{TrailView}
 use Rattle.clause_store.specs.declared.pair.Pair.{Pair}
 use Rattle.clause_store.specs.Stores.{StoreView, no_pair}
 use Rattle.clause_store.specs.Watching.{ArePairs, Rests, AreResting, HaveSameShapes, PropagatesPart, Below}
-use Rattle.clause_store.specs.Resting.{LengthsRise, IsPrefixOf, HaveRested, AreSettled, last_of}
+use Rattle.clause_store.specs.Resting.{LengthsRise, IsPrefixOf, HaveRested, AreAttached, last_of}
 use Rattle.clause_store.proofs.Adding.{same_front}
 use Rattle.clause_store.proofs.Indexing.{one_or_two}
 use Rattle.clause_store.proofs.Resting.{front_within}
@@ -161,8 +161,8 @@ front_all rests = (omega arith, sym (take_all (length rests) rests (omega arith)
 -- ---- what was looked at
 
 module _ (clauses : List (List Lit)) (count : ℕ) (short : List ℕ) where
-  pub settled_on : (old new : List Pair) → HaveSameShapes old new → ArePairs clauses new → AreSettled clauses old count short → AreSettled clauses new count short
-  settled_on old new g ps h = record {
+  pub attached_on : (old new : List Pair) → HaveSameShapes old new → ArePairs clauses new → AreAttached clauses old count short → AreAttached clauses new count short
+  attached_on old new g ps h = record {
     within = h.within;
     there = λ n lt. elim (one_or_two (get_or old n no_pair)) [
       | inl e ↦ subst (λ (p : Pair). Contains (get_or clauses n []) p.first) (sym (g.one n e)) (h.there n lt)
@@ -175,7 +175,7 @@ module _ (clauses : List (List Lit)) (count : ℕ) (short : List ℕ) where
     only = λ n c. ((h.only n c).0, subst (λ (p : Pair). p.first ≡ p.second) (sym (g.one n (h.only n c).1)) (h.only n c).1);
   }
 
-  module _ (pairs : List Pair) (lt : count < length clauses) (there : Contains (get_or clauses count []) (get_or pairs count no_pair).first) (h : AreSettled clauses pairs count short) where
+  module _ (pairs : List Pair) (lt : count < length clauses) (there : Contains (get_or clauses count []) (get_or pairs count no_pair).first) (h : AreAttached clauses pairs count short) where
     more_there : (n : ℕ) → n < count + 1 → Contains (get_or clauses n []) (get_or pairs n no_pair).first
     more_there n nlt = elim (cases_lt n count) [
       | inl before ↦ h.there n before
@@ -183,8 +183,8 @@ module _ (clauses : List (List Lit)) (count : ℕ) (short : List ℕ) where
     ]
 
     -- a clause of two literals more
-    pub settled_two : (get_or pairs count no_pair).first ≢ (get_or pairs count no_pair).second → AreSettled clauses pairs (count + 1) short
-    settled_two d = record {
+    pub attached_two : (get_or pairs count no_pair).first ≢ (get_or pairs count no_pair).second → AreAttached clauses pairs (count + 1) short
+    attached_two d = record {
       within = omega (arith, lt);
       there = more_there;
       listed = λ n nlt e. elim (cases_lt n count) [
@@ -195,8 +195,8 @@ module _ (clauses : List (List Lit)) (count : ℕ) (short : List ℕ) where
     }
 
     -- a clause of one literal more
-    pub settled_one : (get_or pairs count no_pair).first ≡ (get_or pairs count no_pair).second → AreSettled clauses pairs (count + 1) (short ++ count ∷ [])
-    settled_one e = record {
+    pub attached_one : (get_or pairs count no_pair).first ≡ (get_or pairs count no_pair).second → AreAttached clauses pairs (count + 1) (short ++ count ∷ [])
+    attached_one e = record {
       within = omega (arith, lt);
       there = more_there;
       listed = λ n nlt f. elim (cases_lt n count) [

@@ -31,8 +31,8 @@ pub record HaveRested (rests : List ℕ) (count : ℕ) (pairs : List Pair) (most
   -- by each the pairs rest
   pub rested : (r : ℕ) → Contains rests r → AreResting count pairs (take r held) (take r held)
 
--- The first clauses were looked at: each has a literal, and those of one literal stand in a list.
-pub record AreSettled (clauses : List (List Lit)) (pairs : List Pair) (count : ℕ) (short : List ℕ) : Type 0 where
+-- The first clauses were looked at: each has a literal, and those of one literal are in a list.
+pub record AreAttached (clauses : List (List Lit)) (pairs : List Pair) (count : ℕ) (short : List ℕ) : Type 0 where
   -- there are as many clauses
   pub within : count ≤ length clauses
   -- each has a literal
@@ -55,18 +55,18 @@ pub record StoreFits (p : StoreParts) : Type 0 where
   -- clauses, pairs and lists
   pub watched : IsWatched p.watched
   -- what was looked at
-  pub settled : AreSettled (clauses_of p.watched.entries.items) p.watched.pairs.items p.settled p.short.items
+  pub attached : AreAttached (clauses_of p.watched.entries.items) p.watched.pairs.items p.attached p.short.items
   -- the prefixes
-  pub rests : HaveRested p.rests.items p.settled p.watched.pairs.items (length p.seen.items) p.seen.items
+  pub rests : HaveRested p.rests.items p.attached p.watched.pairs.items (length p.seen.items) p.seen.items
 
 -- The parts fit together in the midst of propagation, where the prefixes are those of the trail.
 pub record IsAtWork (p : StoreParts) (t : TrailView) : Type 0 where
   -- clauses, pairs and lists
   pub watched : IsWatched p.watched
   -- what was looked at
-  pub settled : AreSettled (clauses_of p.watched.entries.items) p.watched.pairs.items p.settled p.short.items
+  pub attached : AreAttached (clauses_of p.watched.entries.items) p.watched.pairs.items p.attached p.short.items
   -- the prefixes
-  pub rests : HaveRested p.rests.items p.settled p.watched.pairs.items t.propagated t.literals
+  pub rests : HaveRested p.rests.items p.attached p.watched.pairs.items t.propagated t.literals
   -- the terms are variables
   pub known : AreKnownIn p.watched t.vars
   -- what is marked was seen
@@ -81,13 +81,13 @@ pub record WorksOn (old new : StoreParts) (before after : TrailView) : Type 0 wh
   -- so is what was seen
   pub seen : new.seen.items ≡ old.seen.items
   -- where the clauses that were looked at rested by what holds, they rest
-  pub prefixes : (F : List Lit) → AreLiteralsAmong F before.literals → AreResting old.settled old.watched.pairs.items F before.literals
-      → AreResting new.settled new.watched.pairs.items F after.literals
+  pub prefixes : (F : List Lit) → AreLiteralsAmong F before.literals → AreResting old.attached old.watched.pairs.items F before.literals
+      → AreResting new.attached new.watched.pairs.items F after.literals
 
 -- what a look at the next clause comes to: it is false, or it was looked at
-abbrev pub SettlesOne : StoreParts → StoreParts → List Lit → Bool → Type 0
-SettlesOne old new held true = (new.settled ≡ old.settled) × IsFalseOf (clauses_of new.watched.entries.items) held new.settled
-SettlesOne old new held false = new.settled ≡ old.settled + 1
+abbrev pub AttachesOne : StoreParts → StoreParts → List Lit → Bool → Type 0
+AttachesOne old new held true = (new.attached ≡ old.attached) × IsFalseOf (clauses_of new.watched.entries.items) held new.attached
+AttachesOne old new held false = new.attached ≡ old.attached + 1
 
 -- The trail is as it was, but for what is marked.
 pub record IsSameBut (before after : TrailView) : Type 0 where

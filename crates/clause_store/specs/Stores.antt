@@ -37,11 +37,11 @@ no_pair = record { first = no_lit; second = no_lit }
 abbrev pub hits : Pair → ℕ → ℕ
 hits p k = if code p.first == code p.second then 0 else one_if (code p.first == k) + one_if (code p.second == k)
 
--- how often the number of a clause stands in the list of a code
+-- how often the number of a clause is in the list of a code
 abbrev pub hits_at : List Pair → ℕ → ℕ → ℕ
 hits_at pairs n k = get_or (map (λ p. hits p k) pairs) n 0
 
--- how often a number stands in a list
+-- how often a number is in a list
 abbrev pub tally : ℕ → List ℕ → ℕ
 tally n ks = sum_by (λ m. one_if (m == n)) ks
 
@@ -81,7 +81,7 @@ pub record HasSameClauses (old new : StoreView) : Type 0 where
   -- their steps
   pub steps : new.steps ≡ old.steps
 
--- The clause of a step stands last.
+-- The clause of a step is last.
 pub record IsAdded (t : TableView) (log : List Logged) (step : StepId) (old new : StoreView) : Type 0 where
   -- its literals
   pub clause : List Lit

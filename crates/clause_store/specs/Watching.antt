@@ -17,9 +17,9 @@ use Rattle.clause_store.specs.declared.watched.WatchOutcome.TheVariants as steps
 use Rattle.clause_store.specs.declared.fresh.Fresh.{Fresh}
 use Rattle.clause_store.specs.declared.fresh.Fresh.TheVariants as fresh
 
--- Each clause stands in the lists of its two literals, once in each, and in no others; so lists have no other numbers.
+-- Each clause is in the lists of its two literals, once in each, and in no others; so lists have no other numbers.
 pub record IsIndexed (pairs : List Pair) (index : List (List ℕ)) : Type 0 where
-  -- how often a number stands in a list
+  -- how often a number is in a list
   pub counted : (k n : ℕ) → tally n (get_or index k []) ≡ hits_at pairs n k
 
 -- A pair is of two different literals of the clause, or twice the only one that it has.
@@ -58,7 +58,7 @@ pub record IsEnteredIfTwo (old : List (List ℕ)) (p : Pair) (n : ℕ) (new : Li
   -- where they are one
   pub one : p.first ≡ p.second → HaveSameLists old new
 
--- A clause more stands last, with its pair.
+-- A clause more is last, with its pair.
 pub record IsOneMore (old : Watched) (entry : StoredClause) (new : Watched) : Type 0 where
   -- the pair
   pub pair : Pair
@@ -182,7 +182,7 @@ pub record PropagatesPart (s : StoreView) (count : ℕ) (old new : List Pair) (b
   -- where the pairs rested, at whatever prefix of the literals, they rest
   pub prefixes : (F G : List Lit) → AreLiteralsAmong F before.literals → AreLiteralsAmong G before.literals → AreResting count old F G → AreResting count new F G
 
--- A clause by its number, and the place at which it stands in the list of a literal that came to be false.
+-- A clause by its number, and the place at which it is in the list of a literal that came to be false.
 pub record Visit : Type 0 where
   -- its number
   pub number : ℕ

@@ -60,7 +60,7 @@ impl Watched {
     }
 
     /// Looks at a clause for the first time, lets the literals watch it that are false last if at all, and implies what it forces.
-    pub(crate) fn settle(&mut self, n: usize, trail: &mut SatTrail) -> Result<Fresh, NoMemory>
+    pub(crate) fn attach(&mut self, n: usize, trail: &mut SatTrail) -> Result<Fresh, NoMemory>
         requires watched { IsWatched self.old }
         requires known { AreKnownIn self.old trail.old.vars }
         requires there { n < length self.old.pairs.items }

@@ -1,6 +1,6 @@
 //! The clauses of a search, each with the step that derives it, and unit propagation over them.
 //!
-//! Two different literals of each clause watch it: its number stands in their lists. Propagation goes through the list of each
+//! Two different literals of each clause watch it: its number is in their lists. Propagation goes through the list of each
 //! literal that came to be false, and through no other clauses but those that were added since.
 #![tactic(auto)]
 

@@ -5,7 +5,7 @@ ghost use Rattle.clause_store.specs.Entries.{clauses_of, bare};
 ghost use Rattle.clause_store.specs.Stores.{HasSeen};
 ghost use Rattle.clause_store.specs.Watching.{AreKnownIn, AreResting, IsFalseOf, Below};
 ghost use Rattle.clause_store.specs.Propagating.{AddsImplied, Advances, IsPropagated};
-ghost use Rattle.clause_store.specs.Resting.{LengthsRise, IsPrefixOf, last_of, StoreFits, IsAtWork, WorksOn, SettlesOne, IsSameBut, store_of};
+ghost use Rattle.clause_store.specs.Resting.{LengthsRise, IsPrefixOf, last_of, StoreFits, IsAtWork, WorksOn, AttachesOne, IsSameBut, store_of};
 
 use crate::fresh::Fresh;
 use crate::watched::Watched;
@@ -20,7 +20,7 @@ pub(crate) struct StoreParts {
     /// The clauses.
     pub(crate) watched: Watched,
     /// How many of them were looked at.
-    pub(crate) settled: usize,
+    pub(crate) attached: usize,
     /// The numbers of those that have no second literal.
     pub(crate) short: Vec<usize>,
     /// What held when propagation was quiet last.
@@ -99,7 +99,7 @@ impl StoreParts {
         requires { IsAtWork self.now trail.old }
         ensures goes { Advances (bare self.now.watched.entries.items) trail.old trail.new }
         ensures ends { MatchOption result
-            (AreResting self.now.settled self.now.watched.pairs.items [] trail.new.literals)
+            (AreResting self.now.attached self.now.watched.pairs.items [] trail.new.literals)
             (IsFalseOf (clauses_of self.now.watched.entries.items) trail.new.literals) }
     {
         for n in &self.short {
@@ -115,16 +115,16 @@ impl StoreParts {
     }
 
     /// Looks at a clause for the first time, and tells whether it is false.
-    fn settle_next(&mut self, trail: &mut SatTrail) -> Result<bool, NoMemory>
+    fn attach_next(&mut self, trail: &mut SatTrail) -> Result<bool, NoMemory>
         requires work { IsAtWork self.old trail.old }
-        requires there { self.old.settled < length self.old.watched.entries.items }
+        requires there { self.old.attached < length self.old.watched.entries.items }
         ensures work { IsAtWork self.new trail.new }
         ensures goes { WorksOn self.old self.new trail.old trail.new }
-        ensures ends { IfOk result (SettlesOne self.old self.new trail.new.literals) }
+        ensures ends { IfOk result (AttachesOne self.old self.new trail.new.literals) }
     {
         trail.is_sound();
-        let n = self.settled;
-        match self.watched.settle(n, trail)? {
+        let n = self.attached;
+        match self.watched.attach(n, trail)? {
             Fresh::Clash => return Ok(true),
             Fresh::Open => {}
             Fresh::Forced(level) => drop_levels(&mut self.rests, level, trail),
@@ -133,21 +133,21 @@ impl StoreParts {
                 self.rests.clear();
             }
         }
-        self.settled = n + 1;
+        self.attached = n + 1;
         Ok(false)
     }
 
     /// Looks at the clauses that were not looked at yet, and gives the number of one that is false.
-    fn settle_all(&mut self, trail: &mut SatTrail) -> Result<Option<usize>, NoMemory>
+    fn attach_all(&mut self, trail: &mut SatTrail) -> Result<Option<usize>, NoMemory>
         requires { IsAtWork self.old trail.old }
         ensures work { IsAtWork self.new trail.new }
         ensures goes { WorksOn self.old self.new trail.old trail.new }
-        ensures ends { IfOk result (λ o. MatchOption o (self.new.settled ≡ length self.new.watched.entries.items)
+        ensures ends { IfOk result (λ o. MatchOption o (self.new.attached ≡ length self.new.watched.entries.items)
             (IsFalseOf (clauses_of self.new.watched.entries.items) trail.new.literals)) }
     {
-        'clauses: while self.settled < self.watched.entries.len() {
-            if self.settle_next(trail)? {
-                return Ok(Some(self.settled));
+        'clauses: while self.attached < self.watched.entries.len() {
+            if self.attach_next(trail)? {
+                return Ok(Some(self.attached));
             }
         }
         Ok(None)
@@ -156,15 +156,15 @@ impl StoreParts {
     /// Goes through the lists of the literals from a place on, and gives the number of a clause that is false.
     fn walk_from(&mut self, from: usize, trail: &mut SatTrail) -> Result<Option<usize>, NoMemory>
         requires work { IsAtWork self.old trail.old }
-        requires all { self.old.settled ≡ length self.old.watched.entries.items }
+        requires all { self.old.attached ≡ length self.old.watched.entries.items }
         requires from { from ≤ length trail.old.literals }
-        requires rested { AreResting self.old.settled self.old.watched.pairs.items
+        requires rested { AreResting self.old.attached self.old.watched.pairs.items
             (take from trail.old.literals) trail.old.literals }
         ensures work { IsAtWork self.new trail.new }
-        ensures all { self.new.settled ≡ length self.new.watched.entries.items }
+        ensures all { self.new.attached ≡ length self.new.watched.entries.items }
         ensures goes { WorksOn self.old self.new trail.old trail.new }
         ensures ends { IfOk result (λ o. MatchOption o
-            (AreResting self.new.settled self.new.watched.pairs.items trail.new.literals trail.new.literals)
+            (AreResting self.new.attached self.new.watched.pairs.items trail.new.literals trail.new.literals)
             (IsFalseOf (clauses_of self.new.watched.entries.items) trail.new.literals)) }
     {
         let mut done = from;
@@ -189,7 +189,7 @@ impl StoreParts {
         ensures watched { self.new.watched ≡ self.old.watched }
         ensures seen { self.new.seen.items ≡ self.old.seen.items }
         ensures advances { Advances (bare self.old.watched.entries.items) trail.old trail.new }
-        ensures ends { MatchOption result (AreResting self.new.settled self.new.watched.pairs.items
+        ensures ends { MatchOption result (AreResting self.new.attached self.new.watched.pairs.items
             (take (last_of self.new.rests.items) trail.new.literals) trail.new.literals)
             (IsFalseOf (clauses_of self.new.watched.entries.items) trail.new.literals) }
     {
@@ -204,7 +204,7 @@ impl StoreParts {
     /// Keeps what holds as what was seen, with a prefix of its length, and marks the trail.
     fn finish(&mut self, trail: &mut SatTrail) -> Result<(), NoMemory>
         requires work { IsAtWork self.old trail.old }
-        requires rested { AreResting self.old.settled self.old.watched.pairs.items
+        requires rested { AreResting self.old.attached self.old.watched.pairs.items
             trail.old.literals trail.old.literals }
         ensures kept { StoreFits self.new }
         ensures watched { self.new.watched ≡ self.old.watched }
@@ -240,7 +240,7 @@ impl StoreParts {
         } else {
             self.rests[self.rests.len() - 1]
         };
-        if let Some(n) = self.settle_all(trail)? {
+        if let Some(n) = self.attach_all(trail)? {
             return Ok(Some(n));
         }
         if let Some(n) = self.walk_from(from, trail)? {

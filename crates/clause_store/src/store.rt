@@ -52,7 +52,7 @@ impl ClauseStore {
                     index: WatchIndex::new(alloc),
                     starts: Vec::new(alloc),
                 },
-                settled: 0,
+                attached: 0,
                 short: Vec::new(alloc),
                 seen: Vec::new(alloc),
                 rests: Vec::new(alloc),

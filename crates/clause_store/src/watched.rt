@@ -24,7 +24,7 @@ pub(crate) struct Watched {
     pub(crate) pairs: Vec<Pair>,
     /// For each literal the clauses that watch it.
     pub(crate) index: WatchIndex,
-    /// For each clause the place at which its last watched literal was found. What else stands here costs time alone.
+    /// For each clause the place at which its last watched literal was found. What else is here costs time alone.
     pub(crate) starts: Vec<usize>,
 }
 

@@ -19,21 +19,21 @@ use term_clauses::spoken::spoken_of;
 use term_core::{TermId, TermTable};
 use world_io::NoMemory;
 
-/// Lists formulas, those beside them first, after them the equalities that a search needs, and last the order fact of
+/// Lists formulas, the interface equalities first, after them the equalities that a search needs, and last the order fact of
 /// each equality of numbers among the subterms of all these. They come into the table.
 pub(crate) fn ordered_of(
     alloc: Global,
     table: &mut TermTable,
     roots: &[TermId],
-    beside: &[TermId],
+    interface: &[TermId],
 ) -> Result<Vec<TermId>, NoMemory>
     requires roots { AreFormulasIn table.old roots.now }
-    requires beside { AreFormulasIn table.old beside.now }
+    requires interface { AreFormulasIn table.old interface.now }
     ensures wider { Widens table.old table.new }
     ensures ordered { IfOk result
-        (λ ids. AreOrdered table.new (problem_in table.old roots.now beside.now) ids.items) }
+        (λ ids. AreOrdered table.new (problem_in table.old roots.now interface.now) ids.items) }
 {
-    let mut ids = spoken_of(alloc, table, roots, beside)?;
+    let mut ids = spoken_of(alloc, table, roots, interface)?;
     let marks = marks_of(alloc, table, &ids)?;
     add_facts(alloc, table, &marks, &mut ids)?;
     Ok(ids)

@@ -85,7 +85,7 @@ fn state_fact(
         (listed_steps table.new log.new steps.new.items)
         ((order_fact (term_at table.old sides.left) (term_at table.old sides.right) ∷ []) ∷ [])) }
 {
-    proof_log::laws::logs_stand_in_grown_tables();
+    proof_log::laws::logs_hold_in_grown_tables();
     let fact = order_fact(alloc, table, id, sides)?;
     let clause = vec![in alloc; fact]?;
     state(alloc, table, log, steps, Rule::LaDisequality, clause)
@@ -114,7 +114,7 @@ fn state_order(
     ensures wide { IfErr result (OnClauseOverflow
         (λ o. la_generic (order_clause table.old id a b) (arguments_by weight) ≡ Err (wide o))) }
 {
-    proof_log::laws::logs_stand_in_grown_tables();
+    proof_log::laws::logs_hold_in_grown_tables();
     let denied = signed(alloc, table, id, false)?;
     let order = at_most(alloc, table, a, b)?;
     let clause = vec![in alloc; denied, order]?;

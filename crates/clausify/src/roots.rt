@@ -65,7 +65,7 @@ pub fn clauses_of(
 /// Makes the clauses that a search for terms begins with, which say together that each of these is true, and lists the
 /// terms that they speak of.
 ///
-/// Each of the terms is assumed. The search speaks of them, and of the terms beside them, which need not be true. It
+/// Each of the terms is assumed. The search speaks of them, and of the interface equalities, which need not be true. It
 /// speaks of `(= (not true) false)` and `(= (not false) true)`, and of `(= (ite c s t) s)` and `(= (ite c s t) t)` for
 /// each choice `(ite c s t)` between terms of another sort than Bool among the subterms of both. For each equality
 /// `(= s t)` of numbers among the subterms of all these, it speaks of `(or (= s t) (not (<= s t)) (not (<= t s)))`. It
@@ -79,7 +79,7 @@ pub fn clauses_of(
 ///
 /// It gives the numbers of the clauses, and so of all that came into the log, in order, and the numbers of the terms.
 ///
-/// The terms and those beside them must be formulas, and the log one over the table. The equalities, the orders, and
+/// The terms and the interface equalities must be formulas, and the log one over the table. The equalities, the orders, and
 /// negations that clauses need, come into the table.
 ///
 /// Time and memory go in proportion to the number of the table's terms, to the lengths of the clauses, and to the forms
@@ -95,23 +95,23 @@ pub fn clauses_of_all(
     table: &mut TermTable,
     log: &mut ProofLog,
     roots: &[TermId],
-    beside: &[TermId],
+    interface: &[TermId],
 ) -> Result<Stated, ClauseStop>
     requires roots { AreFormulasIn table.old roots.now }
-    requires beside { AreFormulasIn table.old beside.now }
+    requires interface { AreFormulasIn table.old interface.now }
     requires log { IsLogOf table.old log.old }
     ensures clauses { IfOk result
-        (λ x. HasClauses table.new log.new (problem_in table.old roots.now beside.now) x.steps) }
+        (λ x. HasClauses table.new log.new (problem_in table.old roots.now interface.now) x.steps) }
     ensures terms { IfOk result
-        (λ x. AreSearchTerms table.new (problem_in table.old roots.now beside.now) x.terms.items) }
+        (λ x. AreSearchTerms table.new (problem_in table.old roots.now interface.now) x.terms.items) }
     ensures made { IfOk result (λ x. AreAllMade log.old log.new x.steps) }
     ensures grown { OnOk result (Grows roots.now table.old table.new log.old log.new) }
     ensures same { OnErr result ((table.new ≡ table.old) × (log.new ≡ log.old)) }
-    ensures wide { IfErr result (OnClauseOverflow (IsOrderOverflow (problem_in table.old roots.now beside.now))) }
+    ensures wide { IfErr result (OnClauseOverflow (IsOrderOverflow (problem_in table.old roots.now interface.now))) }
 {
     let terms = table.len();
     let clauses = log.len();
-    match stated_of(alloc, table, log, roots, beside) {
+    match stated_of(alloc, table, log, roots, interface) {
         Ok(stated) => Ok(stated),
         Err(stop) => {
             log.cut(clauses);
@@ -127,22 +127,22 @@ fn stated_of(
     table: &mut TermTable,
     log: &mut ProofLog,
     roots: &[TermId],
-    beside: &[TermId],
+    interface: &[TermId],
 ) -> Result<Stated, ClauseStop>
     requires roots { AreFormulasIn table.old roots.now }
-    requires beside { AreFormulasIn table.old beside.now }
+    requires interface { AreFormulasIn table.old interface.now }
     requires log { IsLogOf table.old log.old }
     ensures clauses { IfOk result
-        (λ x. HasClauses table.new log.new (problem_in table.old roots.now beside.now) x.steps) }
+        (λ x. HasClauses table.new log.new (problem_in table.old roots.now interface.now) x.steps) }
     ensures terms { IfOk result
-        (λ x. AreSearchTerms table.new (problem_in table.old roots.now beside.now) x.terms.items) }
+        (λ x. AreSearchTerms table.new (problem_in table.old roots.now interface.now) x.terms.items) }
     ensures made { IfOk result (λ x. AreAllMade log.old log.new x.steps) }
     ensures grows { Grows roots.now table.old table.new log.old log.new }
-    ensures wide { IfErr result (OnClauseOverflow (IsOrderOverflow (problem_in table.old roots.now beside.now))) }
+    ensures wide { IfErr result (OnClauseOverflow (IsOrderOverflow (problem_in table.old roots.now interface.now))) }
 {
     subterms_are_least();
-    proof_log::laws::logs_stand_in_grown_tables();
-    let ordered = ordered_of(alloc, table, roots, beside)?;
+    proof_log::laws::logs_hold_in_grown_tables();
+    let ordered = ordered_of(alloc, table, roots, interface)?;
     let marks = marks_of(alloc, table, &ordered)?;
     let mut steps = Vec::new(alloc);
     assume_each(table, log, roots, &mut steps)?;

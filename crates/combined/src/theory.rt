@@ -30,7 +30,7 @@ impl Theory for Combined {
 
     ghost stopped_by = { λ c t ts n es. ⟦<Simplex as Theory>⟧.stopped_by c.simplex t ts n es };
 
-    ghost strains = { λ c t ts s. ⟦<Simplex as Theory>⟧.strains c.simplex t ts s };
+    ghost may_overflow = { λ c t ts s. ⟦<Simplex as Theory>⟧.may_overflow c.simplex t ts s };
 
     ghost needs_more = { λ c t ts. ⟦<Simplex as Theory>⟧.needs_more c.simplex t ts };
 

@@ -109,7 +109,7 @@ module _ (c : Conflict) (once : VariablesAreApart c.trail.literals) (differ : Ar
     pub none_fixed : (p : ℕ) → from ≤ p → p < length held → level_at c p ≡ 0 → ⊥
     none_fixed p le pl e = omega (arith, high p le pl, e, above)
 
-    -- a marked literal of the level stands before it
+    -- a marked literal of the level is before it
     pub has_one : (q : ℕ) × (q < from) × IsMarkedAt c.trail a.marks q × (level_at c q ≡ n)
     has_one = let o = one_left c once leveled clash reasons n top above from point in (o.0, o.1, r.reached.met o.0 o.2, o.3)
 

@@ -45,7 +45,7 @@ placed v marks at l b e lt is = ap (λ (x : Lit). get_or marks x.term.0 false) (
 pub marked_lit : (t : TableView) → AreDifferent t.terms → (marks : List Bool) (m : Lit) → IsIn t m.term → IsMarkedFor t marks (literal_at t m) → IsVariableMarked marks m.term.0
 marked_lit t differ marks m there (x, x_in, same, is) = subst (λ (l : Lit). IsVariableMarked marks l.term.0) (literals_apart t differ x m x_in there same) is
 
--- literals of the clash and of reasons are of variables
+-- literals of the conflict and of reasons are of variables
 module _ (c : Conflict) (vars : ℕ) (known : (p : ℕ) → p < length c.trail.literals → (get_or c.trail.literals p no_lit).term.0 < vars) where
   pub clash_known : IsClash c.table c.log c.trail.literals c.clash → (m : Lit) → HasLit c.table c.log c.clash m → m.term.0 < vars
   clash_known clash m has =
@@ -68,11 +68,11 @@ module _ (c : Conflict) (once : VariablesAreApart c.trail.literals) (differ : Ar
   pub falsifier_marked : (s : StepId) (old marks : List Bool) → MarksVariables c.table (literals_in c.table c.log s) old marks → (p : ℕ) → Falsifies c p s → IsMarkedAt c.trail marks p
   falsifier_marked s old marks h p f = marked_lit c.table differ marks (lit_complement (held_at c p)) f.1.in_table (h.added (literal_at c.table (lit_complement (held_at c p))) f.1.there)
 
-  -- the literals of the clash stand before the end
+  -- the literals of the conflict are before the end
   pub clash_before : IsClash c.table c.log held c.clash → (marks : List Bool) (m : Lit) → HasLit c.table c.log c.clash m → IsBefore c.trail (length held) marks m
   clash_before clash marks m has = let k = place_of held (lit_complement m) (clash.fails m has) in inr (k.0, k.1, k.2)
 
-  -- where nothing came up but the clash's literals
+  -- where nothing came up but the conflict's literals
   pub begins : IsClash c.table c.log held c.clash → (none marks : List Bool) → ((x : ℕ) → IsVariableMarked none x → ⊥) → MarksVariables c.table (literals_in c.table c.log c.clash) none marks → HasMet c (length held) marks (c.clash ∷ [])
   begins clash none marks empty h = record {
     marked = λ p lt m. elim (h.only (held_at c p).term.0 m) [
@@ -96,7 +96,7 @@ module _ (c : Conflict) (once : VariablesAreApart c.trail.literals) (differ : Ar
       met_marked _ (of_reason q r p le m e f) = absurd (omega (arith, le, met_within c (length held) q m))
 
   module _ (leveled : IsLeveled c.trail) (clash : IsClash c.table c.log held c.clash) (reasons : AreTrailReasons c.table c.log c.trail) (at : ℕ) (lt : at < length held) where
-    -- the literals of a reason stand before its place, or came up
+    -- the literals of a reason are before its place, or came up
     pub reason_lit : (n : ℕ) → get_or c.trail.reasons at None ≡ Some n → (marks : List Bool) → IsMarkedAt c.trail marks at → (m : Lit) → HasLit c.table c.log (step_of n) m → IsBefore c.trail at marks m
     reason_lit n e marks is_marked m has = elim (decide m (held_at c at)) [
       | inl same ↦ inl (subst (λ (l : Lit). IsVariableMarked marks l.term.0) (sym same) is_marked)

@@ -81,7 +81,7 @@ marks_again t ls old mid l there m h = record {
   ];
 }
 
--- of the literals of the clash the greatest level is the conflict's
+-- of the literals of the conflict the greatest level is the conflict's
 pub greatest_level : (c : Conflict) (n : ℕ) → IsGreatestOf c.table c.trail (literals_in c.table c.log c.clash) n → IsConflictLevel c n
 greatest_level c n g = record {
   greatest = λ m k has f. g.greatest m k has.in_table has.there f;

@@ -52,7 +52,7 @@ module _ (c : Conflict) (once : VariablesAreApart c.trail.literals) (leveled : I
       let same : p ≡ q = same_place c.trail once p q f.0 ql (ap (λ (l : Lit). l.term.0) is) in
       not_own_negation (held_at c q) (sym is ∙ ap (λ (k : ℕ). lit_complement (held_at c k)) same)
 
-  -- and stands before it
+  -- and is before it
   pub reason_before : (q r p : ℕ) → q < length held → get_or c.trail.reasons q None ≡ Some r → Falsifies c p (step_of r) → p < q
   reason_before q r p ql e f =
       let k = early_place held q (lit_complement (lit_complement (held_at c p))) (omega (arith, ql)) ((reasons q r ql e).others_false (lit_complement (held_at c p)) f.1 (other_of q r p ql e f)) in

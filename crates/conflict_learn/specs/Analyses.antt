@@ -49,7 +49,7 @@ pub record MarksVariables (t : TableView) (ls : List Literal) (old new : List Bo
 abbrev pub IsBefore : TrailView → ℕ → List Bool → Lit → Type 0
 IsBefore v k marks m = IsVariableMarked marks m.term.0 ⊎ ((q : ℕ) × (q < k) × (get_or v.literals q no_lit ≡ lit_complement m))
 
--- how many marked literals of a level stand before a place
+-- how many marked literals of a level are before a place
 abbrev pub count_before : TrailView → List Bool → ℕ → ℕ → ℕ
 count_before v marks n zero = 0
 count_before v marks n (suc k) = if get_or marks (get_or v.literals k no_lit).term.0 false && nat_eq (get_or v.levels k 0) n then suc (count_before v marks n k) else count_before v marks n k
@@ -77,7 +77,7 @@ pub record Sorting : Type 0 where
 abbrev pub sorting_of : Seen → Sorting
 sorting_of a = record { marks = a.marks.items; many = a.many; lower = a.lower.items; back = a.back; fixed = a.fixed }
 
--- What came up is sorted: counted, where it is of the level and stands before a place, and else listed, where it is above level 0.
+-- What came up is sorted: counted, where it is of the level and is before a place, and else listed, where it is above level 0.
 pub record Sorts (v : TrailView) (n k : ℕ) (a : Sorting) : Type 0 where
   pub within : k ≤ length v.literals
   pub counted : a.many ≡ count_before v a.marks n k
@@ -95,7 +95,7 @@ pub record Sorts (v : TrailView) (n k : ℕ) (a : Sorting) : Type 0 where
 abbrev pub AreSorted : TrailView → ℕ → ℕ → Seen → Type 0
 AreSorted v n k a = Sorts v n k (sorting_of a)
 
--- a step is the clash, or the reason of a literal that was replaced
+-- a step is the conflict, or the reason of a literal that was replaced
 abbrev pub IsPassed : Conflict → ℕ → StepId → Type 0
 IsPassed c k s = (s ≡ c.clash) ⊎ IsResolved c k s
 
@@ -105,7 +105,7 @@ pub record HasMet (c : Conflict) (k : ℕ) (marks : List Bool) (premises : List 
   pub marked : (p : ℕ) → p < length c.trail.literals → IsMarkedAt c.trail marks p → IsMet c k p
   -- what was met is marked
   pub met : (p : ℕ) → IsMet c k p → IsMarkedAt c.trail marks p
-  -- the premises are the clash and the reasons of what was replaced
+  -- the premises are the conflict and the reasons of what was replaced
   pub used : (s : StepId) → IsPassed c k s → Contains premises s
   pub no_others : (s : StepId) → Contains premises s → IsPassed c k s
 
@@ -129,7 +129,7 @@ pub record IsNewest (v : TrailView) (marks : List Bool) (k : ℕ) (l : Lit) : Ty
   -- its place
   pub place : ℕ
   pub before : place < k
-  -- it stands there
+  -- it is there
   pub there : get_or v.literals place no_lit ≡ l
   -- it is marked
   pub is_marked : IsMarkedAt v marks place

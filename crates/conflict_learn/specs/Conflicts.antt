@@ -43,27 +43,27 @@ pub record IsFalseAt (v : TrailView) (m : Lit) (n : ℕ) : Type 0 where
   pub place : ℕ
   -- it is one of the trail's
   pub within : place < length v.literals
-  -- the complement stands there
+  -- the complement is there
   pub there : get_or v.literals place no_lit ≡ lit_complement m
   -- it is of the level
   pub level : get_or v.levels place 0 ≡ n
 
--- The greatest level of a clash's literals, or 0 where it has none.
+-- The greatest level of a conflict's literals, or 0 where it has none.
 pub record IsConflictLevel (c : Conflict) (n : ℕ) : Type 0 where
   -- no literal is false only since a greater one
   pub greatest : (m : Lit) (k : ℕ) → HasLit c.table c.log c.clash m → IsFalseAt c.trail m k → k ≤ n
   -- and one is false since this one
   pub reached : (n ≡ 0) ⊎ ((m : Lit) × HasLit c.table c.log c.clash m × IsFalseAt c.trail m n)
 
--- a clash has a literal that is false only since a level above 0
+-- a conflict has a literal that is false only since a level above 0
 abbrev pub IsAboveZero : Conflict → Type 0
 IsAboveZero c = (m : Lit) × (n : ℕ) × HasLit c.table c.log c.clash m × IsFalseAt c.trail m n × (0 < n)
 
--- each literal of a clash is false since level 0
+-- each literal of a conflict is false since level 0
 abbrev pub IsOfZero : Conflict → Type 0
 IsOfZero c = (m : Lit) (n : ℕ) → HasLit c.table c.log c.clash m → IsFalseAt c.trail m n → n ≡ 0
 
--- A conflict rests on a literal: its complement is one of the clash's, or one of the others in the reason of a literal that it rests on.
+-- A conflict rests on a literal: its complement is one of the conflict's, or one of the others in the reason of a literal that it rests on.
 pub data IsNeeded (c : Conflict) : Lit → Type 0 where
   by_clash : (m : Lit) → HasLit c.table c.log c.clash m → IsNeeded c (lit_complement m)
   by_reason : (p r : ℕ) (m : Lit) → p < length c.trail.literals → get_or c.trail.reasons p None ≡ Some r → IsNeeded c (get_or c.trail.literals p no_lit)
@@ -80,6 +80,6 @@ pub record IsReasonNeeded (c : Conflict) (s : StepId) : Type 0 where
   -- the conflict rests on it
   pub needed : IsNeeded c (get_or c.trail.literals place no_lit)
 
--- the step is the clash, or the reason of a literal on which it rests
+-- the step is the conflict, or the reason of a literal on which it rests
 abbrev pub IsPremise : Conflict → StepId → Type 0
 IsPremise c s = (s ≡ c.clash) ⊎ IsReasonNeeded c s

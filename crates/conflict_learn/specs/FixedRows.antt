@@ -177,7 +177,7 @@ dropped_low _ (of_dropped q r p d e f) =
     let n = low_names r (omega (arith, small, early_reason q r small e)) (literal_at fixed_row.table (lit_complement (held_at fixed_row p))) f.1.there in
     omega (arith, n, name_of p f.0)
 
--- the premises are the clash, the reasons of d and c, and those of e and g
+-- the premises are the conflict, the reasons of d and c, and those of e and g
 abbrev steps : List StepId
 steps = step_of 5 ∷ step_of 4 ∷ step_of 3 ∷ step_of 1 ∷ step_of 0 ∷ []
 

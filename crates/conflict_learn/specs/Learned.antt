@@ -13,7 +13,7 @@ use Rattle.conflict_learn.specs.Conflicts.{Conflict, IsFalseAt, IsConflictLevel,
 use Rattle.conflict_learn.specs.Points.{IsUip}
 use Rattle.conflict_learn.specs.declared.learned.Learned.{Learned}
 
--- A step by resolution that states a clause is the log's last; its premises are the clash and reasons of literals on which that rests.
+-- A step by resolution that states a clause is the log's last; its premises are the conflict and reasons of literals on which that rests.
 pub record IsLogged (c : Conflict) (t : TableView) (new : List Logged) (clause : List Lit) (id : StepId) : Type 0 where
   -- its number is the next
   pub number : id.0 ≡ length c.log
@@ -21,7 +21,7 @@ pub record IsLogged (c : Conflict) (t : TableView) (new : List Logged) (clause :
   pub premises : List StepId
   -- and the terms that state the clause
   pub terms : List TermId
-  -- it stands last
+  -- it is last
   pub last : new ≡ c.log ++ stepped Resolution premises [] terms ∷ []
   -- with it, the log is right
   pub right : IsLogOf t new

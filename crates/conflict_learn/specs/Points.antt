@@ -19,7 +19,7 @@ level_at c p = get_or c.trail.levels p 0
 abbrev pub Falsifies : Conflict → ℕ → StepId → Type 0
 Falsifies c p s = (p < length c.trail.literals) × HasLit c.table c.log s (lit_complement (held_at c p))
 
--- A literal of the trail, by its place, makes one false of those that come up where one begins with the clash's, and replaces each that is false by a place from one on by the others of the reason there. Of a reason these are the false ones.
+-- A literal of the trail, by its place, makes one false of those that come up where one begins with the conflict's, and replaces each that is false by a place from one on by the others of the reason there. Of a reason these are the false ones.
 pub data IsMet (c : Conflict) (from : ℕ) : ℕ → Type 0 where
   of_clash : (p : ℕ) → Falsifies c p c.clash → IsMet c from p
   of_reason : (q r p : ℕ) → from ≤ q → IsMet c from q → get_or c.trail.reasons q None ≡ Some r → Falsifies c p (step_of r) → IsMet c from p
@@ -78,7 +78,7 @@ pub record IsOfDropped (c : Conflict) (from : ℕ) (s : StepId) : Type 0 where
   -- the step is its reason
   pub reason : get_or c.trail.reasons place None ≡ Some s.0
 
--- a step is used: it is the clash, or the reason of a literal that was replaced or dropped
+-- a step is used: it is the conflict, or the reason of a literal that was replaced or dropped
 abbrev pub IsUsed : Conflict → ℕ → StepId → Type 0
 IsUsed c from s = (s ≡ c.clash) ⊎ (IsResolved c from s ⊎ IsOfDropped c from s)
 

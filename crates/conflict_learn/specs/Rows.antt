@@ -142,7 +142,7 @@ none_dropped : (p : ℕ) → IsDropped row 2 p → ⊥
 none_dropped _ (of_point p lt m e) = omega (arith, e, level_one p (met_small 2 p m))
 none_dropped _ (of_dropped q r p d e f) = none_dropped q d
 
--- the premises are the clash and the reasons of d and c
+-- the premises are the conflict and the reasons of d and c
 abbrev steps : List StepId
 steps = step_of 3 ∷ step_of 2 ∷ step_of 1 ∷ []
 

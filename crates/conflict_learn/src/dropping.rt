@@ -21,7 +21,7 @@ use world_io::NoMemory;
 pub(crate) struct LearnedParts {
     /// Its literals; the one of the conflict's level is the last.
     pub(crate) clause: Vec<Lit>,
-    /// The clash, the reasons that were passed, and those of the literals that were dropped.
+    /// The conflict, the reasons that were passed, and those of the literals that were dropped.
     pub(crate) premises: Vec<StepId>,
     /// The greatest level of the others, or 0 where there are none.
     pub(crate) back: u64,

@@ -13,7 +13,7 @@ use crate::level::conflict_level;
 use crate::lits::Lits;
 use crate::marks::mark;
 use crate::stated::{log_step, terms_of};
-use proof_log::laws::logs_stand_in_grown_tables;
+use proof_log::laws::logs_hold_in_grown_tables;
 use proof_log::{ProofLog, StepId};
 use sat_trail::SatTrail;
 use std::alloc::Global;
@@ -84,7 +84,7 @@ fn learned(
 {
     trail.is_sound();
     table.terms_are_closed();
-    logs_stand_in_grown_tables();
+    logs_hold_in_grown_tables();
     let level = conflict_level(table, trail, log, clash);
     let found = find(alloc, table, trail, log, level, clash)?;
     let terms = terms_of(alloc, table, &found.clause)?;
@@ -101,7 +101,7 @@ fn learned(
 ///
 /// Three conditions: the clause of the step `clash` is false under the trail; each of its literals is so since level 0; and each
 /// reason of the trail is a step of the log that has the implied literal and whose other literals are false by earlier literals of
-/// the trail. Decisions may stand on the trail.
+/// the trail. Decisions may be on the trail.
 ///
 /// `NoMemory` comes where a list or the step finds no memory; then the log is as it was.
 /// Source: Marques Silva and Sakallah 1999, the analysis of conflicts.

@@ -29,9 +29,9 @@ module _ (t : TableView) (v w : ClosureView) (facts : w.now.facts ≡ v.now.fact
   Refuted = AreRefuted (terms_watched t (theory_of v)) (literals_held t (theory_of v))
 
   -- where it is settled nothing is refuted
-  pub settled_is_fine : Agrees → w.now.settled ≡ true → Refuted → ⊥
-  settled_is_fine agrees settled refuted =
-      none_refutes w.now.facts w.edges (right.closed settled) (right.fine settled)
+  pub saturated_is_fine : Agrees → w.now.saturated ≡ true → Refuted → ⊥
+  saturated_is_fine agrees saturated refuted =
+      none_refutes w.now.facts w.edges (right.closed saturated) (right.fine saturated)
       (subst FactsAreRefuted (sym facts) (agrees.1 (subst (λ (ts : List Term). AreRefuted ts (map (literal_at t) v.now.facts.held)) (watched_are_listed t v) refuted)))
 
   -- a conflict refutes what is held

@@ -17,7 +17,7 @@ use world_io::NoMemory;
 
 /// Holds literals of equality and uninterpreted functions, closed under congruence as far as they were checked.
 ///
-/// Held literals make terms equal: the sides of an equality that is held as it stands, a literal's term and its truth value, and
+/// Held literals make terms equal: the sides of an equality that is held as it is, a literal's term and its truth value, and
 /// watched terms with one head and equal arguments. Contracts see what it holds and watches, now and at each mark.
 /// Source: Nieuwenhuis and Oliveras, Information and Computation 205, 2007.
 #[derive(Drop)]
@@ -54,14 +54,14 @@ impl Congruence {
     /// Tells whether two terms are equal by the held literals.
     ///
     /// The answer is exact where the last check answered `Fine`, and no literal and no term came since, also after going back to a
-    /// mark that was set there; `is_settled` tells so. Else terms that it calls equal are equal, and others may be. It takes no memory.
+    /// mark that was set there; `is_saturated` tells so. Else terms that it calls equal are equal, and others may be. It takes no memory.
     pub fn same(&self, a: TermId, b: TermId) -> bool
         ensures sound { (t : TableView) → AreDifferent t.terms → AreDeclared t.sorts t.symbols
             → AreFactsOf t self.now.now.facts
             → IsIn t a → IsIn t b → result ≡ true → AreEqualBy t (theory_of self.now) a b }
         ensures exact { (t : TableView) → AreDifferent t.terms → AreDeclared t.sorts t.symbols
             → AreFactsOf t self.now.now.facts
-            → IsIn t a → IsIn t b → self.now.now.settled ≡ true
+            → IsIn t a → IsIn t b → self.now.now.saturated ≡ true
             → (result ≡ true) ↔ AreEqualBy t (theory_of self.now) a b }
     {
         numbers_and_terms_agree();
@@ -77,7 +77,7 @@ impl Congruence {
         ensures count { IfOk result (λ v. length v.items ≡ length terms.now) }
         ensures exact { (t : TableView) → AreDifferent t.terms → AreDeclared t.sorts t.symbols
             → AreFactsOf t self.now.now.facts
-            → AreIn t terms.now → self.now.now.settled ≡ true
+            → AreIn t terms.now → self.now.now.saturated ≡ true
             → IfOk result (λ v. TellClasses (AreEqualBy t (theory_of self.now)) terms.now v.items) }
     {
         numbers_and_terms_agree();
@@ -86,9 +86,9 @@ impl Congruence {
 
     /// Tells whether the last check answered `Fine`, and no literal and no term came since, also after going back to a mark that was
     /// set there. It takes no memory.
-    pub fn is_settled(&self) -> bool
-        ensures { result ≡ self.now.now.settled }
+    pub fn is_saturated(&self) -> bool
+        ensures { result ≡ self.now.now.saturated }
     {
-        self.closure.is_settled()
+        self.closure.is_saturated()
     }
 }

@@ -64,7 +64,7 @@ impl Theory for Congruence {
 
     ghost goes_with = { λ c t. AreFactsOf t c.now.facts };
 
-    ghost agrees = { λ c ts ls. IsFine ts ls × (c.now.settled ≡ true) };
+    ghost agrees = { λ c ts ls. IsFine ts ls × (c.now.saturated ≡ true) };
 
     ghost refuses = { λ c ts ls. IsRefuted ts ls };
 
@@ -72,7 +72,7 @@ impl Theory for Congruence {
 
     ghost stopped_by = { λ _ _ _ _ _. Unit {0} };
 
-    ghost strains = { λ _ _ _ _. ⊥ };
+    ghost may_overflow = { λ _ _ _ _. ⊥ };
 
     ghost needs_more = { λ _ _ _. ⊥ };
 
@@ -99,7 +99,7 @@ impl Theory for Congruence {
 
     /// Checks the held literals: `Clash` comes exactly where their congruence joins `true` and `false`, or the sides of a held negated
     /// equality. After `Fine` it is settled, and table and log are as they were. `Memory` comes where memory ran out, the one stop. It
-    /// costs about the users of the classes that are renumbered, and, where there is a clash, what `explain` costs. It spends nothing of
+    /// costs about the users of the classes that are renumbered, and, where there is a conflict, what `explain` costs. It spends nothing of
     /// the budget.
     fn check(
         &mut self,
@@ -114,11 +114,11 @@ impl Theory for Congruence {
         ensures same { theory_of self.new ≡ theory_of self.old }
         ensures budget { Spends budget.old budget.new }
         ensures kept { budget.new ≡ budget.old }
-        ensures settled { result ≡ Ok Fine → self.new.now.settled ≡ true }
+        ensures saturated { result ≡ Ok Fine → self.new.now.saturated ≡ true }
         ensures nothing_came { result ≡ Ok Fine → (table.new ≡ table.old) × (log.new ≡ log.old) }
         ensures checks { Checks (IsFine (terms_watched table.old (theory_of self.old))
             (literals_held table.old (theory_of self.old))
-            × (self.new.now.settled ≡ true))
+            × (self.new.now.saturated ≡ true))
             (IsRefuted (terms_watched table.old (theory_of self.old)) (literals_held table.old (theory_of self.old)))
             (theory_of self.old) (record { table = table.old; log = log.old }) result
             (record { table = table.new; log = log.new }) }
@@ -131,7 +131,7 @@ impl Theory for Congruence {
         refutations_agree();
         table.ids_are_unique();
         table.symbols().are_declared();
-        let found = self.closure.settle()?;
+        let found = self.closure.saturate()?;
         self.closure.is_right();
         let Some(conflict) = found else {
             return Ok(Verdict::Fine);

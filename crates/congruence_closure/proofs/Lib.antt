@@ -4,7 +4,7 @@ pub mod Denials
 pub mod Keys
 pub mod Terms
 pub mod Numbering
-pub mod Settled
+pub mod SaturatedClosure
 pub mod Growing
 pub mod Joining
 pub mod Steps

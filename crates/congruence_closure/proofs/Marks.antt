@@ -83,14 +83,14 @@ module _ (p q : PartsView) (f : Follows p q) where
       } in
       record {
         kept = subst PartsFit (sym same) h.kept;
-        settled = λ e. subst IsSaturated (sym same) (h.settled e);
+        saturated = λ e. subst IsSaturated (sym same) (h.saturated e);
         terms = h.terms;
         fits = omega (arith, h.fits, f.numbers);
         upto = upto_trans m.extent (extent_of p.now) (extent_of q.now) h.upto f.upto;
       }
 
-  pub whole_follows : (settled now : Bool) (marks : List ClosureMark) → ClosureFits p settled marks → (now ≡ true → IsSaturated q.now) → ClosureFits q now marks
-  whole_follows settled now marks w done = record {
+  pub whole_follows : (saturated now : Bool) (marks : List ClosureMark) → ClosureFits p saturated marks → (now ≡ true → IsSaturated q.now) → ClosureFits q now marks
+  whole_follows saturated now marks w done = record {
     done = done;
     numbers_count = ap length f.numbers_marks ∙ w.numbers_count;
     edges_count = ap length f.edges_marks ∙ w.edges_count;
@@ -101,19 +101,19 @@ module _ (p q : PartsView) (f : Follows p q) where
     grown = λ i j le lt. subst (λ ns. length (get_or ns i []) ≤ length (get_or ns j [])) (sym f.numbers_marks) (w.grown i j le lt);
   }
 
-  pub marks_follow : (settled : Bool) (marks : List ClosureMark) → ClosureFits p settled marks → map (marked q.now.facts) marks ≡ map (marked p.now.facts) marks
-  marks_follow settled marks w = same marks (λ k m lt is. (w.kept k m lt is).upto)
+  pub marks_follow : (saturated : Bool) (marks : List ClosureMark) → ClosureFits p saturated marks → map (marked q.now.facts) marks ≡ map (marked p.now.facts) marks
+  marks_follow saturated marks w = same marks (λ k m lt is. (w.kept k m lt is).upto)
     where
       same : (ms : List ClosureMark) → ((k : ℕ) (m : ClosureMark) → k < length ms → get_or ms k m ≡ m → IsUpTo m.extent (extent_of p.now)) → map (marked q.now.facts) ms ≡ map (marked p.now.facts) ms
       same [] le = refl
       same (m ∷ ms) le =
           let first = f.facts m.extent (le 0 m (omega arith) refl) in
           let rest : map (marked q.now.facts) ms ≡ map (marked p.now.facts) ms = same ms (λ k n lt is. le (suc k) n (omega (arith, lt)) is) in
-          λ i. record { facts = first i; settled = m.settled } ∷ rest i
+          λ i. record { facts = first i; saturated = m.saturated } ∷ rest i
 
 -- what is settled is so with more terms
-pub settled_still : (p q : PartsView) → Changes p p.now.facts q → IsSaturated p.now → IsSaturated q.now
-settled_still p q c s = record {
+pub saturated_still : (p q : PartsView) → Changes p p.now.facts q → IsSaturated p.now → IsSaturated q.now
+saturated_still p q c s = record {
   looked = ap (λ (l : Left). l.looked) c.left ∙ s.looked ∙ ap (λ (f : Facts). length f.listed) (sym c.facts);
   given = ap (λ (l : Left). l.given) c.left ∙ s.given ∙ ap (λ (f : Facts). length f.held) (sym c.facts);
   pending = ap (λ (l : Left). l.pending) c.left ∙ s.pending;
@@ -133,8 +133,8 @@ at_extent s keys = λ i. record {
   left = s.left;
 }
 
-module _ (p q : PartsView) (settled : Bool) (marks : List ClosureMark) (m : ClosureMark) (w : ClosureFits p settled marks) (h : PartsFit p.now) (terms : length p.now.numbers ≤ p.terms) (set : MarksState p q)
-    (extent : m.extent ≡ extent_of p.now) (pending : m.pending.items ≡ p.now.left.pending) (told : m.settled ≡ settled) where
+module _ (p q : PartsView) (saturated : Bool) (marks : List ClosureMark) (m : ClosureMark) (w : ClosureFits p saturated marks) (h : PartsFit p.now) (terms : length p.now.numbers ≤ p.terms) (set : MarksState p q)
+    (extent : m.extent ≡ extent_of p.now) (pending : m.pending.items ≡ p.now.left.pending) (told : m.saturated ≡ saturated) where
   -- the state at the mark is that of now
   state_is : state_at q.now m.extent m.pending.items p.now.numbers p.now.edges ≡ p.now
   state_is = (λ i. state_at (set.now i) (extent i) (pending i) p.now.numbers p.now.edges) ∙ at_extent p.now h.keys.keys
@@ -142,7 +142,7 @@ module _ (p q : PartsView) (settled : Bool) (marks : List ClosureMark) (m : Clos
   new_mark : IsMark q m p.now.numbers (record { terms = p.terms; edges = p.now.edges })
   new_mark = record {
     kept = subst PartsFit (sym state_is) h;
-    settled = λ e. subst IsSaturated (sym state_is) (w.done (sym told ∙ e));
+    saturated = λ e. subst IsSaturated (sym state_is) (w.done (sym told ∙ e));
     terms = terms;
     fits = omega (arith, ap (λ (s : PartsState). length s.numbers) set.now);
     upto = record {
@@ -169,7 +169,7 @@ module _ (p q : PartsView) (settled : Bool) (marks : List ClosureMark) (m : Clos
       let same = ap (λ (s : PartsState). state_at s n.extent n.pending.items numbers forest.edges) set.now in
       record {
         kept = subst PartsFit (sym same) k.kept;
-        settled = λ e. subst IsSaturated (sym same) (k.settled e);
+        saturated = λ e. subst IsSaturated (sym same) (k.saturated e);
         terms = k.terms;
         fits = omega (arith, k.fits, ap (λ (s : PartsState). length s.numbers) set.now);
         upto = subst (λ (s : PartsState). IsUpTo n.extent (extent_of s)) (sym set.now) k.upto;
@@ -192,7 +192,7 @@ module _ (p q : PartsView) (settled : Bool) (marks : List ClosureMark) (m : Clos
   old_fits : (i : ℕ) → i < length marks → length (get_or p.numbers_marks i []) ≤ length p.now.numbers
   old_fits i lt = (w.kept i (get_or marks i m) lt (get_or_default marks i (get_or marks i m) m lt)).fits
 
-  pub whole_marked : ClosureFits q settled (marks ++ m ∷ [])
+  pub whole_marked : ClosureFits q saturated (marks ++ m ∷ [])
   whole_marked = record {
     done = λ e. subst IsSaturated (sym set.now) (w.done e);
     numbers_count = ap length set.numbers_marks ∙ length_push p.numbers_marks p.now.numbers ∙ ap (λ n. n + 1) w.numbers_count ∙ sym (length_push marks m);
@@ -235,7 +235,7 @@ found_mark marks cut left n m some few is popped =
     let both = same_from_push (take (length marks - n) marks) left (get_or marks (length marks - n) m) m (sym (take_more marks (length marks - n) m (omega (arith, some, few))) ∙ sym is ∙ popped) in
     (both.1, sym both.0)
 
-module _ (p : PartsView) (settled : Bool) (marks : List ClosureMark) (n : ℕ) (m : ClosureMark) (w : ClosureFits p settled marks) (some : 0 < n) (few : n ≤ length marks) (is : get_or marks (length marks - n) m ≡ m) where
+module _ (p : PartsView) (saturated : Bool) (marks : List ClosureMark) (n : ℕ) (m : ClosureMark) (w : ClosureFits p saturated marks) (some : 0 < n) (few : n ≤ length marks) (is : get_or marks (length marks - n) m ≡ m) where
   low : length marks - n < length marks
   low = omega (arith, some, few)
 
@@ -303,7 +303,7 @@ module _ (p : PartsView) (settled : Bool) (marks : List ClosureMark) (n : ℕ) (
       } in
       record {
         kept = subst PartsFit (sym same) k.kept;
-        settled = λ d. subst IsSaturated (sym same) (k.settled d);
+        saturated = λ d. subst IsSaturated (sym same) (k.saturated d);
         terms = k.terms;
         fits = subst (λ (ns : List ℕ). length (get_or p.numbers_marks j []) ≤ length ns) (sym numbers_is) (w.grown j (length marks - n) (omega (arith, lt)) low);
         upto = record {
@@ -316,9 +316,9 @@ module _ (p : PartsView) (settled : Bool) (marks : List ClosureMark) (n : ℕ) (
   extent_kept : (j : ℕ) → j < length marks - n → extent_at (take (length marks - n) marks) j ≡ extent_at marks j
   extent_kept j lt = ap (λ xs. get_or xs j no_extent) (sym (take-map (λ (x : ClosureMark). x.extent) (length marks - n) marks)) ∙ get_or-take (length marks - n) (map (λ (x : ClosureMark). x.extent) marks) j no_extent lt
 
-  pub whole_back : ClosureFits (parts_back p n m.extent m.pending.items) m.settled (take (length marks - n) marks)
+  pub whole_back : ClosureFits (parts_back p n m.extent m.pending.items) m.saturated (take (length marks - n) marks)
   whole_back = record {
-    done = λ d. subst IsSaturated (λ i. state_at p.now m.extent m.pending.items (sym numbers_is i) (sym edges_is i).edges) (mark_there.settled d);
+    done = λ d. subst IsSaturated (λ i. state_at p.now m.extent m.pending.items (sym numbers_is i) (sym edges_is i).edges) (mark_there.saturated d);
     numbers_count = length-take-le (length p.numbers_marks - n) p.numbers_marks (omega arith) ∙ ap (λ k. k - n) w.numbers_count ∙ sym (length-take-le (length marks - n) marks (omega arith));
     edges_count = length-take-le (length p.edges_marks - n) p.edges_marks (omega arith) ∙ ap (λ k. k - n) w.edges_count ∙ sym (length-take-le (length marks - n) marks (omega arith));
     kept = λ j x lt e.
@@ -349,4 +349,4 @@ module _ (p : PartsView) (settled : Bool) (marks : List ClosureMark) (n : ℕ) (
       same (x ∷ ms) le =
           let first = facts_again x.extent (le 0 x (omega arith) refl) in
           let rest : map (marked (facts_at p.now.facts m.extent)) ms ≡ map (marked p.now.facts) ms = same ms (λ j y lt e. le (suc j) y (omega (arith, lt)) e) in
-          λ i. record { facts = first i; settled = x.settled } ∷ rest i
+          λ i. record { facts = first i; saturated = x.saturated } ∷ rest i

@@ -10,7 +10,7 @@ use Rattle.congruence_relation.specs.Relation.{Application}
 use Rattle.congruence_closure.specs.Listed.{nth, no_application, IsListed, AreUsers}
 use Rattle.congruence_closure.specs.Tables.{lists, AreGrown, HaveKept, HaveKeptBelow, HaveNoted, IsIndexed}
 
--- the list of a place, as it stands
+-- the list of a place, as it is
 pub list_at : (vs : List (Vec ℕ Global)) (k : ℕ) (v : Vec ℕ Global) → k < length vs → v ≡ get_or vs k v → v.items ≡ get_or (lists vs) k []
 list_at vs k v lt e = ap (λ (w : Vec ℕ Global). w.items) e ∙ sym (get_or-map (λ (w : Vec ℕ Global). w.items) vs k v [] lt)
 

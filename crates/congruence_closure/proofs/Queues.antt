@@ -13,7 +13,7 @@ use Rattle.congruence_closure.specs.Changes.{AreClassUsers}
 pub record HaveQueued (listed : List Application) (old : List ℕ) (members : List TermId) (new : List ℕ) : Type 0 where
   -- what was put
   pub more : List ℕ
-  -- it stands last
+  -- it is last
   pub is : new ≡ old ++ more
   -- these are all
   pub all : (i : ℕ) (a : TermId) → i < length listed → Contains (nth listed i).shape.arguments a → Contains members a → Contains more i

@@ -113,7 +113,7 @@ module _ (s : PartsState) (h : PartsFit s) (l : Lit) (decided : AreSame s.number
     pub ends_low : (a.0 < length s.numbers) × (b.0 < length s.numbers)
     ends_low = sides_low s h where_at.0 a b own_place.0 own_shape
 
-    -- an equality that is held as it stands, with sides in one class
+    -- an equality that is held as it is, with sides in one class
     pub given_equal : l.positive ≡ true → Linked s.edges a.0 b.0 → IsGiven s l
     given_equal positive linked = record {
       stated = λ c d states. go c d states;
@@ -140,7 +140,7 @@ module _ (s : PartsState) (h : PartsFit s) (l : Lit) (decided : AreSame s.number
         go _ _ decides = decided
         go c d (equates _ _ p q) = absurd (true≢false (sym p ∙ negative))
 
-    -- one whose sides are linked exactly where it is held as it stands
+    -- one whose sides are linked exactly where it is held as it is
     pub given_as_held : (linked : Bool) → (linked ≡ true) ↔ Linked s.edges a.0 b.0 → linked ≡ l.positive → IsGiven s l
     given_as_held linked is e = go (cases_Bool l.positive)
       where

@@ -11,8 +11,8 @@ use Rattle.congruence_relation.specs.declared.Truths.{Truths}
 use Rattle.congruence_relation.specs.Relation.{Application, Facts, StatesEqual}
 use Rattle.congruence_relation.specs.Edges.{Meet}
 use Rattle.congruence_closure.specs.declared.parts.Extent.{Extent}
-use Rattle.congruence_closure.specs.declared.settling.Turn.{Turn}
-use Rattle.congruence_closure.specs.declared.settling.Turn.TheVariants as turns
+use Rattle.congruence_closure.specs.declared.saturating.Turn.{Turn}
+use Rattle.congruence_closure.specs.declared.saturating.Turn.TheVariants as turns
 use Rattle.congruence_relation.specs.declared.Conflict.TheVariants.{Sides}
 use Rattle.congruence_relation.specs.Edges.{IsConflict}
 use Rattle.congruence_closure.specs.Closure.{denial}

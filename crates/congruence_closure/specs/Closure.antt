@@ -13,7 +13,7 @@ pub record ClosureState : Type 0 where
   -- the listed terms, the truth values and the held literals
   pub facts : Facts
   -- the edges are closed, and there is no conflict
-  pub settled : Bool
+  pub saturated : Bool
 
 -- What contracts see of a closure.
 pub record ClosureView : Type 0 where
@@ -73,8 +73,8 @@ pub record IsRight (v : ClosureView) : Type 0 where
   -- each edge has a reason
   pub reasons : EdgesHaveReasons v.now.facts v.edges
   -- where it is settled, the edges are closed
-  pub closed : v.now.settled ≡ true → IsClosed v.now.facts v.edges
+  pub closed : v.now.saturated ≡ true → IsClosed v.now.facts v.edges
   -- and there is no conflict
-  pub fine : v.now.settled ≡ true → HasNoConflict v.now.facts v.edges
+  pub fine : v.now.saturated ≡ true → HasNoConflict v.now.facts v.edges
   -- terms and literals are in order
   pub order : AreInOrder v.now.facts

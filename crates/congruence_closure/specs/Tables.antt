@@ -6,7 +6,7 @@ use Rattle.term_core.specs.declared.ids.Lit.{Lit}
 use Rattle.congruence_relation.specs.Relation.{Application}
 use Rattle.congruence_closure.specs.Listed.{nth, held_at, AreListedOnce}
 
--- what stands in lists
+-- what is in lists
 abbrev pub lists : List (Vec ℕ Global) → List (List ℕ)
 lists vs = map (λ v. v.items) vs
 

@@ -11,12 +11,12 @@ use Rattle.congruence_closure.specs.Changes.{no_forest}
 
 -- what it was about at a mark
 abbrev pub marked : Facts → ClosureMark → ClosureState
-marked f m = record { facts = facts_at f m.extent; settled = m.settled }
+marked f m = record { facts = facts_at f m.extent; saturated = m.saturated }
 
 -- what contracts see of the fields
 abbrev pub closure_of : Inside → ClosureView
 closure_of c = record {
-  now = record { facts = c.parts.now.facts; settled = c.settled };
+  now = record { facts = c.parts.now.facts; saturated = c.saturated };
   edges = c.parts.now.edges;
   marks = map (marked c.parts.now.facts) c.marks.items;
 }
@@ -30,7 +30,7 @@ pub record IsUpTo (one other : Extent) : Type 0 where
 -- What parts were at a mark, with the classes and edges there, was kept then.
 pub record IsMark (p : PartsView) (m : ClosureMark) (numbers : List ℕ) (forest : ForestState) : Type 0 where
   pub kept : PartsFit (state_at p.now m.extent m.pending.items numbers forest.edges)
-  pub settled : m.settled ≡ true → IsSaturated (state_at p.now m.extent m.pending.items numbers forest.edges)
+  pub saturated : m.saturated ≡ true → IsSaturated (state_at p.now m.extent m.pending.items numbers forest.edges)
   pub terms : length numbers ≤ forest.terms
   pub fits : length numbers ≤ length p.now.numbers
   pub upto : IsUpTo m.extent (extent_of p.now)
@@ -44,9 +44,9 @@ abbrev pub extent_at : List ClosureMark → ℕ → Extent
 extent_at marks j = get_or (map (λ (m : ClosureMark). m.extent) marks) j no_extent
 
 -- What the fields of a closure keep.
-pub record ClosureFits (p : PartsView) (settled : Bool) (marks : List ClosureMark) : Type 0 where
+pub record ClosureFits (p : PartsView) (saturated : Bool) (marks : List ClosureMark) : Type 0 where
   -- nothing is left to do where it is settled
-  pub done : settled ≡ true → IsSaturated p.now
+  pub done : saturated ≡ true → IsSaturated p.now
   -- classes and edges have as many marks
   pub numbers_count : length p.numbers_marks ≡ length marks
   pub edges_count : length p.edges_marks ≡ length marks

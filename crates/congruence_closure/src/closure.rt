@@ -26,18 +26,18 @@ pub(crate) struct ClosureMark {
     /// What was left to look at again.
     pub(crate) pending: Vec<u64>,
     /// Whether it was settled.
-    pub(crate) settled: bool,
+    pub(crate) saturated: bool,
 }
 
 /// Holds listed terms and held literals, and tells which terms are congruent by them.
 ///
-/// Terms are the numbers of a table. `settle` makes the edges link all that is congruent, in time in proportion to what came since,
+/// Terms are the numbers of a table. `saturate` makes the edges link all that is congruent, in time in proportion to what came since,
 /// and to the users of the classes that are renumbered. Contracts see what it is about, its edges, and what it was about at each mark.
 #[derive(Drop)]
 pub struct Closure {
     parts: ClosureParts,
-    /// Nothing came since `settle` found no conflict.
-    settled: bool,
+    /// Nothing came since `saturate` found no conflict.
+    saturated: bool,
     /// The marks, oldest first.
     marks: Vec<ClosureMark>,
 }
@@ -50,7 +50,7 @@ impl Model for Closure {
 
     ghost view = { closure_of };
 
-    ghost invariant = { λ c. ClosureFits c.parts c.settled c.marks.items };
+    ghost invariant = { λ c. ClosureFits c.parts c.saturated c.marks.items };
 }
 
 impl Closure {
@@ -61,14 +61,14 @@ impl Closure {
         requires { truths.true_term ≢ truths.false_term }
         ensures { IfOk result (λ c. (c.now ≡ record {
           facts = record { listed = []; truths = truths; held = [] };
-          settled = false;
+          saturated = false;
         })
             × (c.edges ≡ []) × (c.marks ≡ [])) }
     {
         let parts = ClosureParts::new(alloc, truths)?;
         Ok(Closure {
             parts,
-            settled: false,
+            saturated: false,
             marks: Vec::new(alloc),
         })
     }
@@ -81,14 +81,14 @@ impl Closure {
         requires below { NamesBelow id.0 node.now }
         ensures ok { OnOk result (self.new.now ≡ record {
           facts = with_listed self.old.now.facts (record { term = id; shape = shape_of node.now });
-          settled = false;
+          saturated = false;
         }) }
         ensures edges { self.new.edges ≡ self.old.edges }
         ensures marks { self.new.marks ≡ self.old.marks }
         ensures err { OnErr result (self.new ≡ self.old) }
     {
         self.parts.watch(id, node)?;
-        self.settled = false;
+        self.saturated = false;
         Ok(())
     }
 
@@ -96,29 +96,29 @@ impl Closure {
     pub fn hold(&mut self, lit: Lit)
         requires listed { IsListed self.old.now.facts.listed lit.term }
         requires new { Contains self.old.now.facts.held lit → ⊥ }
-        ensures now { self.new.now ≡ record { facts = with_held self.old.now.facts lit; settled = false } }
+        ensures now { self.new.now ≡ record { facts = with_held self.old.now.facts lit; saturated = false } }
         ensures edges { self.new.edges ≡ self.old.edges }
         ensures marks { self.new.marks ≡ self.old.marks }
     {
         self.parts.hold(lit);
-        self.settled = false;
+        self.saturated = false;
     }
 
     /// Makes the edges link all that is congruent, or gives a conflict of what is held. At once where it is settled.
     ///
     /// `NoMemory` comes where it finds no memory; then it can be called again, and goes on.
-    pub fn settle(&mut self) -> Result<Option<Conflict>, NoMemory>
+    pub fn saturate(&mut self) -> Result<Option<Conflict>, NoMemory>
         ensures facts { self.new.now.facts ≡ self.old.now.facts }
         ensures marks { self.new.marks ≡ self.old.marks }
-        ensures settled { IfOk result (λ found. found ≡ None → self.new.now.settled ≡ true) }
+        ensures saturated { IfOk result (λ found. found ≡ None → self.new.now.saturated ≡ true) }
         ensures conflict { IfOk result (λ found. (c : Against) → found ≡ Some c
             → IsConflict self.new.now.facts self.new.edges c) }
     {
-        if self.settled {
+        if self.saturated {
             return Ok(None);
         }
-        let found = self.parts.settle()?;
-        self.settled = found.is_none();
+        let found = self.parts.saturate()?;
+        self.saturated = found.is_none();
         Ok(found)
     }
 
@@ -127,7 +127,7 @@ impl Closure {
     /// A term that is not there is congruent to itself alone.
     pub fn same(&self, a: TermId, b: TermId) -> bool
         ensures sound { result ≡ true → IsCongruentIn self.now.now.facts a b }
-        ensures exact { self.now.now.settled ≡ true → (result ≡ true) ↔ IsCongruentIn self.now.now.facts a b }
+        ensures exact { self.now.now.saturated ≡ true → (result ≡ true) ↔ IsCongruentIn self.now.now.facts a b }
     {
         self.parts.are_kept();
         self.parts.same(a, b)
@@ -143,7 +143,7 @@ impl Closure {
         ensures sound { IfOk result (λ v. (i j : ℕ) → i < length terms.now → j < length terms.now
             → get_or v.items i 0 ≡ get_or v.items j 0
             → IsCongruentIn self.now.now.facts (get_or terms.now i no_term_id) (get_or terms.now j no_term_id)) }
-        ensures exact { self.now.now.settled ≡ true
+        ensures exact { self.now.now.saturated ≡ true
             → IfOk result (λ v. TellClasses (IsCongruentIn self.now.now.facts) terms.now v.items) }
     {
         self.parts.are_kept();
@@ -152,7 +152,7 @@ impl Closure {
 
     /// Marks what it is about, and whether it is settled.
     ///
-    /// It takes time in proportion to what an early end of `settle` left, which is nothing where it is settled. `NoMemory` comes where
+    /// It takes time in proportion to what an early end of `saturate` left, which is nothing where it is settled. `NoMemory` comes where
     /// the mark finds no memory; then nothing is changed.
     pub fn mark(&mut self) -> Result<(), NoMemory>
         ensures now { self.new.now ≡ self.old.now }
@@ -167,7 +167,7 @@ impl Closure {
         self.marks.push_reserved(ClosureMark {
             extent: self.parts.extent(),
             pending,
-            settled: self.settled,
+            saturated: self.saturated,
         });
         Ok(())
     }
@@ -185,7 +185,7 @@ impl Closure {
             self.marks.truncate(kept + 1);
             if let Some(mark) = self.marks.pop() {
                 self.parts.back(marks, mark.extent, mark.pending);
-                self.settled = mark.settled;
+                self.saturated = mark.saturated;
             }
         }
     }
@@ -228,11 +228,11 @@ impl Closure {
         self.parts.truths
     }
 
-    /// Tells whether nothing came since `settle` found no conflict. It takes no memory.
-    pub fn is_settled(&self) -> bool
-        ensures { result ≡ self.now.now.settled }
+    /// Tells whether nothing came since `saturate` found no conflict. It takes no memory.
+    pub fn is_saturated(&self) -> bool
+        ensures { result ≡ self.now.now.saturated }
     {
-        self.settled
+        self.saturated
     }
 
     /// States that edges have reasons, and that they are closed and no conflict is there where it is settled.

@@ -27,7 +27,7 @@ fn note_denial(denials: &mut Vec<u64>, lit: Lit, place: u64)
 pub(crate) struct Holding {
     /// The literals, with room for two of each term.
     held: Vec<Lit>,
-    /// For each term that is denied, by its number, the place of its denial. What stands at the number of another term says nothing.
+    /// For each term that is denied, by its number, the place of its denial. What is at the number of another term says nothing.
     denials: Vec<u64>,
 }
 

@@ -1,6 +1,6 @@
 //! The congruence closure of held literals over listed terms, by the numbers of terms, with exact going back.
 //!
-//! Classes of terms stand in a class table, and why terms are in one class in a forest of edges; both change side by side. A table
+//! Classes of terms are in a class table, and why terms are in one class in a forest of edges; both change side by side. A table
 //! has for each key, a head with the class numbers of arguments, a listed term that has it. Where two classes join, the terms with an
 //! argument in the one that was renumbered are looked at again. Keys are only ever added, so going back is to cut lists.
 //! Source: Downey, Sethi and Tarjan, JACM 1980, and Nieuwenhuis and Oliveras, Information and Computation 205, 2007.
@@ -13,7 +13,7 @@ mod listing;
 mod looking;
 mod parts;
 mod reading;
-mod settling;
+mod saturating;
 mod users;
 
 pub use closure::Closure;

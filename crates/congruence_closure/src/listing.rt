@@ -20,7 +20,7 @@ pub(crate) struct Listing {
     alloc: Global,
     /// The listed terms, oldest first.
     listed: Vec<Listed>,
-    /// For each listed term, by its number, its place. What stands at the number of another term says nothing.
+    /// For each listed term, by its number, its place. What is at the number of another term says nothing.
     places: Vec<u64>,
     /// For each term, by its number, the places of the listed terms that have it as an argument.
     users: Vec<Vec<u64>>,

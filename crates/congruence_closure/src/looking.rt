@@ -13,7 +13,7 @@ use crate::Conflict;
 use crate::key_table::key_of;
 use crate::parts::ClosureParts;
 use crate::reading::sides_of;
-use crate::settling::Turn;
+use crate::saturating::Turn;
 use congruence_relation::Truths;
 use term_core::{Lit, TermId};
 use world_io::NoMemory;
@@ -114,7 +114,7 @@ impl ClosureParts {
         }
     }
 
-    /// Gives the sides of an equality: they are in one class where it is held as it stands, else in two.
+    /// Gives the sides of an equality: they are in one class where it is held as it is, else in two.
     ///
     /// `NoMemory` comes where what is to be looked at again finds no memory.
     fn give_sides(&mut self, lit: Lit, a: TermId, b: TermId) -> Result<Turn, NoMemory>

@@ -31,7 +31,7 @@ use Rattle.congruence_explain.specs.declared.claims.Claim.{Claim}
 use Rattle.congruence_explain.specs.declared.claims.Claim.TheVariants.{Equality}
 use Rattle.congruence_explain.specs.declared.claims.SignedClaim.{SignedClaim}
 use Rattle.congruence_explain.specs.Rules.{path_rule}
-use Rattle.congruence_explain.specs.Claims.{term_claimed, term_said, literal_said, literal_claimed, IsClaimIn, IsClaimOf, equality_claim, says, edge_says, IsOneEquality, denied_step}
+use Rattle.congruence_explain.specs.Claims.{term_claimed, claim_as_term, claim_as_literal, literal_claimed, IsClaimIn, IsClaimOf, equality_claim, says, edge_says, IsOneEquality, denied_step}
 use Rattle.congruence_explain.specs.Basis.{IsBasis, AreLinkedIn}
 use Rattle.congruence_explain.specs.Steps.{ExplanationSetting, Notes, IsNeeded, ShowsLiteral, NotesGrow, marked, edges_on, TellsPair}
 use Rattle.congruence_explain.proofs.Terms.{claim_same}
@@ -55,7 +55,7 @@ StepJoins t ts s = Joins (Some (term_claimed t (says ts s.label s.from s.to))) (
 
 -- what a path denies leads from its first term to its last
 path_lead : (t : TableView) (ts : Truths) (steps : List PathStep) (x y : ℕ) → PathLeads x steps y → All (StepJoins t ts) steps
-    → Lead (map term_denied (map (term_said t) (map (denied_step ts) steps))) (number_term t x) (number_term t y)
+    → Lead (map term_denied (map (claim_as_term t) (map (denied_step ts) steps))) (number_term t x) (number_term t y)
 path_lead t ts [] x y e h = ap (number_term t) e
 path_lead t ts (s ∷ steps) x y (e, rest) h = (
   term_at t s.to,
@@ -92,34 +92,34 @@ module _ (t : TableView) (ts : Truths) (v : ForestState) (f : Facts) (b : IsBasi
   path_in x y h = All-push (λ (s : SignedClaim). IsClaimOf (terms_listed t f) t s.claim) (map (denied_step ts) (path v.edges x.0 y.0)) (equality_claim x y) (steps_in x y) (linked_in x y h)
 
   -- which is right
-  pub path_right : (x y : TermId) → AreLinkedIn (terms_listed t f) t v x y → IsRight (path_rule x y) [] none (map (term_said t) (path_clause ts (path v.edges x.0 y.0) x y))
+  pub path_right : (x y : TermId) → AreLinkedIn (terms_listed t f) t v x y → IsRight (path_rule x y) [] none (map (claim_as_term t) (path_clause ts (path v.edges x.0 y.0) x y))
   path_right x y h = go (cases_eq x.0 y.0)
     where
       steps : List PathStep
       steps = path v.edges x.0 y.0
 
-      split : map (term_said t) (path_clause ts steps x y) ≡ map (term_said t) (map (denied_step ts) steps) ++ equal_terms (term_at t x) (term_at t y) ∷ []
-      split = map-append (term_said t) (map (denied_step ts) steps) (equality_claim x y ∷ [])
+      split : map (claim_as_term t) (path_clause ts steps x y) ≡ map (claim_as_term t) (map (denied_step ts) steps) ++ equal_terms (term_at t x) (term_at t y) ∷ []
+      split = map-append (claim_as_term t) (map (denied_step ts) steps) (equality_claim x y ∷ [])
 
       leads : PathLeads x.0 steps y.0
       leads = path-leads v.edges x.0 y.0 h.linked
 
-      nonempty : (ss : List PathStep) → PathLeads x.0 ss y.0 → x.0 ≢ y.0 → map (term_said t) (map (denied_step ts) ss) ≢ []
+      nonempty : (ss : List PathStep) → PathLeads x.0 ss y.0 → x.0 ≢ y.0 → map (claim_as_term t) (map (denied_step ts) ss) ≢ []
       nonempty [] l d e = d l
       nonempty (s ∷ ss) l d e = cc
 
-      go : (x.0 ≡ y.0) ⊎ (x.0 ≢ y.0) → IsRight (path_rule x y) [] none (map (term_said t) (path_clause ts steps x y))
+      go : (x.0 ≡ y.0) ⊎ (x.0 ≢ y.0) → IsRight (path_rule x y) [] none (map (claim_as_term t) (path_clause ts steps x y))
       go (inl e) =
           let test : (x.0 == y.0) ≡ true = grind (arith, nat_tests) in
           let empty : steps ≡ [] = (λ i. path v.edges x.0 (sym e i)) ∙ path-none v.edges x.0 in
-          let whole : map (term_said t) (path_clause ts steps x y) ≡ equal_terms (term_at t x) (term_at t x) ∷ [] =
-          (λ i. map (term_said t) (path_clause ts (empty i) x (same_id y x (sym e) i))) in
-          subst (λ c. IsRight (if c then rules.EqReflexive else rules.EqTransitive) [] none (map (term_said t) (path_clause ts steps x y))) (sym test)
+          let whole : map (claim_as_term t) (path_clause ts steps x y) ≡ equal_terms (term_at t x) (term_at t x) ∷ [] =
+          (λ i. map (claim_as_term t) (path_clause ts (empty i) x (same_id y x (sym e) i))) in
+          subst (λ c. IsRight (if c then rules.EqReflexive else rules.EqTransitive) [] none (map (claim_as_term t) (path_clause ts steps x y))) (sym test)
           (subst (λ c. IsRight rules.EqReflexive [] none c) (sym whole) (term_at t x, refl))
       go (inr d) =
           let test : (x.0 == y.0) ≡ false = grind (arith, nat_tests) in
-          subst (λ c. IsRight (if c then rules.EqReflexive else rules.EqTransitive) [] none (map (term_said t) (path_clause ts steps x y))) (sym test) (
-            record { literals = map (term_said t) (map (denied_step ts) steps); one = term_at t x; other = term_at t y; same = split },
+          subst (λ c. IsRight (if c then rules.EqReflexive else rules.EqTransitive) [] none (map (claim_as_term t) (path_clause ts steps x y))) (sym test) (
+            record { literals = map (claim_as_term t) (map (denied_step ts) steps); one = term_at t x; other = term_at t y; same = split },
             nonempty steps leads d,
             path_lead t ts steps x.0 y.0 leads (λ k e lt. step_joins (get_or steps k e) (path-along v.edges x.0 y.0 k e lt)),
           )
@@ -149,18 +149,18 @@ module _ (s : ExplanationSetting) (needed after : List Bool) (steps steps_after 
       edge_low : All (λ i. i < length needed) (edges_on told_path)
       edge_low = All-map (λ i. i < length needed) (λ (w : PathStep). w.edge) told_path (subst (λ n. All (λ (w : PathStep). w.edge < n) told_path) (sym count) (path_low s.edges x.0 y.0))
 
-  step_shown : (k : ℕ) (z : PathStep) → z.edge < k → Contains told_path z → ShowsLiteral s k told_notes (complement (literal_said s.table (denied_step s.truths z)))
+  step_shown : (k : ℕ) (z : PathStep) → z.edge < k → Contains told_path z → ShowsLiteral s k told_notes (complement (claim_as_literal s.table (denied_step s.truths z)))
   step_shown k z lt z_in = λ more assumed sw aw ih.
       subst (λ c. Propagates complement more assumed (literal_claimed s.table c))
       (sym (step_says s.truths s.edges z (All-contains (IsAlong s.edges) told_path z (path-along s.edges x.0 y.0) z_in))) (ih z.edge lt (is_needed z z_in))
 
   -- with the step of its clause
-  pub tells_path : steps_after ≡ steps ++ map (literal_said s.table) (path_clause s.truths told_path x y) ∷ [] → TellsPair s (record { needed = needed; steps = steps; stated = [] }) told_notes x y
+  pub tells_path : steps_after ≡ steps ++ map (claim_as_literal s.table) (path_clause s.truths told_path x y) ∷ [] → TellsPair s (record { needed = needed; steps = steps; stated = [] }) told_notes x y
   tells_path is = λ k le linked. (
-    grows (map (literal_said s.table) (path_clause s.truths told_path x y) ∷ []) is k le linked,
+    grows (map (claim_as_literal s.table) (path_clause s.truths told_path x y) ∷ []) is k le linked,
     shows_last s k told_notes (map (denied_step s.truths) told_path) (equality_claim x y)
-        (subst (λ ds. Contains ds (map (literal_said s.table) (path_clause s.truths told_path x y))) (sym is) (Contains-push steps (map (literal_said s.table) (path_clause s.truths told_path x y))))
-        (All-map (λ m. ShowsLiteral s k told_notes (complement (literal_said s.table m))) (denied_step s.truths) told_path
+        (subst (λ ds. Contains ds (map (claim_as_literal s.table) (path_clause s.truths told_path x y))) (sym is) (Contains-push steps (map (claim_as_literal s.table) (path_clause s.truths told_path x y))))
+        (All-map (λ m. ShowsLiteral s k told_notes (complement (claim_as_literal s.table m))) (denied_step s.truths) told_path
         (λ j d lt. step_shown k (get_or told_path j d) (low k le linked j d lt) (Contains-get_or told_path j d lt))),
   )
 
@@ -177,8 +177,8 @@ module _ (s : ExplanationSetting) (needed after : List Bool) (steps steps_after 
       go k (z ∷ w ∷ ss) there lows e = absurd (cc)
       go k (z ∷ []) there lows e =
           let one : denied_step s.truths z ≡ m = cc in
-          let same : complement (literal_said s.table (denied_step s.truths z)) ≡ literal_claimed s.table (Equality x y) =
-          ap (λ (n : SignedClaim). complement (literal_said s.table (record { claim = n.claim; positive = false }))) one ∙ ap (λ (u : Term). let l : Literal = record { atom = u; positive = true } in l) says_so in
+          let same : complement (claim_as_literal s.table (denied_step s.truths z)) ≡ literal_claimed s.table (Equality x y) =
+          ap (λ (n : SignedClaim). complement (claim_as_literal s.table (record { claim = n.claim; positive = false }))) one ∙ ap (λ (u : Term). let l : Literal = record { atom = u; positive = true } in l) says_so in
           subst (ShowsLiteral s k told_notes) same (step_shown k z (All-head (λ (w : PathStep). w.edge < k) z [] lows) (there z (first z [])))
 
 -- it says so over the table of the start too

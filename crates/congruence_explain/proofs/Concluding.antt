@@ -43,7 +43,7 @@ use Rattle.proof_log.specs.Theories.{Derived, DerivesLemmas}
 use Rattle.proof_log.proofs.Logged.{numbers_there, premises_there}
 use Rattle.congruence_explain.specs.declared.claims.Claim.TheVariants.{Equality}
 use Rattle.congruence_explain.specs.declared.claims.SignedClaim.{SignedClaim}
-use Rattle.congruence_explain.specs.Claims.{no_term_id, term_said, literal_said, literal_claimed, IsClaimOf, unequal, said_value}
+use Rattle.congruence_explain.specs.Claims.{no_term_id, claim_as_term, claim_as_literal, literal_claimed, IsClaimOf, unequal, value_claim}
 use Rattle.congruence_explain.specs.Basis.{IsBasis, AreLinkedIn, IsEqualityIn, HasLinkedSides}
 use Rattle.congruence_explain.specs.Steps.{Start, derived, begun, spoken, Explains, literals_logged, steps_since, ExplanationSetting, setting, HasPut, all_denied, apart, IsDenial, IsCollected, IsExplained, others_of, AreNumbersFrom}
 use Rattle.congruence_explain.proofs.Terms.{claims_in, literals_put}
@@ -79,11 +79,11 @@ premise_literals t log (id ∷ ids) = ap (λ z. literals_logged t (logged_at log
 
 -- from the steps since the start a clause follows by resolution
 pub resolution_follows : (start : Start) (t : TableView) (log : List Logged) (from : ℕ) (ids : List StepId) (clause : List SignedClaim) → from ≡ length start.log → AreNumbersFrom log from ids → All (λ s. IsClaimOf (spoken start) start.table s.claim) clause
-    → Conflicts complement (steps_since start (derived t log)) (all_denied start.table clause) → FollowsFrom (derivation_in t log) (by_rule Resolution (numbers_of ids) none (map (term_said start.table) clause))
+    → Conflicts complement (steps_since start (derived t log)) (all_denied start.table clause) → FollowsFrom (derivation_in t log) (by_rule Resolution (numbers_of ids) none (map (claim_as_term start.table) clause))
 resolution_follows start t log from ids clause from_is numbers claims conflict = (
   numbers_there t log ids numbers.there,
-  subst (λ cs. IsResolvent cs (map (term_said start.table) clause)) (sym (premises_there t log ids numbers.there))
-      (subst (λ ls. Conflicts complement ls (map complement (literals_of (map (term_said start.table) clause)))) (sym premises)
+  subst (λ cs. IsResolvent cs (map (claim_as_term start.table) clause)) (sym (premises_there t log ids numbers.there))
+      (subst (λ ls. Conflicts complement ls (map complement (literals_of (map (claim_as_term start.table) clause)))) (sym premises)
       (subst (λ ls. Conflicts complement (steps_since start (derived t log)) (map complement ls)) (sym (literals_put start.table clause (claims_in (spoken start) start.table clause claims))) conflict)),
 )
   where
@@ -91,15 +91,15 @@ resolution_follows start t log from ids clause from_is numbers claims conflict =
     premises = premise_literals t log ids ∙ ap (map (literals_logged t)) (numbers.all ∙ ap (λ n. drop n log) from_is) ∙ sym (drop-map (literals_logged t) (length start.log) log)
 
 -- the two sides of an equality are equal and are not
-pub sides_conflict : (s : ExplanationSetting) (steps : List (List Literal)) (e a c : TermId) (stated clause : List SignedClaim) → IsEqualityIn s.table e a c → IsCollected s steps a c stated → clause ≡ stated ++ said_value e true ∷ [] → Conflicts complement steps (all_denied s.table clause)
+pub sides_conflict : (s : ExplanationSetting) (steps : List (List Literal)) (e a c : TermId) (stated clause : List SignedClaim) → IsEqualityIn s.table e a c → IsCollected s steps a c stated → clause ≡ stated ++ value_claim e true ∷ [] → Conflicts complement steps (all_denied s.table clause)
 sides_conflict s steps e a c stated clause q collected is = both_ways (literal_claimed s.table (Equality a c))
-    (derives_more steps steps (all_denied s.table stated) (all_denied s.table clause) (λ x i. i) (denied_more s.table stated clause (within_more stated clause (said_value e true ∷ []) is)) (literal_claimed s.table (Equality a c)) collected.shown)
+    (derives_more steps steps (all_denied s.table stated) (all_denied s.table clause) (λ x i. i) (denied_more s.table stated clause (within_more stated clause (value_claim e true ∷ []) is)) (literal_claimed s.table (Equality a c)) collected.shown)
     (given (complement (literal_claimed s.table (Equality a c))) (subst (Contains (all_denied s.table clause)) same last))
   where
-    last : Contains (all_denied s.table clause) (complement (literal_said s.table (said_value e true)))
-    last = to_image complement (map (literal_said s.table) clause) (literal_said s.table (said_value e true)) (to_image (literal_said s.table) clause (said_value e true) (subst (λ zs. Contains zs (said_value e true)) (sym is) (Contains-push stated (said_value e true))))
+    last : Contains (all_denied s.table clause) (complement (claim_as_literal s.table (value_claim e true)))
+    last = to_image complement (map (claim_as_literal s.table) clause) (claim_as_literal s.table (value_claim e true)) (to_image (claim_as_literal s.table) clause (value_claim e true) (subst (λ zs. Contains zs (value_claim e true)) (sym is) (Contains-push stated (value_claim e true))))
 
-    same : complement (literal_said s.table (said_value e true)) ≡ complement (literal_claimed s.table (Equality a c))
+    same : complement (claim_as_literal s.table (value_claim e true)) ≡ complement (literal_claimed s.table (Equality a c))
     same = ap (λ (x : Term). let l : Literal = record { atom = x; positive = false } in l) q.is
 
 -- `true` and `false` are equal and are not
@@ -110,19 +110,19 @@ truths_conflict s steps after stated collected is = both_ways off off_derived (b
     assumed = all_denied s.table stated
 
     joined : Literal
-    joined = literal_said s.table (unequal s.truths.true_term s.truths.false_term)
+    joined = claim_as_literal s.table (unequal s.truths.true_term s.truths.false_term)
 
     yes : Literal
-    yes = literal_said s.table (said_value s.truths.true_term true)
+    yes = claim_as_literal s.table (value_claim s.truths.true_term true)
 
     not_yes : Literal
-    not_yes = literal_said s.table (said_value s.truths.true_term false)
+    not_yes = claim_as_literal s.table (value_claim s.truths.true_term false)
 
     off : Literal
-    off = literal_said s.table (said_value s.truths.false_term true)
+    off = claim_as_literal s.table (value_claim s.truths.false_term true)
 
     not_off : Literal
-    not_off = literal_said s.table (said_value s.truths.false_term false)
+    not_off = claim_as_literal s.table (value_claim s.truths.false_term false)
 
     clause : List Literal
     clause = joined ∷ not_yes ∷ off ∷ []
@@ -261,30 +261,30 @@ module _ (t : TableView) (ts : Truths) (v : ForestState) (f : Facts) (b : IsBasi
       same_lit : (l m : Lit) → IsIn t l.term → IsIn now.table m.term → literal_at t l ≡ literal_at now.table m → l ≡ m
       same_lit l m l_in m_in is = literals_apart now.table differ l m (IsIn-kept t now.table more l.term l_in) m_in (literal_at-kept t now.table more l l_in ∙ is)
 
-      other : (c : Conflict) → IsConflict f v.edges c → (m : Lit) (x : SignedClaim) → Contains (others_of c) x → IsIn now.table m.term → literal_said t x ≡ literal_at now.table m → Contains f.held (lit_complement m)
+      other : (c : Conflict) → IsConflict f v.edges c → (m : Lit) (x : SignedClaim) → Contains (others_of c) x → IsIn now.table m.term → claim_as_literal t x ≡ literal_at now.table m → Contains f.held (lit_complement m)
       other conflicts.Truths wrong m x i m_in is = absurd (none_in x i)
       other (conflicts.Sides side) wrong m x i m_in is =
           let l : Lit = record { term = side; positive = true } in
           let there = (held_atom t ts v f b (record { term = side; positive = false }) wrong.0).0.0 in
-          subst (λ z. Contains f.held (lit_complement z)) (same_lit l m there m_in (ap (literal_said t) (only (said_value side true) x i) ∙ is)) wrong.0
+          subst (λ z. Contains f.held (lit_complement z)) (same_lit l m there m_in (ap (claim_as_literal t) (only (value_claim side true) x i) ∙ is)) wrong.0
 
       fails : (m : Lit) → HasLit now.table now.log id m → Contains f.held (lit_complement m)
       fails m has =
-          let (x, x_in, x_is) = from_image (literal_said t) e.clause (literal_at now.table m) (subst (λ ls. Contains ls (literal_at now.table m)) e.literals has.there) in
+          let (x, x_in, x_is) = from_image (claim_as_literal t) e.clause (literal_at now.table m) (subst (λ ls. Contains ls (literal_at now.table m)) e.literals has.there) in
           go x x_is (All-contains (λ y. IsDenial (setting t ts v) y ⊎ Contains (others_of conflict) y) e.clause x e.each x_in)
         where
-          go : (x : SignedClaim) → literal_said t x ≡ literal_at now.table m → IsDenial (setting t ts v) x ⊎ Contains (others_of conflict) x → Contains f.held (lit_complement m)
+          go : (x : SignedClaim) → claim_as_literal t x ≡ literal_at now.table m → IsDenial (setting t ts v) x ⊎ Contains (others_of conflict) x → Contains f.held (lit_complement m)
           go x is (inr i) = other conflict wrong m x i has.in_table is
           go x is (inl (l, k, lt, label, d)) =
               let l_in = label_held k l lt label in
               let there = (held_atom t ts v f b l l_in).0.0 in
-              let same = same_lit (lit_complement l) m there has.in_table (ap (literal_said t) (sym d) ∙ is) in
+              let same = same_lit (lit_complement l) m there has.in_table (ap (claim_as_literal t) (sym d) ∙ is) in
               subst (Contains f.held) (sym (negation_twice l) ∙ ap lit_complement same) l_in
 
 -- the last clause as it is put
 pub explained_put : (s : ExplanationSetting) (start : Start) (old now : Derived) (clause others : List SignedClaim) → s.table ≡ start.table → All (λ m. IsDenial s m ⊎ Contains others m) clause
-    → (r : Result StepId NoMemory) → IfOk r (HasPut start old now (map (literal_said start.table) clause)) → IfOk r (IsExplained s now others)
-explained_put s start old now clause others same each (Ok id) put = record { there = put.there; clause = clause; literals = put.clause_is ∙ ap (λ (t : TableView). map (literal_said t) clause) (sym same); each = each }
+    → (r : Result StepId NoMemory) → IfOk r (HasPut start old now (map (claim_as_literal start.table) clause)) → IfOk r (IsExplained s now others)
+explained_put s start old now clause others same each (Ok id) put = record { there = put.there; clause = clause; literals = put.clause_is ∙ ap (λ (t : TableView). map (claim_as_literal t) clause) (sym same); each = each }
 explained_put s start old now clause others same each (Err e) put = tt
 
 pub each_denied : (s : ExplanationSetting) (others stated : List SignedClaim) → All (IsDenial s) stated → All (λ m. IsDenial s m ⊎ Contains others m) stated

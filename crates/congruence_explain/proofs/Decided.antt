@@ -21,7 +21,7 @@ use Rattle.proof_log.specs.Theories.{IsAtomIn}
 use Rattle.congruence_explain.specs.declared.claims.Claim.TheVariants.{Equality, Atom}
 use Rattle.congruence_explain.specs.declared.claims.SignedClaim.{SignedClaim}
 use Rattle.congruence_explain.specs.Rules.{value_rule, decided_rule}
-use Rattle.congruence_explain.specs.Claims.{term_said, literal_said, literal_claimed, IsClaimOf, equality_claim, unequal, denied, said_value}
+use Rattle.congruence_explain.specs.Claims.{claim_as_term, claim_as_literal, literal_claimed, IsClaimOf, equality_claim, unequal, denied, value_claim}
 use Rattle.congruence_explain.specs.Basis.{AreTruths}
 use Rattle.congruence_explain.specs.Steps.{ExplanationSetting, ShowsLiteral, all_denied, decision}
 use Rattle.congruence_explain.proofs.Shown.{by_clause}
@@ -41,11 +41,11 @@ module _ (t : TableView) (ts : Truths) (h : AreTruths t ts) where
   value_atom true = ((h.true_term.0, record { term = h.true_term.1; sort = ap sort_of h.true_is ∙ true_sort }), subst (λ (x : Term). literal_of x ≡ positive_literal x) (sym h.true_is) true_atom)
   value_atom false = ((h.false_term.0, record { term = h.false_term.1; sort = ap sort_of h.false_is ∙ false_sort }), subst (λ (x : Term). literal_of x ≡ positive_literal x) (sym h.false_is) false_atom)
 
-  pub value_in : (terms : List Term) (p q : Bool) → All (λ s. IsClaimOf terms t s.claim) (said_value (truth_of ts p) q ∷ [])
-  value_in terms p q = All-cons (λ (s : SignedClaim). IsClaimOf terms t s.claim) (said_value (truth_of ts p) q) [] (value_atom p, truth_made terms t ts h p) (All-nil (λ (s : SignedClaim). IsClaimOf terms t s.claim))
+  pub value_in : (terms : List Term) (p q : Bool) → All (λ s. IsClaimOf terms t s.claim) (value_claim (truth_of ts p) q ∷ [])
+  value_in terms p q = All-cons (λ (s : SignedClaim). IsClaimOf terms t s.claim) (value_claim (truth_of ts p) q) [] (value_atom p, truth_made terms t ts h p) (All-nil (λ (s : SignedClaim). IsClaimOf terms t s.claim))
 
   -- a truth value is stated
-  pub value_right : (p : Bool) → IsRight (value_rule p) [] none (map (term_said t) (said_value (truth_of ts p) p ∷ []))
+  pub value_right : (p : Bool) → IsRight (value_rule p) [] none (map (claim_as_term t) (value_claim (truth_of ts p) p ∷ []))
   value_right true = subst (λ (x : Term). IsRight rules.True [] none (x ∷ [])) (sym h.true_is) (of True [], first (of True [] ∷ []) [])
   value_right false = subst (λ (x : Term). IsRight rules.False [] none (negated x ∷ [])) (sym h.false_is) (of False [], first (negated (of False []) ∷ []) [])
 
@@ -61,19 +61,19 @@ module _ (t : TableView) (ts : Truths) (h : AreTruths t ts) where
       subst (λ cs. Contains cs (signed_term s.positive e ∷ ls)) (sym all) (first (signed_term s.positive e ∷ ls) [])
 
   abbrev pub decided_clause : Lit → List SignedClaim
-  decided_clause l = equality_claim l.term (truth_of ts l.positive) ∷ denied l ∷ said_value (truth_of ts l.positive) (not l.positive) ∷ []
+  decided_clause l = equality_claim l.term (truth_of ts l.positive) ∷ denied l ∷ value_claim (truth_of ts l.positive) (not l.positive) ∷ []
 
   pub decided_in : (terms : List Term) (l : Lit) → IsAtomIn t l.term → IsMadeOf terms (term_at t l.term) → All (λ s. IsClaimOf terms t s.claim) (decided_clause l)
   decided_in terms l a made =
       let P : SignedClaim → Type 0 = λ s. IsClaimOf terms t s.claim in
       let value = value_atom l.positive in
       let value_made = truth_made terms t ts h l.positive in
-      All-cons P (equality_claim l.term (truth_of ts l.positive)) (denied l ∷ said_value (truth_of ts l.positive) (not l.positive) ∷ [])
+      All-cons P (equality_claim l.term (truth_of ts l.positive)) (denied l ∷ value_claim (truth_of ts l.positive) (not l.positive) ∷ [])
       (((a.0.0, a.0.1.term), (value.0.0, value.0.1.term), a.0.1.sort ∙ sym value.0.1.sort), is_equality (term_at t l.term) (term_at t (truth_of ts l.positive)) made value_made)
-      (All-cons P (denied l) (said_value (truth_of ts l.positive) (not l.positive) ∷ []) (a, made) (All-cons P (said_value (truth_of ts l.positive) (not l.positive)) [] (value, value_made) (All-nil P)))
+      (All-cons P (denied l) (value_claim (truth_of ts l.positive) (not l.positive) ∷ []) (a, made) (All-cons P (value_claim (truth_of ts l.positive) (not l.positive)) [] (value, value_made) (All-nil P)))
 
   -- a formula is equality_claim to its truth value
-  pub decided_right : (l : Lit) → IsAtomIn t l.term → IsRight (decided_rule l.positive) [] none (map (term_said t) (decided_clause l))
+  pub decided_right : (l : Lit) → IsAtomIn t l.term → IsRight (decided_rule l.positive) [] none (map (claim_as_term t) (decided_clause l))
   decided_right l a = go l.positive
     where
       x : Term
@@ -84,7 +84,7 @@ module _ (t : TableView) (ts : Truths) (h : AreTruths t ts) where
       go false = (equal_terms x (term_at t ts.false_term), given_by equiv_neg2 x (term_at t ts.false_term) (x ∷ term_at t ts.false_term ∷ []) refl a.0.1.sort (value_atom false).0.1.sort refl)
 
   abbrev pub apart_clause : List SignedClaim
-  apart_clause = unequal ts.true_term ts.false_term ∷ said_value ts.true_term false ∷ said_value ts.false_term true ∷ []
+  apart_clause = unequal ts.true_term ts.false_term ∷ value_claim ts.true_term false ∷ value_claim ts.false_term true ∷ []
 
   pub apart_in : (terms : List Term) → All (λ s. IsClaimOf terms t s.claim) apart_clause
   apart_in terms =
@@ -93,12 +93,12 @@ module _ (t : TableView) (ts : Truths) (h : AreTruths t ts) where
       let off = value_atom false in
       let yes_made = truth_made terms t ts h true in
       let off_made = truth_made terms t ts h false in
-      All-cons P (unequal ts.true_term ts.false_term) (said_value ts.true_term false ∷ said_value ts.false_term true ∷ [])
+      All-cons P (unequal ts.true_term ts.false_term) (value_claim ts.true_term false ∷ value_claim ts.false_term true ∷ [])
       ((h.true_term, h.false_term, yes.0.1.sort ∙ sym off.0.1.sort), is_equality (term_at t ts.true_term) (term_at t ts.false_term) yes_made off_made)
-      (All-cons P (said_value ts.true_term false) (said_value ts.false_term true ∷ []) (yes, yes_made) (All-cons P (said_value ts.false_term true) [] (off, off_made) (All-nil P)))
+      (All-cons P (value_claim ts.true_term false) (value_claim ts.false_term true ∷ []) (yes, yes_made) (All-cons P (value_claim ts.false_term true) [] (off, off_made) (All-nil P)))
 
   -- where `true` is equality_claim to `false`, this is true
-  pub apart_right : IsRight rules.EquivPos2 [] none (map (term_said t) apart_clause)
+  pub apart_right : IsRight rules.EquivPos2 [] none (map (claim_as_term t) apart_clause)
   apart_right = (
     equal_terms (term_at t ts.true_term) (term_at t ts.false_term),
     given_by equiv_pos2 (term_at t ts.true_term) (term_at t ts.false_term) (negated (term_at t ts.true_term) ∷ term_at t ts.false_term ∷ []) refl (value_atom true).0.1.sort (value_atom false).0.1.sort refl,
@@ -110,15 +110,15 @@ not_twice false = refl
 
 module _ (s : ExplanationSetting) (k : ℕ) (needed : List Bool) (steps steps_after : List (List Literal)) (stated stated_after : List SignedClaim) (l : Lit) (later_stated : stated_after ≡ stated ++ denied l ∷ []) where
   -- the literal is assumed
-  pub held_assumed : (assumed : List Literal) → IsWithin (all_denied s.table stated_after) assumed → Contains assumed (complement (literal_said s.table (denied l)))
-  held_assumed assumed aw = aw (complement (literal_said s.table (denied l)))
-      (to_image complement (map (literal_said s.table) stated_after) (literal_said s.table (denied l)) (to_image (literal_said s.table) stated_after (denied l) (subst (λ zs. Contains zs (denied l)) (sym later_stated) (Contains-push stated (denied l)))))
+  pub held_assumed : (assumed : List Literal) → IsWithin (all_denied s.table stated_after) assumed → Contains assumed (complement (claim_as_literal s.table (denied l)))
+  held_assumed assumed aw = aw (complement (claim_as_literal s.table (denied l)))
+      (to_image complement (map (claim_as_literal s.table) stated_after) (claim_as_literal s.table (denied l)) (to_image (claim_as_literal s.table) stated_after (denied l) (subst (λ zs. Contains zs (denied l)) (sym later_stated) (Contains-push stated (denied l)))))
 
   -- so itself is shown
   pub shows_itself : l.positive ≡ true → ShowsLiteral s k (record { needed = needed; steps = steps_after; stated = stated_after }) (literal_claimed s.table (Atom l.term))
   shows_itself positive = λ more assumed sw aw ih.
-      let same : complement (literal_said s.table (denied l)) ≡ literal_claimed s.table (Atom l.term) = (λ i. record { atom = term_at s.table l.term; positive = (not_twice l.positive ∙ positive) i }) in
-      subst (Propagates complement more assumed) same (given (complement (literal_said s.table (denied l))) (held_assumed assumed aw))
+      let same : complement (claim_as_literal s.table (denied l)) ≡ literal_claimed s.table (Atom l.term) = (λ i. record { atom = term_at s.table l.term; positive = (not_twice l.positive ∙ positive) i }) in
+      subst (Propagates complement more assumed) same (given (complement (claim_as_literal s.table (denied l))) (held_assumed assumed aw))
 
   -- or that its term is equality_claim to its truth value
   pub shows_decided : steps_after ≡ steps ++ decision s.table s.truths l → ShowsLiteral s k (record { needed = needed; steps = steps_after; stated = stated_after }) (literal_claimed s.table (Equality l.term (truth_of s.truths l.positive)))
@@ -129,16 +129,16 @@ module _ (s : ExplanationSetting) (k : ℕ) (needed : List Bool) (steps steps_af
       value = truth_of s.truths l.positive
 
       goal : Literal
-      goal = literal_said s.table (equality_claim l.term value)
+      goal = claim_as_literal s.table (equality_claim l.term value)
 
       one : Literal
-      one = literal_said s.table (denied l)
+      one = claim_as_literal s.table (denied l)
 
       two : Literal
-      two = literal_said s.table (said_value value (not l.positive))
+      two = claim_as_literal s.table (value_claim value (not l.positive))
 
       states : List Literal
-      states = literal_said s.table (said_value value l.positive) ∷ []
+      states = claim_as_literal s.table (value_claim value l.positive) ∷ []
 
       clause : List Literal
       clause = goal ∷ one ∷ two ∷ []
@@ -147,9 +147,9 @@ module _ (s : ExplanationSetting) (k : ℕ) (needed : List Bool) (steps steps_af
       step_in c i = subst (λ zs. Contains zs c) (sym is) (Contains-append_right steps (states ∷ clause ∷ []) c i)
 
       -- the truth value is derived
-      value_derived : (more : List (List Literal)) (assumed : List Literal) → IsWithin steps_after more → Propagates complement more assumed (literal_said s.table (said_value value l.positive))
-      value_derived more assumed sw = by_clause more assumed states (literal_said s.table (said_value value l.positive)) (sw states (step_in states (first states (clause ∷ [])))) (first (literal_said s.table (said_value value l.positive)) [])
-          (λ m i. inl (sym (only (literal_said s.table (said_value value l.positive)) m i)))
+      value_derived : (more : List (List Literal)) (assumed : List Literal) → IsWithin steps_after more → Propagates complement more assumed (claim_as_literal s.table (value_claim value l.positive))
+      value_derived more assumed sw = by_clause more assumed states (claim_as_literal s.table (value_claim value l.positive)) (sw states (step_in states (first states (clause ∷ [])))) (first (claim_as_literal s.table (value_claim value l.positive)) [])
+          (λ m i. inl (sym (only (claim_as_literal s.table (value_claim value l.positive)) m i)))
 
       go : (more : List (List Literal)) (assumed : List Literal) → IsWithin steps_after more → IsWithin (all_denied s.table stated_after) assumed → (m : Literal) → (goal ≡ m) ⊎ Contains (one ∷ two ∷ []) m → (m ≡ goal) ⊎ Propagates complement more assumed (complement m)
       go more assumed sw aw m (inl e) = inl (sym e)
@@ -158,7 +158,7 @@ module _ (s : ExplanationSetting) (k : ℕ) (needed : List Bool) (steps steps_af
           rest : (one ≡ m) ⊎ Contains (two ∷ []) m → Propagates complement more assumed (complement m)
           rest (inl e) = subst (λ z. Propagates complement more assumed (complement z)) e (given (complement one) (held_assumed assumed aw))
           rest (inr j) =
-              let same : literal_said s.table (said_value value l.positive) ≡ complement two = (λ i. record { atom = term_at s.table value; positive = sym (not_twice l.positive) i }) in
+              let same : claim_as_literal s.table (value_claim value l.positive) ≡ complement two = (λ i. record { atom = term_at s.table value; positive = sym (not_twice l.positive) i }) in
               subst (λ z. Propagates complement more assumed (complement z)) (only two m j) (subst (Propagates complement more assumed) same (value_derived more assumed sw))
 
 -- two clauses more, and three

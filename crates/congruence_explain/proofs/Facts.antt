@@ -209,8 +209,8 @@ module _ (t : TableView) (ts : Truths) (v : ForestState) (f : Facts) (b : IsBasi
       value : TermId
       value = truth_of ts l.positive
 
-      said : (c : Bool) → joins e.a e.b l.term value ≡ c → says ts (Held l) e.a e.b ≡ (if c then Equality l.term value else Atom l.term)
-      said c is = ap (λ d. if d then Equality l.term value else Atom l.term) is
+      signed_claim : (c : Bool) → joins e.a e.b l.term value ≡ c → says ts (Held l) e.a e.b ≡ (if c then Equality l.term value else Atom l.term)
+      signed_claim c is = ap (λ d. if d then Equality l.term value else Atom l.term) is
 
       truth_is : truth_of f.truths l.positive ≡ value
       truth_is = ap (λ (us : Truths). truth_of us l.positive) b.truths
@@ -224,10 +224,10 @@ module _ (t : TableView) (ts : Truths) (v : ForestState) (f : Facts) (b : IsBasi
 
       go : (((e.a ≡ l.term) × (e.b ≡ value)) ⊎ ((e.a ≡ value) × (e.b ≡ l.term))) ⊎ (joins e.a e.b l.term value ≡ false) → StatesEqual f l e.a e.b ⊎ StatesEqual f l e.b e.a
           → Joins (Some (term_claimed t (says ts (Held l) e.a e.b))) (term_at t e.a) (term_at t e.b)
-      go (inl (inl p)) h = inl (ap (λ c. Some (term_claimed t c)) (said true (joined e.a e.b p.0 p.1)) ∙ (λ i. Some (equal_terms (term_at t (sym p.0 i)) (term_at t (sym p.1 i)))))
-      go (inl (inr p)) h = inr (ap (λ c. Some (term_claimed t c)) (said true (joins_turned e.a e.b l.term value ∙ joined e.b e.a p.1 p.0)) ∙ (λ i. Some (equal_terms (term_at t (sym p.1 i)) (term_at t (sym p.0 i)))))
-      go (inr off) (inl h) = inl (ap (λ c. Some (term_claimed t c)) (said false off) ∙ ap Some (apart e.a e.b off h))
-      go (inr off) (inr h) = inr (ap (λ c. Some (term_claimed t c)) (said false off) ∙ ap Some (apart e.b e.a (joins_turned e.b e.a l.term value ∙ off) h))
+      go (inl (inl p)) h = inl (ap (λ c. Some (term_claimed t c)) (signed_claim true (joined e.a e.b p.0 p.1)) ∙ (λ i. Some (equal_terms (term_at t (sym p.0 i)) (term_at t (sym p.1 i)))))
+      go (inl (inr p)) h = inr (ap (λ c. Some (term_claimed t c)) (signed_claim true (joins_turned e.a e.b l.term value ∙ joined e.b e.a p.1 p.0)) ∙ (λ i. Some (equal_terms (term_at t (sym p.1 i)) (term_at t (sym p.0 i)))))
+      go (inr off) (inl h) = inl (ap (λ c. Some (term_claimed t c)) (signed_claim false off) ∙ ap Some (apart e.a e.b off h))
+      go (inr off) (inr h) = inr (ap (λ c. Some (term_claimed t c)) (signed_claim false off) ∙ ap Some (apart e.b e.a (joins_turned e.b e.a l.term value ∙ off) h))
 
   -- and can be put
   says_in : (es : List Edge) (e : Edge) (l : Label) → IsEdgeReason f es e l → number_sort t e.a.0 ≡ number_sort t e.b.0 → IsClaimOf (terms_listed t f) t (says ts l e.a e.b)

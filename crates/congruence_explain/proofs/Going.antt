@@ -20,7 +20,7 @@ use Rattle.congruence_explain.specs.declared.claims.Claim.TheVariants.{Equality,
 use Rattle.congruence_explain.specs.declared.claims.SignedClaim.{SignedClaim}
 use Rattle.congruence_explain.specs.Claims.{literal_claimed, denied, joins, says, edge_says}
 use Rattle.congruence_explain.specs.Basis.{IsBasis, IsAtomLiteral, IsByArguments}
-use Rattle.congruence_explain.specs.Steps.{ExplanationSetting, Notes, all_denied, said_by, IsNeeded, ShowsLiteral, decision, IsDenial, TellsPair, TellsEdge, Going, GoesOn, IsCollected}
+use Rattle.congruence_explain.specs.Steps.{ExplanationSetting, Notes, all_denied, edge_literal, IsNeeded, ShowsLiteral, decision, IsDenial, TellsPair, TellsEdge, Going, GoesOn, IsCollected}
 use Rattle.congruence_explain.proofs.Shown.{within_more, grows_stated, shows_more, shows_stated}
 use Rattle.congruence_explain.proofs.Facts.{reason_at, held_atom, held_made, truths_in, joins_turned, same_joins}
 use Rattle.congruence_explain.proofs.Decided.{shows_itself, shows_decided}
@@ -60,7 +60,7 @@ pub edge_with : (s : ExplanationSetting) (k : ℕ) (needed after : List Bool) (s
     → TellsEdge s k (record { needed = needed; steps = steps; stated = stated }) (record { needed = after; steps = steps_after; stated = stated })
 edge_with s k needed after steps steps_after stated h = (
   grows_stated k (record { needed = needed; steps = steps; stated = [] }) (record { needed = after; steps = steps_after; stated = [] }) stated h.0,
-  shows_stated s k after steps_after stated (said_by s k) h.1,
+  shows_stated s k after steps_after stated (edge_literal s k) h.1,
 )
 
 module _ (s : ExplanationSetting) (k : ℕ) (lt : k < length s.edges) where
@@ -73,15 +73,15 @@ module _ (s : ExplanationSetting) (k : ℕ) (lt : k < length s.edges) where
     held = subst (All (IsDenial s)) (sym is) (All-append (IsDenial s) old.stated more g.held denials);
   }
     where
-      go : ((j : ℕ) → k + 1 ≤ j → j < length s.edges → IsNeeded old.needed j → ShowsLiteral s j old (said_by s j)) → (j : ℕ) → k ≤ j → j < length s.edges → IsNeeded new.needed j → (j ≡ k) ⊎ (j ≢ k) → ShowsLiteral s j new (said_by s j)
-      go ih j low high n (inl e) = subst (λ i. ShowsLiteral s i new (said_by s i)) (sym e) told.1
-      go ih j low high n (inr d) = shows_more s j k old new told.0 (said_by s j) (ih j (omega arith) high (sym (told.0.same j low) ∙ n))
+      go : ((j : ℕ) → k + 1 ≤ j → j < length s.edges → IsNeeded old.needed j → ShowsLiteral s j old (edge_literal s j)) → (j : ℕ) → k ≤ j → j < length s.edges → IsNeeded new.needed j → (j ≡ k) ⊎ (j ≢ k) → ShowsLiteral s j new (edge_literal s j)
+      go ih j low high n (inl e) = subst (λ i. ShowsLiteral s i new (edge_literal s i)) (sym e) told.1
+      go ih j low high n (inr d) = shows_more s j k old new told.0 (edge_literal s j) (ih j (omega arith) high (sym (told.0.same j low) ∙ n))
 
   -- and one that is not
   pub going_past : (n : Notes) → slice_index_or n.needed k false ≡ false → GoesOn s k n n
   going_past n off = λ goal g. record { count = g.count; explained = λ j low high need. go g.explained j low high need (cases_eq j k); shown = g.shown; held = g.held }
     where
-      go : ((j : ℕ) → k + 1 ≤ j → j < length s.edges → IsNeeded n.needed j → ShowsLiteral s j n (said_by s j)) → (j : ℕ) → k ≤ j → j < length s.edges → IsNeeded n.needed j → (j ≡ k) ⊎ (j ≢ k) → ShowsLiteral s j n (said_by s j)
+      go : ((j : ℕ) → k + 1 ≤ j → j < length s.edges → IsNeeded n.needed j → ShowsLiteral s j n (edge_literal s j)) → (j : ℕ) → k ≤ j → j < length s.edges → IsNeeded n.needed j → (j ≡ k) ⊎ (j ≢ k) → ShowsLiteral s j n (edge_literal s j)
       go ih j low high need (inl e) = absurd (true≢false (sym need ∙ ap (λ i. slice_index_or n.needed i false) e ∙ off))
       go ih j low high need (inr d) = ih j (omega arith) high need
 
@@ -103,7 +103,7 @@ module _ (t : TableView) (ts : Truths) (v : ForestState) (f : Facts) (b : IsBasi
   pub held_decided : (l : Lit) → e.label ≡ Held l → IsAtomLiteral (terms_listed t f) t ts l
   held_decided l label = record { atom = held_atom t ts v f b l (reason (Held l) label).0; made = held_made t ts v f b l (reason (Held l) label).0; truths = truths_in t ts v f b }
 
-  -- and says itself only as it stands
+  -- and says itself only as it is
   pub held_positive : (l : Lit) → e.label ≡ Held l → joins e.a e.b l.term (truth_of ts l.positive) ≡ false → l.positive ≡ true
   held_positive l label off = go (reason (Held l) label).1
     where
@@ -120,11 +120,11 @@ module _ (t : TableView) (ts : Truths) (v : ForestState) (f : Facts) (b : IsBasi
 
 -- what is needed is derived, from the oldest edge on
 pub all_derived : (s : ExplanationSetting) (n : Notes) (steps : List (List Literal)) (assumed : List Literal) → IsWithin n.steps steps → IsWithin (all_denied s.table n.stated) assumed
-    → ((j : ℕ) → j < length s.edges → IsNeeded n.needed j → ShowsLiteral s j n (said_by s j)) → (k : ℕ) → k ≤ length s.edges → (i : ℕ) → i < k → IsNeeded n.needed i → Propagates complement steps assumed (said_by s i)
+    → ((j : ℕ) → j < length s.edges → IsNeeded n.needed j → ShowsLiteral s j n (edge_literal s j)) → (k : ℕ) → k ≤ length s.edges → (i : ℕ) → i < k → IsNeeded n.needed i → Propagates complement steps assumed (edge_literal s i)
 all_derived s n steps assumed sw aw each zero le i h need = absurd (omega (arith, h))
 all_derived s n steps assumed sw aw each (suc k) le i h need = go (all_derived s n steps assumed sw aw each k (omega arith)) (cases_eq i k)
   where
-    go : ((i : ℕ) → i < k → IsNeeded n.needed i → Propagates complement steps assumed (said_by s i)) → (i ≡ k) ⊎ (i ≢ k) → Propagates complement steps assumed (said_by s i)
+    go : ((i : ℕ) → i < k → IsNeeded n.needed i → Propagates complement steps assumed (edge_literal s i)) → (i ≡ k) ⊎ (i ≢ k) → Propagates complement steps assumed (edge_literal s i)
     go ih (inl e) = each i (omega arith) need steps assumed sw aw (λ j lt more. ih j (omega arith) more)
     go ih (inr d) = ih i (omega arith) need
 

@@ -21,24 +21,24 @@ use Rattle.proof_log.proofs.Tables.{grown_right, grown_same, grown_lemmas}
 use Rattle.term_clauses.specs.Stating.{Widens}
 use Rattle.term_clauses.proofs.Parts.{formula_kept}
 use Rattle.congruence_explain.specs.declared.claims.SignedClaim.{SignedClaim}
-use Rattle.congruence_explain.specs.Claims.{term_said, literal_said, IsClaimIn, IsClaimOf}
+use Rattle.congruence_explain.specs.Claims.{claim_as_term, claim_as_literal, IsClaimIn, IsClaimOf}
 use Rattle.congruence_explain.specs.Steps.{Start, derived, spoken, Explains, literals_logged, HasPut}
-use Rattle.congruence_explain.proofs.Terms.{claims_in, said_made, claim_kept, said_same, clause_same, literals_put}
+use Rattle.congruence_explain.proofs.Terms.{claims_in, claimed_made, claim_kept, claimed_same, clause_same, literals_put}
 
 -- a literal more is put
 pub terms_more : (t u w : TableView) → Widens t u → Widens u w → (clause : List SignedClaim) (i : ℕ) (d : SignedClaim) → i < length clause → All (λ s. IsClaimIn t s.claim) clause → (ids all : List TermId) (id : TermId) → all ≡ ids ++ id ∷ []
-    → AreFormulasIn u ids → clause_at u ids ≡ map (term_said t) (take i clause) → IsFormulaIn w id → clause_at w (id ∷ []) ≡ term_said u (get_or clause i d) ∷ []
-    → AreFormulasIn w all × (clause_at w all ≡ map (term_said t) (take (i + 1) clause))
+    → AreFormulasIn u ids → clause_at u ids ≡ map (claim_as_term t) (take i clause) → IsFormulaIn w id → clause_at w (id ∷ []) ≡ claim_as_term u (get_or clause i d) ∷ []
+    → AreFormulasIn w all × (clause_at w all ≡ map (claim_as_term t) (take (i + 1) clause))
 terms_more t u w wide wider clause i d lt claims ids all id is formulas same formula one = (
   subst (AreFormulasIn w) (sym is) (All-push (IsFormulaIn w) ids id (λ k e small. formula_kept u w wider (get_or ids k e) (formulas k e small)) formula),
-  ap (clause_at w) is ∙ map-append (term_at w) ids (id ∷ []) ∙ (λ j. before j ++ last j) ∙ sym (map_more (term_said t) clause i d lt),
+  ap (clause_at w) is ∙ map-append (term_at w) ids (id ∷ []) ∙ (λ j. before j ++ last j) ∙ sym (map_more (claim_as_term t) clause i d lt),
 )
   where
-    before : clause_at w ids ≡ map (term_said t) (take i clause)
+    before : clause_at w ids ≡ map (claim_as_term t) (take i clause)
     before = clause_at-kept u w wider.terms ids (λ k e small. (formulas k e small).0) ∙ same
 
-    last : clause_at w (id ∷ []) ≡ term_said t (get_or clause i d) ∷ []
-    last = one ∙ ap (λ x. x ∷ []) (said_same t u wide (get_or clause i d) (claims i d lt))
+    last : clause_at w (id ∷ []) ≡ claim_as_term t (get_or clause i d) ∷ []
+    last = one ∙ ap (λ x. x ∷ []) (claimed_same t u wide (get_or clause i d) (claims i d lt))
 
 -- the table of a start, and one that has more
 pub start_wide : (start : Start) (t : TableView) (log : List Logged) → Explains start (derived t log) → Widens start.table t
@@ -76,13 +76,13 @@ module _ (start : Start) (t u : TableView) (log : List Logged) (derives : Explai
     pub claims_wide : All (λ s. IsClaimIn t s.claim) clause
     claims_wide = λ k d lt. claim_kept start.table t (start_wide start t log derives) (get_or clause k d).claim (claims k d lt).0
 
-    module _ (ids : List TermId) (means : clause_at u ids ≡ map (term_said t) clause) where
+    module _ (ids : List TermId) (means : clause_at u ids ≡ map (claim_as_term t) clause) where
       -- the terms that are put are those of the clause
-      pub terms_are : clause_at u ids ≡ map (term_said start.table) clause
+      pub terms_are : clause_at u ids ≡ map (claim_as_term start.table) clause
       terms_are = means ∙ clause_same start.table t (start_wide start t log derives) clause (claims_in (spoken start) start.table clause claims)
 
       -- so the step follows
-      pub step_follows : (rule : Rule) (ps : List StepId) → FollowsFrom (derivation_in t log) (by_rule rule (numbers_of ps) none (map (term_said start.table) clause))
+      pub step_follows : (rule : Rule) (ps : List StepId) → FollowsFrom (derivation_in t log) (by_rule rule (numbers_of ps) none (map (claim_as_term start.table) clause))
           → FollowsFrom (derivation_in u log) (inference_of u (stepped rule ps [] ids))
       step_follows rule ps follows =
           subst (λ (d : Derivation). FollowsFrom d (by_rule rule (numbers_of ps) none (clause_at u ids))) (sym (grown_same t u log derives.right wider.terms))
@@ -91,7 +91,7 @@ module _ (start : Start) (t u : TableView) (log : List Logged) (derives : Explai
       -- and is made of the listed terms
       terms_made : All (IsMadeOf (spoken start)) (clause_at u ids)
       terms_made = subst (λ (c : List Term). All (IsMadeOf (spoken start)) c) (sym terms_are)
-          (All-map (IsMadeOf (spoken start)) (term_said start.table) clause (λ k d lt. said_made (spoken start) start.table (get_or clause k d) (claims k d lt)))
+          (All-map (IsMadeOf (spoken start)) (claim_as_term start.table) clause (λ k d lt. claimed_made (spoken start) start.table (get_or clause k d) (claims k d lt)))
 
       module _ (rule : Rule) (ps : List StepId) (since : All (λ (p : StepId). length start.log ≤ p.0) ps) (id : StepId) (new : List Logged) (added : IsAdded u log (stepped rule ps [] ids) id new) where
         -- it is derived
@@ -106,7 +106,7 @@ module _ (start : Start) (t u : TableView) (log : List Logged) (derives : Explai
               (All-map (λ m. length start.log ≤ m) (λ (p : StepId). p.0) ps since, terms_made);
         }
 
-        literals_are : literals_of (clause_at u ids) ≡ map (literal_said start.table) clause
+        literals_are : literals_of (clause_at u ids) ≡ map (claim_as_literal start.table) clause
         literals_are = ap literals_of terms_are ∙ literals_put start.table clause (claims_in (spoken start) start.table clause claims)
 
         here : id.0 < length new
@@ -115,14 +115,14 @@ module _ (start : Start) (t u : TableView) (log : List Logged) (derives : Explai
         at_end : logged_at new id ≡ stepped rule ps [] ids
         at_end = (λ i. get_or (added.last i) (added.number i) no_logged) ∙ get_or-append_seam log (stepped rule ps [] ids) [] no_logged
 
-        -- and stands last
-        pub put_last : HasPut start (derived t log) (derived u new) (map (literal_said start.table) clause) id
+        -- and is last
+        pub put_last : HasPut start (derived t log) (derived u new) (map (claim_as_literal start.table) clause) id
         put_last = record {
           there = here;
           clause_is = ap (literals_logged u) at_end ∙ literals_are;
           last = ap (drop (length start.log)) (ap (map (literals_logged u)) added.last ∙ map-append (literals_logged u) log (stepped rule ps [] ids ∷ [])
               ∙ (λ i. logged_same t u wider log derives.right.formulas i ++ literals_are i ∷ []))
-              ∙ drop-append-le (length start.log) (map (literals_logged t) log) (map (literal_said start.table) clause ∷ []) low;
+              ∙ drop-append-le (length start.log) (map (literals_logged t) log) (map (claim_as_literal start.table) clause ∷ []) low;
         }
           where
             low : length start.log ≤ length (map (literals_logged t) log)
@@ -130,6 +130,6 @@ module _ (start : Start) (t u : TableView) (log : List Logged) (derives : Explai
 
       -- whatever comes of adding it
       pub put_result : (rule : Rule) (ps : List StepId) → All (λ (p : StepId). length start.log ≤ p.0) ps → (new : List Logged) (r : Result StepId NoMemory) → MatchResult r (λ id. IsAdded u log (stepped rule ps [] ids) id new) (λ _. new ≡ log)
-          → Explains start (derived u new) × IfOk r (HasPut start (derived t log) (derived u new) (map (literal_said start.table) clause))
+          → Explains start (derived u new) × IfOk r (HasPut start (derived t log) (derived u new) (map (claim_as_literal start.table) clause))
       put_result rule ps since new (Ok id) added = (derives_step rule ps since id new added, put_last rule ps since id new added)
       put_result rule ps since new (Err e) same = (subst (λ l. Explains start (derived u l)) (sym same) derives_wider, tt)

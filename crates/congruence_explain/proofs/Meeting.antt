@@ -25,7 +25,7 @@ use Rattle.congruence_relation.specs.Edges.{roots, Meet, IsEdgeReason}
 use Rattle.congruence_explain.specs.declared.claims.Claim.TheVariants.{Equality}
 use Rattle.congruence_explain.specs.declared.claims.SignedClaim.{SignedClaim}
 use Rattle.congruence_explain.specs.Rules.{arguments_rule}
-use Rattle.congruence_explain.specs.Claims.{no_term_id, term_said, literal_said, literal_claimed, IsClaimOf, equality_claim, unequal, says, edge_says, all_unequal}
+use Rattle.congruence_explain.specs.Claims.{no_term_id, claim_as_term, claim_as_literal, literal_claimed, IsClaimOf, equality_claim, unequal, says, edge_says, all_unequal}
 use Rattle.congruence_explain.specs.Basis.{IsBasis, AreLinkedOr, IsByArguments}
 use Rattle.congruence_explain.specs.Steps.{setting, Notes, ShowsLiteral, TellsPairs, TellsEdge}
 use Rattle.congruence_explain.proofs.Shown.{grows_both, grows_steps, shows_each, shows_last}
@@ -58,13 +58,13 @@ unequal_all_in terms t (x ∷ xs) (y ∷ ys) h = go (cases_eq x.0 y.0) (unequal_
         (All-cons (λ (s : SignedClaim). IsClaimOf terms t s.claim) (unequal x y) (all_unequal xs ys) (h 0 (omega arith) d) rest)
 
 -- the terms of these are joined by what is denied
-joined_all : (t : TableView) (rs : List (Option Term)) (xs ys : List TermId) → length xs ≡ length ys → ((m : SignedClaim) → Contains (all_unequal xs ys) m → Contains rs (term_denied (term_said t m))) → AreJoined rs (clause_at t xs) (clause_at t ys)
+joined_all : (t : TableView) (rs : List (Option Term)) (xs ys : List TermId) → length xs ≡ length ys → ((m : SignedClaim) → Contains (all_unequal xs ys) m → Contains rs (term_denied (claim_as_term t m))) → AreJoined rs (clause_at t xs) (clause_at t ys)
 joined_all t rs [] [] e h = tt
 joined_all t rs [] (y ∷ ys) e h = absurd (omega (arith, e))
 joined_all t rs (x ∷ xs) [] e h = absurd (omega (arith, e))
 joined_all t rs (x ∷ xs) (y ∷ ys) e h = go (cases_eq x.0 y.0) (joined_all t rs xs ys (omega (arith, e)))
   where
-    go : (x.0 ≡ y.0) ⊎ (x.0 ≢ y.0) → (((m : SignedClaim) → Contains (all_unequal xs ys) m → Contains rs (term_denied (term_said t m))) → AreJoined rs (clause_at t xs) (clause_at t ys)) → AreJoined rs (clause_at t (x ∷ xs)) (clause_at t (y ∷ ys))
+    go : (x.0 ≡ y.0) ⊎ (x.0 ≢ y.0) → (((m : SignedClaim) → Contains (all_unequal xs ys) m → Contains rs (term_denied (claim_as_term t m))) → AreJoined rs (clause_at t xs) (clause_at t ys)) → AreJoined rs (clause_at t (x ∷ xs)) (clause_at t (y ∷ ys))
     go (inl p) ih =
         let test : (x.0 == y.0) ≡ true = grind (arith, nat_tests) in
         let all : all_unequal (x ∷ xs) (y ∷ ys) ≡ all_unequal xs ys = ap (λ c. if c then all_unequal xs ys else unequal x y ∷ all_unequal xs ys) test in
@@ -158,11 +158,11 @@ module _ (t : TableView) (ts : Truths) (v : ForestState) (f : Facts) (b : IsBasi
       heads_same = ap (head_meant t) meet_at.heads
 
       -- and is right
-      pub arguments_right : IsRight (arguments_rule xs) [] none (map (term_said t) arguments_clause)
+      pub arguments_right : IsRight (arguments_rule xs) [] none (map (claim_as_term t) arguments_clause)
       arguments_right = go xs ys as_many a_term c_term
         where
           go : (xs ys : List TermId) → length xs ≡ length ys → term_at t a ≡ of (head_meant t meet_at.one.shape.head) (clause_at t xs) → term_at t c ≡ of (head_meant t meet_at.other.shape.head) (clause_at t ys)
-              → IsRight (arguments_rule xs) [] none (map (term_said t) (all_unequal xs ys ++ equality_claim a c ∷ []))
+              → IsRight (arguments_rule xs) [] none (map (claim_as_term t) (all_unequal xs ys ++ equality_claim a c ∷ []))
           go [] ys many p q = (term_at t a, λ i. equal_terms (term_at t a) (same i))
             where
               same : term_at t c ≡ term_at t a
@@ -172,19 +172,19 @@ module _ (t : TableView) (ts : Truths) (v : ForestState) (f : Facts) (b : IsBasi
                   empty [] e = refl
                   empty (y ∷ ys) e = absurd (omega (arith, e))
           go (x ∷ xs) ys many p q = (
-            record { literals = map (term_said t) (all_unequal (x ∷ xs) ys); one = term_at t a; other = term_at t c; same = map-append (term_said t) (all_unequal (x ∷ xs) ys) (equality_claim a c ∷ []) },
+            record { literals = map (claim_as_term t) (all_unequal (x ∷ xs) ys); one = term_at t a; other = term_at t c; same = map-append (claim_as_term t) (all_unequal (x ∷ xs) ys) (equality_claim a c ∷ []) },
             subst (λ z. HaveJoinedArguments reasons z (term_at t c)) (sym p) (subst (HaveJoinedArguments reasons (of (head_meant t meet_at.one.shape.head) (clause_at t (x ∷ xs)))) (sym q)
                 (congruent_of reasons (head_meant t meet_at.one.shape.head) (head_meant t meet_at.other.shape.head) (clause_at t (x ∷ xs)) (clause_at t ys) heads_same (λ e. cc)
-                (joined_all t reasons (x ∷ xs) ys many (λ m i. to_image term_denied (map (term_said t) (all_unequal (x ∷ xs) ys)) (term_said t m) (to_image (term_said t) (all_unequal (x ∷ xs) ys) m i))))),
+                (joined_all t reasons (x ∷ xs) ys many (λ m i. to_image term_denied (map (claim_as_term t) (all_unequal (x ∷ xs) ys)) (claim_as_term t m) (to_image (claim_as_term t) (all_unequal (x ∷ xs) ys) m i))))),
           )
             where
               reasons : List (Option Term)
-              reasons = map term_denied (map (term_said t) (all_unequal (x ∷ xs) ys))
+              reasons = map term_denied (map (claim_as_term t) (all_unequal (x ∷ xs) ys))
 
       -- and shows what the edge says
       pub arguments_shown : (needed after : List Bool) (steps mid steps_after : List (List Literal))
           → TellsPairs (setting t ts v) (record { needed = needed; steps = steps; stated = [] }) (record { needed = after; steps = mid; stated = [] }) xs ys
-          → steps_after ≡ mid ++ map (literal_said t) arguments_clause ∷ []
+          → steps_after ≡ mid ++ map (claim_as_literal t) arguments_clause ∷ []
           → TellsEdge (setting t ts v) k (record { needed = needed; steps = steps; stated = [] }) (record { needed = after; steps = steps_after; stated = [] })
       arguments_shown needed after steps mid steps_after told is =
           let s = setting t ts v in
@@ -192,9 +192,9 @@ module _ (t : TableView) (ts : Truths) (v : ForestState) (f : Facts) (b : IsBasi
           let one : Notes = record { needed = after; steps = mid; stated = [] } in
           let new : Notes = record { needed = after; steps = steps_after; stated = [] } in
           let pairs = told k (omega arith) roots_linked in
-          let more = grows_steps k after mid steps_after (map (literal_said t) arguments_clause ∷ []) [] is in (
+          let more = grows_steps k after mid steps_after (map (claim_as_literal t) arguments_clause ∷ []) [] is in (
             grows_both k old one new pairs.0 more,
             subst (λ z. ShowsLiteral s k new (literal_claimed t z)) (sym says_equal)
-                (shows_last s k new (all_unequal xs ys) (equality_claim a c) (subst (λ zs. Contains zs (map (literal_said t) arguments_clause)) (sym is) (Contains-push mid (map (literal_said t) arguments_clause)))
+                (shows_last s k new (all_unequal xs ys) (equality_claim a c) (subst (λ zs. Contains zs (map (claim_as_literal t) arguments_clause)) (sym is) (Contains-push mid (map (claim_as_literal t) arguments_clause)))
                 (shows_each s k k one new more (all_unequal xs ys) pairs.1)),
           )

@@ -8,8 +8,8 @@ use Rattle.spec_sorts.specs.Literals.{Literal, complement}
 use Rattle.spec_proofs.specs.Resolution.{Derives as Propagates, given, unit, IsWithin}
 use Rattle.term_core.specs.Tables.{TableView}
 use Rattle.congruence_explain.specs.declared.claims.SignedClaim.{SignedClaim}
-use Rattle.congruence_explain.specs.Claims.{literal_said}
-use Rattle.congruence_explain.specs.Steps.{all_denied, ExplanationSetting, Notes, said_by, IsNeeded, ShowsLiteral, ShowsDenied, NotesGrow, marked}
+use Rattle.congruence_explain.specs.Claims.{claim_as_literal}
+use Rattle.congruence_explain.specs.Steps.{all_denied, ExplanationSetting, Notes, edge_literal, IsNeeded, ShowsLiteral, ShowsDenied, NotesGrow, marked}
 use Rattle.congruence_explain.proofs.Marks.{length-marked, marked-kept, marked-other}
 
 -- unit propagation gives no less from more
@@ -33,9 +33,9 @@ within_more xs ys more is x i = subst (λ zs. Contains zs x) (sym is) (Contains-
 -- what denies is more
 pub denied_more : (t : TableView) (xs ys : List SignedClaim) → IsWithin xs ys → IsWithin (all_denied t xs) (all_denied t ys)
 denied_more t xs ys more l i =
-    let (m, m_in, m_is) = from_image complement (map (literal_said t) xs) l i in
-    let (x, x_in, x_is) = from_image (literal_said t) xs m m_in in
-    subst (Contains (all_denied t ys)) (ap complement x_is ∙ m_is) (to_image complement (map (literal_said t) ys) (literal_said t x) (to_image (literal_said t) ys x (more x x_in)))
+    let (m, m_in, m_is) = from_image complement (map (claim_as_literal t) xs) l i in
+    let (x, x_in, x_is) = from_image (claim_as_literal t) xs m m_in in
+    subst (Contains (all_denied t ys)) (ap complement x_is ∙ m_is) (to_image complement (map (claim_as_literal t) ys) (claim_as_literal t x) (to_image (claim_as_literal t) ys x (more x x_in)))
 
 -- nothing more
 pub grows_none : (k : ℕ) (n : Notes) → NotesGrow k n n
@@ -80,21 +80,21 @@ module _ (s : ExplanationSetting) where
   shows_stated k needed steps stated g h = λ more assumed sw aw ih. h more assumed sw (λ x i. absurd (none x i)) ih
 
   pub shows_each : (j k : ℕ) (old new : Notes) → NotesGrow k old new → (clause : List SignedClaim) → ShowsDenied s j old clause → ShowsDenied s j new clause
-  shows_each j k old new grows clause h = λ i d lt. shows_more j k old new grows (complement (literal_said s.table (get_or clause i d))) (h i d lt)
+  shows_each j k old new grows clause h = λ i d lt. shows_more j k old new grows (complement (claim_as_literal s.table (get_or clause i d))) (h i d lt)
 
   -- the last literal of a clause of which what the others deny is shown
-  pub shows_last : (k : ℕ) (n : Notes) (clause : List SignedClaim) (goal : SignedClaim) → Contains n.steps (map (literal_said s.table) (clause ++ goal ∷ [])) → ShowsDenied s k n clause → ShowsLiteral s k n (literal_said s.table goal)
+  pub shows_last : (k : ℕ) (n : Notes) (clause : List SignedClaim) (goal : SignedClaim) → Contains n.steps (map (claim_as_literal s.table) (clause ++ goal ∷ [])) → ShowsDenied s k n clause → ShowsLiteral s k n (claim_as_literal s.table goal)
   shows_last k n clause goal there each = λ steps assumed sw aw ih.
-      by_clause steps assumed (map (literal_said s.table) clause ++ literal_said s.table goal ∷ []) (literal_said s.table goal)
-      (sw _ (subst (Contains n.steps) (map-append (literal_said s.table) clause (goal ∷ [])) there))
-      (Contains-push (map (literal_said s.table) clause) (literal_said s.table goal))
-      (λ m i. go steps assumed sw aw ih m (Contains-push_cases (map (literal_said s.table) clause) (literal_said s.table goal) m i))
+      by_clause steps assumed (map (claim_as_literal s.table) clause ++ claim_as_literal s.table goal ∷ []) (claim_as_literal s.table goal)
+      (sw _ (subst (Contains n.steps) (map-append (claim_as_literal s.table) clause (goal ∷ [])) there))
+      (Contains-push (map (claim_as_literal s.table) clause) (claim_as_literal s.table goal))
+      (λ m i. go steps assumed sw aw ih m (Contains-push_cases (map (claim_as_literal s.table) clause) (claim_as_literal s.table goal) m i))
     where
       go : (steps : List (List Literal)) (assumed : List Literal) → IsWithin n.steps steps → IsWithin (all_denied s.table n.stated) assumed
-          → ((i : ℕ) → i < k → IsNeeded n.needed i → Propagates complement steps assumed (said_by s i))
-          → (m : Literal) → Contains (map (literal_said s.table) clause) m ⊎ (literal_said s.table goal ≡ m) → (m ≡ literal_said s.table goal) ⊎ Propagates complement steps assumed (complement m)
+          → ((i : ℕ) → i < k → IsNeeded n.needed i → Propagates complement steps assumed (edge_literal s i))
+          → (m : Literal) → Contains (map (claim_as_literal s.table) clause) m ⊎ (claim_as_literal s.table goal ≡ m) → (m ≡ claim_as_literal s.table goal) ⊎ Propagates complement steps assumed (complement m)
       go steps assumed sw aw ih m (inr e) = inl (sym e)
       go steps assumed sw aw ih m (inl i) =
-          let (x, x_in, x_is) = from_image (literal_said s.table) clause m i in
+          let (x, x_in, x_is) = from_image (claim_as_literal s.table) clause m i in
           inr (subst (λ l. Propagates complement steps assumed (complement l)) x_is
-          (All-contains (λ y. ShowsLiteral s k n (complement (literal_said s.table y))) clause x each x_in steps assumed sw aw ih))
+          (All-contains (λ y. ShowsLiteral s k n (complement (claim_as_literal s.table y))) clause x each x_in steps assumed sw aw ih))

@@ -23,7 +23,7 @@ use Rattle.term_clauses.proofs.Choosing.{term_kept}
 use Rattle.congruence_explain.specs.declared.claims.Claim.{Claim}
 use Rattle.congruence_explain.specs.declared.claims.Claim.TheVariants.{Equality, Atom}
 use Rattle.congruence_explain.specs.declared.claims.SignedClaim.{SignedClaim}
-use Rattle.congruence_explain.specs.Claims.{term_claimed, term_said, literal_said, IsClaimIn, IsClaimOf}
+use Rattle.congruence_explain.specs.Claims.{term_claimed, claim_as_term, claim_as_literal, IsClaimIn, IsClaimOf}
 
 -- the equality of two terms of one sort is a formula
 pub equality_formula : (symbols : List Symbol) (t u : Term) → IsWellSorted symbols [] t → IsWellSorted symbols [] u → sort_of t ≡ sort_of u → IsFormulaOver symbols (equal t u)
@@ -42,8 +42,8 @@ pub claims_in : (terms : List Term) (t : TableView) (clause : List SignedClaim) 
 claims_in terms t clause h k d lt = (h k d lt).0
 
 -- and so are its literals
-pub said_made : (terms : List Term) (t : TableView) (s : SignedClaim) → IsClaimOf terms t s.claim → IsMadeOf terms (term_said t s)
-said_made terms t s h = go s.positive
+pub claimed_made : (terms : List Term) (t : TableView) (s : SignedClaim) → IsClaimOf terms t s.claim → IsMadeOf terms (claim_as_term t s)
+claimed_made terms t s h = go s.positive
   where
     go : (p : Bool) → IsMadeOf terms (signed_term p (term_claimed t s.claim))
     go true = h.1
@@ -63,12 +63,12 @@ module _ (t u : TableView) (wider : Widens t u) where
   )
   claim_kept (Atom a) h = (formula_kept t u wider a h.0, subst (λ (x : Term). literal_of x ≡ positive_literal x) (sym (term_at-kept t u wider.terms a h.0.0)) h.1)
 
-  pub said_same : (s : SignedClaim) → IsClaimIn t s.claim → term_said u s ≡ term_said t s
-  said_same s h = ap (signed_term s.positive) (claim_same s.claim h)
+  pub claimed_same : (s : SignedClaim) → IsClaimIn t s.claim → claim_as_term u s ≡ claim_as_term t s
+  claimed_same s h = ap (signed_term s.positive) (claim_same s.claim h)
 
-  pub clause_same : (clause : List SignedClaim) → All (λ s. IsClaimIn t s.claim) clause → map (term_said u) clause ≡ map (term_said t) clause
+  pub clause_same : (clause : List SignedClaim) → All (λ s. IsClaimIn t s.claim) clause → map (claim_as_term u) clause ≡ map (claim_as_term t) clause
   clause_same [] h = refl
-  clause_same (s ∷ clause) h = λ i. said_same s (All-head (λ s. IsClaimIn t s.claim) s clause h) i ∷ clause_same clause (All-tail (λ s. IsClaimIn t s.claim) s clause h) i
+  clause_same (s ∷ clause) h = λ i. claimed_same s (All-head (λ s. IsClaimIn t s.claim) s clause h) i ∷ clause_same clause (All-tail (λ s. IsClaimIn t s.claim) s clause h) i
 
   -- a formula that is put
   formula_put : (x : Term) (id : TermId) → IsFormulaOver t.symbols x → IsIn u id → term_at u id ≡ x → IsFormulaIn u id
@@ -96,7 +96,7 @@ module _ (t u : TableView) (wider : Widens t u) where
   negation_put id node head arguments h (Err e) put = tt
 
 -- the literal of the term that is put
-pub literal_put : (t : TableView) (s : SignedClaim) → IsClaimIn t s.claim → literal_of (term_said t s) ≡ literal_said t s
+pub literal_put : (t : TableView) (s : SignedClaim) → IsClaimIn t s.claim → literal_of (claim_as_term t s) ≡ claim_as_literal t s
 unfolding literal_of
 literal_put t s h = go s.claim s.positive h
   where
@@ -108,6 +108,6 @@ literal_put t s h = go s.claim s.positive h
     go c true h = claim_literal c h
     go c false h = literal_of-negated (term_claimed t c) ∙ ap complement (claim_literal c h)
 
-pub literals_put : (t : TableView) (clause : List SignedClaim) → All (λ s. IsClaimIn t s.claim) clause → literals_of (map (term_said t) clause) ≡ map (literal_said t) clause
+pub literals_put : (t : TableView) (clause : List SignedClaim) → All (λ s. IsClaimIn t s.claim) clause → literals_of (map (claim_as_term t) clause) ≡ map (claim_as_literal t) clause
 literals_put t [] h = refl
 literals_put t (s ∷ clause) h = λ i. literal_put t s (All-head (λ s. IsClaimIn t s.claim) s clause h) i ∷ literals_put t clause (All-tail (λ s. IsClaimIn t s.claim) s clause h) i

@@ -30,14 +30,14 @@ term_claimed t (Equality a b) = equal_terms (term_at t a) (term_at t b)
 term_claimed t (Atom a) = term_at t a
 
 -- the term of a literal
-abbrev pub term_said : TableView → SignedClaim → Term
-term_said t s = signed_term s.positive (term_claimed t s.claim)
+abbrev pub claim_as_term : TableView → SignedClaim → Term
+claim_as_term t s = signed_term s.positive (term_claimed t s.claim)
 
 -- the literal that it is
-abbrev pub literal_said : TableView → SignedClaim → Literal
-literal_said t s = record { atom = term_claimed t s.claim; positive = s.positive }
+abbrev pub claim_as_literal : TableView → SignedClaim → Literal
+claim_as_literal t s = record { atom = term_claimed t s.claim; positive = s.positive }
 
--- the literal that a claim is as it stands
+-- the literal that a claim is as it is
 abbrev pub literal_claimed : TableView → Claim → Literal
 literal_claimed t c = record { atom = term_claimed t c; positive = true }
 
@@ -62,9 +62,9 @@ equality_claim a b = record { claim = Equality a b; positive = true }
 abbrev pub unequal : TermId → TermId → SignedClaim
 unequal a b = record { claim = Equality a b; positive = false }
 
--- the term of a truth value as it stands, or its negation
-abbrev pub said_value : TermId → Bool → SignedClaim
-said_value value positive = record { claim = Atom value; positive = positive }
+-- the term of a truth value as it is, or its negation
+abbrev pub value_claim : TermId → Bool → SignedClaim
+value_claim value positive = record { claim = Atom value; positive = positive }
 
 -- the complement of a literal
 abbrev pub denied : Lit → SignedClaim

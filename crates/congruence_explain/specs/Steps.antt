@@ -21,7 +21,7 @@ use Rattle.proof_log.specs.Clashes.{literals_in}
 use Rattle.proof_log.specs.Theories.{Derived, DerivesLemmas}
 use Rattle.congruence_explain.specs.declared.claims.Claim.TheVariants.{Equality}
 use Rattle.congruence_explain.specs.declared.claims.SignedClaim.{SignedClaim}
-use Rattle.congruence_explain.specs.Claims.{literal_said, literal_claimed, equality_claim, unequal, denied, said_value, edge_says, all_unequal}
+use Rattle.congruence_explain.specs.Claims.{claim_as_literal, literal_claimed, equality_claim, unequal, denied, value_claim, edge_says, all_unequal}
 
 -- a table with a log
 abbrev pub derived : TableView → List Logged → Derived
@@ -92,8 +92,8 @@ abbrev pub notes : Start → Derived → List Bool → List SignedClaim → Note
 notes start now needed stated = record { needed = needed; steps = steps_since start now; stated = stated }
 
 -- what the edge of a number says
-abbrev pub said_by : ExplanationSetting → ℕ → Literal
-said_by s k = literal_claimed s.table (edge_says s.truths (numbered s.edges k))
+abbrev pub edge_literal : ExplanationSetting → ℕ → Literal
+edge_literal s k = literal_claimed s.table (edge_says s.truths (numbered s.edges k))
 
 -- the edge of a number is needed
 abbrev pub IsNeeded : List Bool → ℕ → Type 0
@@ -101,12 +101,12 @@ IsNeeded needed k = slice_index_or needed k false ≡ true
 
 -- what holds where the literals are denied
 abbrev pub all_denied : TableView → List SignedClaim → List Literal
-all_denied t stated = map complement (map (literal_said t) stated)
+all_denied t stated = map complement (map (claim_as_literal t) stated)
 
 -- A literal is derived once what the needed ones of the k oldest edges say is, from all steps that are logged, where the last clause is denied.
 abbrev pub ShowsLiteral : ExplanationSetting → ℕ → Notes → Literal → Type 0
 ShowsLiteral s k n goal = (steps : List (List Literal)) (assumed : List Literal) → IsWithin n.steps steps → IsWithin (all_denied s.table n.stated) assumed
-    → ((i : ℕ) → i < k → IsNeeded n.needed i → Propagates complement steps assumed (said_by s i)) → Propagates complement steps assumed goal
+    → ((i : ℕ) → i < k → IsNeeded n.needed i → Propagates complement steps assumed (edge_literal s i)) → Propagates complement steps assumed goal
 
 -- More of the k oldest edges is needed, and more is logged and stated.
 pub record NotesGrow (k : ℕ) (old new : Notes) : Type 0 where
@@ -137,7 +137,7 @@ TellsPair s old new x y = (k : ℕ) → k ≤ length s.edges → Linked (older s
 
 -- what a clause denies is shown
 abbrev pub ShowsDenied : ExplanationSetting → ℕ → Notes → List SignedClaim → Type 0
-ShowsDenied s k n clause = All (λ m. ShowsLiteral s k n (complement (literal_said s.table m))) clause
+ShowsDenied s k n clause = All (λ m. ShowsLiteral s k n (complement (claim_as_literal s.table m))) clause
 
 -- what a clause denies of terms that are linked to others, one by one, is shown, whichever of the oldest edges link them
 abbrev pub TellsClause : ExplanationSetting → Notes → Notes → List TermId → List TermId → List SignedClaim → Type 0
@@ -149,21 +149,21 @@ TellsPairs s old new xs ys = TellsClause s old new xs ys (all_unequal xs ys)
 
 -- what the edge of a number says is shown
 abbrev pub TellsEdge : ExplanationSetting → ℕ → Notes → Notes → Type 0
-TellsEdge s k old new = NotesGrow k old new × ShowsLiteral s k new (said_by s k)
+TellsEdge s k old new = NotesGrow k old new × ShowsLiteral s k new (edge_literal s k)
 
 -- the clauses by which a literal's term is equality_claim to its truth value: the truth value, and that the term has it
 abbrev pub decision : TableView → Truths → Lit → List (List Literal)
 decision t ts l =
-    (literal_said t (said_value (truth_of ts l.positive) l.positive) ∷ [])
-    ∷ (literal_said t (equality_claim l.term (truth_of ts l.positive)) ∷ literal_said t (denied l) ∷ literal_said t (said_value (truth_of ts l.positive) (not l.positive)) ∷ [])
+    (claim_as_literal t (value_claim (truth_of ts l.positive) l.positive) ∷ [])
+    ∷ (claim_as_literal t (equality_claim l.term (truth_of ts l.positive)) ∷ claim_as_literal t (denied l) ∷ claim_as_literal t (value_claim (truth_of ts l.positive) (not l.positive)) ∷ [])
     ∷ []
 
 -- the clauses by which `true` and `false` are not equality_claim
 abbrev pub apart : TableView → Truths → List (List Literal)
 apart t ts =
-    (literal_said t (unequal ts.true_term ts.false_term) ∷ literal_said t (said_value ts.true_term false) ∷ literal_said t (said_value ts.false_term true) ∷ [])
-    ∷ (literal_said t (said_value ts.true_term true) ∷ [])
-    ∷ (literal_said t (said_value ts.false_term false) ∷ [])
+    (claim_as_literal t (unequal ts.true_term ts.false_term) ∷ claim_as_literal t (value_claim ts.true_term false) ∷ claim_as_literal t (value_claim ts.false_term true) ∷ [])
+    ∷ (claim_as_literal t (value_claim ts.true_term true) ∷ [])
+    ∷ (claim_as_literal t (value_claim ts.false_term false) ∷ [])
     ∷ []
 
 -- a literal of the last clause denies a literal that is the label of an edge
@@ -175,7 +175,7 @@ pub record Going (s : ExplanationSetting) (k : ℕ) (goal : Literal) (n : Notes)
   -- there is a mark for each edge
   pub count : length n.needed ≡ length s.edges
   -- what a needed newer edge says is shown by those before it
-  pub explained : (j : ℕ) → k ≤ j → j < length s.edges → IsNeeded n.needed j → ShowsLiteral s j n (said_by s j)
+  pub explained : (j : ℕ) → k ≤ j → j < length s.edges → IsNeeded n.needed j → ShowsLiteral s j n (edge_literal s j)
   -- what is to be explained is shown by all
   pub shown : ShowsLiteral s (length s.edges) n goal
   -- the last clause denies held literals alone
@@ -198,14 +198,14 @@ pub record IsExplained (s : ExplanationSetting) (now : Derived) (others : List S
   pub there : id.0 < length now.log
   -- its literals
   pub clause : List SignedClaim
-  pub literals : literals_in now.table now.log id ≡ map (literal_said s.table) clause
+  pub literals : literals_in now.table now.log id ≡ map (claim_as_literal s.table) clause
   -- each denies a held literal, or is one of the others
   pub each : All (λ m. IsDenial s m ⊎ Contains others m) clause
 
 -- the literals of a conflict's clause that deny nothing that is held: the equality whose negation is
 abbrev pub others_of : Conflict → List SignedClaim
 others_of conflicts.Truths = []
-others_of (conflicts.Sides e) = said_value e true ∷ []
+others_of (conflicts.Sides e) = value_claim e true ∷ []
 
 -- Numbers of a log's steps from one on.
 pub record AreNumbersFrom (log : List Logged) (from : ℕ) (ids : List StepId) : Type 0 where

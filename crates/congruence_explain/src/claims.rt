@@ -2,7 +2,7 @@
 
 ghost use Rattle.std.specs.Prelude.{◌≡◌};
 ghost use Rattle.congruence_relation.specs.Relation.{truth_of};
-ghost use Rattle.congruence_explain.specs.Claims.{says, equality_claim, unequal, said_value, denied, joins};
+ghost use Rattle.congruence_explain.specs.Claims.{says, equality_claim, unequal, value_claim, denied, joins};
 
 use congruence_relation::{Label, Truths};
 use term_core::{Lit, TermId};
@@ -16,12 +16,12 @@ pub(crate) enum Claim {
     Atom(TermId),
 }
 
-/// A literal: a formula as it stands, or its negation.
+/// A literal: a formula as it is, or its negation.
 #[derive(Clone, Copy, Debug, PartialEq, Eq)]
 pub(crate) struct SignedClaim {
     /// The formula.
     pub(crate) claim: Claim,
-    /// Whether it is meant as it stands.
+    /// Whether it is meant as it is.
     pub(crate) positive: bool,
 }
 
@@ -56,8 +56,8 @@ pub(crate) fn denial(l: Lit) -> SignedClaim
 }
 
 /// Says the term of a truth value, or its negation.
-pub(crate) fn value_said(term: TermId, positive: bool) -> SignedClaim
-    ensures { result ≡ said_value term positive }
+pub(crate) fn value_claimed(term: TermId, positive: bool) -> SignedClaim
+    ensures { result ≡ value_claim term positive }
 {
     SignedClaim {
         claim: Claim::Atom(term),

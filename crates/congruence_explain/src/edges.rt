@@ -11,7 +11,7 @@ ghost use Rattle.congruence_explain.specs.Claims.{denied, joins};
 ghost use Rattle.congruence_explain.specs.Basis.{IsBasis, IsAtomLiteral, IsByArguments};
 ghost use Rattle.congruence_explain.specs.Steps.{Start, derived, spoken, Explains, setting, notes, steps_since, decision, TellsEdge, GoesOn};
 
-use crate::claims::{SignedClaim, denial, equality, is_between, truth, value_said};
+use crate::claims::{SignedClaim, denial, equality, is_between, truth, value_claimed};
 use crate::paths::tell_pairs;
 use crate::putting::put_alone;
 use crate::rules::{rule_of_arguments, rule_of_decided, rule_of_value};
@@ -84,12 +84,12 @@ fn tell_decided(
         ≡ steps_since start (derived table.old log.old) ++ decision start.table truths l) }
 {
     let value = truth(truths, l.positive);
-    let holds = [value_said(value, l.positive)];
+    let holds = [value_claimed(value, l.positive)];
     put_alone(alloc, table, log, rule_of_value(l.positive), &holds)?;
     let clause = [
         equality(l.term, value),
         denial(l),
-        value_said(value, !l.positive),
+        value_claimed(value, !l.positive),
     ];
     put_alone(alloc, table, log, rule_of_decided(l.positive), &clause)?;
     Ok(())

@@ -6,12 +6,12 @@ ghost use Rattle.congruence_relation.specs.Edges.{IsConflict};
 ghost use Rattle.proof_log.specs.Logs.{IsLogOf};
 ghost use Rattle.proof_log.specs.Clashes.{IsClash};
 ghost use Rattle.proof_log.specs.Theories.{DerivesLemmas};
-ghost use Rattle.congruence_explain.specs.Claims.{said_value};
+ghost use Rattle.congruence_explain.specs.Claims.{value_claim};
 ghost use Rattle.congruence_explain.specs.Basis.{IsBasis, AreLinkedIn, IsEqualityIn, HasLinkedSides, AreTruths};
 ghost use Rattle.congruence_explain.specs.Steps.{Start, derived, begun, spoken, Explains, setting, steps_since, AreNumbersFrom, IsExplained, others_of, apart};
 ghost use Rattle.term_core.specs.declared.ids.TermId.{TermId as Number};
 
-use crate::claims::{unequality, value_said};
+use crate::claims::{unequality, value_claimed};
 use crate::collecting::collect;
 use crate::putting::{put, put_alone};
 use congruence_relation::{Conflict, Truths};
@@ -58,13 +58,13 @@ fn explain_sides(
     requires sides { HasLinkedSides (spoken start) start.table forest.now.now e }
     ensures derives { Explains start (derived table.new log.new) }
     ensures step { IfOk result (IsExplained (setting start.table truths forest.now.now) (derived table.new log.new)
-        (said_value e true ∷ [])) }
+        (value_claim e true ∷ [])) }
 {
     table.ids_are_unique();
     let from = log.len();
     let (a, b) = sides(table, e);
     let mut stated = collect(alloc, table, log, forest, truths, a, b)?;
-    stated.push(value_said(e, true))?;
+    stated.push(value_claimed(e, true))?;
     let premises = steps_from(alloc, log, from)?;
     put(alloc, table, log, Rule::Resolution, premises, &stated)
 }
@@ -87,12 +87,12 @@ fn tell_apart(
     let no = truths.false_term;
     let clause = [
         unequality(yes, no),
-        value_said(yes, false),
-        value_said(no, true),
+        value_claimed(yes, false),
+        value_claimed(no, true),
     ];
     put_alone(alloc, table, log, Rule::EquivPos2, &clause)?;
-    put_alone(alloc, table, log, Rule::True, &[value_said(yes, true)])?;
-    put_alone(alloc, table, log, Rule::False, &[value_said(no, false)])?;
+    put_alone(alloc, table, log, Rule::True, &[value_claimed(yes, true)])?;
+    put_alone(alloc, table, log, Rule::False, &[value_claimed(no, false)])?;
     Ok(())
 }
 

@@ -53,12 +53,12 @@ fn is_equality(table: &TermTable, id: TermId, x: TermId, y: TermId) -> bool
 }
 
 /// Tells whether a clause has one literal, whose formula is the equality of two terms, in this order.
-fn is_said(table: &TermTable, clause: &[SignedClaim], x: TermId, y: TermId) -> bool
+fn is_claimed(table: &TermTable, clause: &[SignedClaim], x: TermId, y: TermId) -> bool
     requires { All (λ s. IsClaimIn table.now s.claim) clause.now }
     ensures { result ≡ true → IsOneEquality table.now clause.now x y }
 {
     match clause {
-        [said] => match said.claim {
+        [signed_claim] => match signed_claim.claim {
             Claim::Equality(a, b) => a.0 == x.0 && b.0 == y.0,
             Claim::Atom(id) => is_equality(table, id, x, y),
         },
@@ -93,7 +93,7 @@ pub(crate) fn tell(
     forest.paths_lead();
     let path = forest.explain(x, y)?;
     let mut clause = deny_path(alloc, truths, &path, needed)?;
-    if is_said(table, &clause, x, y) {
+    if is_claimed(table, &clause, x, y) {
         return Ok(());
     }
     clause.push(equality(x, y))?;

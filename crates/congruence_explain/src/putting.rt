@@ -8,7 +8,7 @@ ghost use Rattle.spec_derivations.specs.Derivations.{by_rule, FollowsFrom};
 ghost use Rattle.term_core.specs.Tables.{term_at, clause_at};
 ghost use Rattle.proof_log.specs.Logs.{IsFormulaIn, AreFormulasIn, numbers_of, derivation_in};
 ghost use Rattle.term_clauses.specs.Stating.{Widens};
-ghost use Rattle.congruence_explain.specs.Claims.{IsClaimIn, IsClaimOf, IsClaimPut, term_claimed, term_said, literal_said};
+ghost use Rattle.congruence_explain.specs.Claims.{IsClaimIn, IsClaimOf, IsClaimPut, term_claimed, claim_as_term, claim_as_literal};
 ghost use Rattle.congruence_explain.specs.Steps.{Start, derived, spoken, Explains, HasPut};
 
 use crate::claims::{Claim, SignedClaim};
@@ -32,7 +32,7 @@ fn formula_of(alloc: Global, table: &mut TermTable, claim: Claim) -> Result<Term
     }
 }
 
-/// Gives a formula as it stands, or puts its negation.
+/// Gives a formula as it is, or puts its negation.
 fn signed_of(
     alloc: Global,
     table: &mut TermTable,
@@ -51,13 +51,17 @@ fn signed_of(
 }
 
 /// Puts the term of a literal, or finds it.
-fn term_of(alloc: Global, table: &mut TermTable, said: SignedClaim) -> Result<TermId, NoMemory>
-    requires { IsClaimIn table.old said.claim }
+fn term_of(
+    alloc: Global,
+    table: &mut TermTable,
+    signed_claim: SignedClaim,
+) -> Result<TermId, NoMemory>
+    requires { IsClaimIn table.old signed_claim.claim }
     ensures wider { Widens table.old table.new }
-    ensures means { IfOk result (IsClaimPut table.new (term_said table.old said)) }
+    ensures means { IfOk result (IsClaimPut table.new (claim_as_term table.old signed_claim)) }
 {
-    let formula = formula_of(alloc, table, said.claim)?;
-    signed_of(alloc, table, formula, said.positive)
+    let formula = formula_of(alloc, table, signed_claim.claim)?;
+    signed_of(alloc, table, formula, signed_claim.positive)
 }
 
 /// Puts the terms of literals, in their order.
@@ -69,11 +73,11 @@ fn terms_of(
     requires { All (λ s. IsClaimIn table.old s.claim) clause.now }
     ensures wider { Widens table.old table.new }
     ensures means { IfOk result (λ ids. AreFormulasIn table.new ids.items
-        × (clause_at table.new ids.items ≡ map (term_said table.old) clause.now)) }
+        × (clause_at table.new ids.items ≡ map (claim_as_term table.old) clause.now)) }
 {
     let mut terms = Vec::new(alloc);
-    for said in clause {
-        let term = term_of(alloc, table, *said)?;
+    for signed_claim in clause {
+        let term = term_of(alloc, table, *signed_claim)?;
         terms.push(term)?;
     }
     Ok(terms)
@@ -94,11 +98,11 @@ pub(crate) fn put(
     requires derives { Explains start (derived table.old log.old) }
     requires clause { All (λ s. IsClaimOf (spoken start) start.table s.claim) clause.now }
     requires follows { FollowsFrom (derivation_in table.old log.old)
-        (by_rule rule (numbers_of premises.items) none (map (term_said start.table) clause.now)) }
+        (by_rule rule (numbers_of premises.items) none (map (claim_as_term start.table) clause.now)) }
     requires since { All (λ p. length start.log ≤ p.0) premises.items }
     ensures derives { Explains start (derived table.new log.new) }
     ensures put { IfOk result (HasPut start (derived table.old log.old) (derived table.new log.new)
-        (map (literal_said start.table) clause.now)) }
+        (map (claim_as_literal start.table) clause.now)) }
 {
     let terms = terms_of(alloc, table, clause)?;
     let step = Step {
@@ -121,10 +125,10 @@ pub(crate) fn put_alone(
     ghost start: { Start }
     requires derives { Explains start (derived table.old log.old) }
     requires clause { All (λ s. IsClaimOf (spoken start) start.table s.claim) clause.now }
-    requires right { IsRight rule [] none (map (term_said start.table) clause.now) }
+    requires right { IsRight rule [] none (map (claim_as_term start.table) clause.now) }
     ensures derives { Explains start (derived table.new log.new) }
     ensures put { IfOk result (HasPut start (derived table.old log.old) (derived table.new log.new)
-        (map (literal_said start.table) clause.now)) }
+        (map (claim_as_literal start.table) clause.now)) }
 {
     put(alloc, table, log, rule, Vec::new(alloc), clause)
 }

@@ -48,7 +48,7 @@ pub record IsEquality (listed : List Application) (e a b : TermId) : Type 0 wher
   -- which says that they are equal
   pub shape : at.shape ≡ record { head = heads.Equal; arguments = a ∷ b ∷ [] }
 
--- A held literal states that two terms are equal: its term and its truth value are, and so are the sides of an equality that is held as it stands.
+-- A held literal states that two terms are equal: its term and its truth value are, and so are the sides of an equality that is held as it is.
 pub data StatesEqual (f : Facts) (l : Lit) : TermId → TermId → Type 0 where
   -- its term, and its truth value
   decides : StatesEqual f l l.term (truth_of f.truths l.positive)

@@ -20,7 +20,7 @@ pub fn closed_edges_are_exact()
         → (a b : Number) → IsCongruentIn f a b → Linked es a.0 b.0 }
 {}
 
-/// States that the congruence by numbers is that of the terms of a table. No term stands in it twice, and no sort or symbol has
+/// States that the congruence by numbers is that of the terms of a table. No term is in it twice, and no sort or symbol has
 /// the name of another.
 pub fn numbers_and_terms_agree()
     ensures { (t : TableView) (f : Facts) → AreDifferent t.terms → AreDeclared t.sorts t.symbols → AreFactsOf t f

@@ -24,7 +24,7 @@ pub struct Truths {
 pub struct Listed {
     /// The term.
     pub term: TermId,
-    /// What stands in it.
+    /// What is in it.
     pub node: Node,
 }
 

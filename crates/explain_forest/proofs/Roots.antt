@@ -71,7 +71,7 @@ module _ (n : ℕ) (e : Edge) (es : List Edge) (ok : EdgesAreApart n (e ∷ es))
   pub parent-other : (t : ℕ) → t ≢ root es e.a.0 → slice_index (parents_by n (e ∷ es)) t ≡ slice_index (parents_by n es) t
   parent-other t h = grind (arith, common_steps)
 
-  -- what stands above is no term that was there in its place
+  -- what is above is no term that was there in its place
   pub above_top : root es e.b.0 ≢ root es e.a.0
   above_top h = ok.2 (sym h)
 

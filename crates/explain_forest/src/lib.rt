@@ -1,6 +1,6 @@
 //! Why two terms are linked: the path of labelled edges between them, in a forest that goes back to a mark.
 //!
-//! A proof forest. Edges stand in their order, and none is turned round. Each puts the root of its first term under the root of its
+//! A proof forest. Edges are in their order, and none is turned round. Each puts the root of its first term under the root of its
 //! second: one place is written. Going back writes the same place again, and takes no memory.
 #![tactic(auto)]
 

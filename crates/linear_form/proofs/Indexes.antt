@@ -76,7 +76,7 @@ not_live q (p ∷ ps) zero h l = (subst (λ b. LacksNumber q (unless_dead b p.0 
 not_live q (p ∷ ps) (suc at) h l = not_live q ps at (lacks_rest (is_zero (fraction p.1)) q p.0 (fraction p.1) (live ps) h)
     (record { within = omega (arith, l.within); same = λ d. l.same d; not_zero = λ d. l.not_zero d })
 
--- what stands at the place of a live entry is of its variable
+-- what is at the place of a live entry is of its variable
 pub own_id : (id : TermId) (ps : List (TermId × Ratio)) (at : ℕ) (p : TermId × Ratio) → p ≡ get_or ps at p → IsLiveAt id.0 ps at → p.0 ≡ id
 own_id id ps at p e l = same_id p.0 id (ap (λ (r : TermId × Ratio). r.0.0) e ∙ l.same p)
   where

@@ -9,7 +9,7 @@ use Rattle.term_core.specs.declared.ids.Lit.{Lit}
 use Rattle.term_core.specs.declared.nodes.Head.{Head as NodeHead}
 use Rattle.term_core.specs.declared.nodes.Head.TheVariants as heads
 use Rattle.term_core.specs.Tables.{TableView, term_at, literal_at, head_meant}
-use Rattle.linear_form.specs.Literals.{negation_meant, said_by_sign}
+use Rattle.linear_form.specs.Literals.{negation_meant, denial_by_sign}
 
 -- what is meant so, or else the other way
 abbrev meant_as : Bool → Bool → Bool
@@ -77,7 +77,7 @@ no_numbers h s u false n = refl
 module _ (t : TableView) (left right a : TermId) (numbers : true ≡ are_numbers (term_at t left) (term_at t right)) where
   -- what the code reads of an atom of two numbers
   read : (h : NodeHead) (p : Bool) → term_at t a ≡ pair (head_meant t h) (term_at t left) (term_at t right)
-      → negation_meant t (said_by_sign h p a left right) ≡ negation_of p (pair (head_meant t h) (term_at t left) (term_at t right))
+      → negation_meant t (denial_by_sign h p a left right) ≡ negation_of p (pair (head_meant t h) (term_at t left) (term_at t right))
   unfolding negation_of
   read heads.Equal false e = λ i. where_true (numbers i) (saying sums.is_nought (e i) (term_at t left) (term_at t right))
   read heads.Less false e = λ i. where_true (numbers i) (saying sums.is_below (e i) (term_at t left) (term_at t right))
@@ -87,5 +87,5 @@ module _ (t : TableView) (left right a : TermId) (numbers : true ≡ are_numbers
   read h true e = refl
   read h false e = refl
 
-  pub numbers_say : (h : NodeHead) (p : Bool) → term_at t a ≡ pair (head_meant t h) (term_at t left) (term_at t right) → negation_meant t (said_by_sign h p a left right) ≡ negation_of p (term_at t a)
+  pub numbers_say : (h : NodeHead) (p : Bool) → term_at t a ≡ pair (head_meant t h) (term_at t left) (term_at t right) → negation_meant t (denial_by_sign h p a left right) ≡ negation_of p (term_at t a)
   numbers_say h p e = read h p e ∙ ap (negation_of p) (sym e)

@@ -1,4 +1,4 @@
--- What is still used stands at its place, from one use to the next.
+-- What is still used is at its place, from one use to the next.
 use Rattle.std.proofs.Common.{◌≡◌, ◌≢◌, ℕ, zero, suc, ◌+◌, ◌-◌, ◌<◌, ◌≤◌, ◌⊎◌, inl, inr, Option, Some, None, List, [], ◌∷◌, ◌++◌, length, get_or, take, drop, All, refl, sym, ◌∙◌, ap, subst, append_assoc, length-append, arith}
 use Rattle.std.specs.List.{flat_map}
 use Rattle.std.proofs.Math.Seq.{take-append_seam, drop-append_seam, get_or-append_seam}
@@ -97,7 +97,7 @@ module _ (needed : ℕ → List ℕ) (order uses : List ℕ) (root at tick : ℕ
   pub end_root : get_or order (get_or uses tick 0) 0 ≡ root
   end_root = sym (get_or-map (λ j. get_or order j 0) uses tick 0 0 end_fits) ∙ ap (λ n. get_or (numbers_at order uses) n 0) (let s : tick ≡ tick + 0 = omega arith in s) ∙ sym (get_or-drop tick (numbers_at order uses) 0 0) ∙ ap (λ l. get_or l 0 0) last_one
 
--- one more stands there
+-- one more is there
 pub ready_more : (t : TableView) (order last : List ℕ) (slots new : List (Option KnownForm)) (x : KnownForm) (at tick : ℕ) → HoldsUsed t order last slots tick → new ≡ slots ++ Some x ∷ [] → length slots ≡ at → IsKnown t (get_or order at 0) x → HoldsUsed t order last new tick
 ready_more t order last slots new x at tick ready e len p j lt le = subst (λ l. SlotHolds t l j (get_or order j 0)) (sym e) (by (cases_lt j (length slots)))
   where

@@ -10,7 +10,7 @@ use Rattle.linear_form.specs.declared.literals.Relation.{Relation}
 use Rattle.linear_form.specs.declared.literals.Relation.TheVariants as relations
 use Rattle.linear_form.specs.declared.literals.Negation.{Negation}
 
--- how a difference stands to 0, by the code's word
+-- how a difference compares with 0, by the code's word
 abbrev pub relation_meant : Relation → sums.Relation
 relation_meant relations.Zero = sums.is_nought
 relation_meant relations.BelowZero = sums.is_below
@@ -39,14 +39,14 @@ abbrev pub difference_is : Relation → TermId → TermId → TermId → Option 
 difference_is r atom left right = Some (record { relation = r; atom = atom; left = left; right = right })
 
 -- what is said by the head of an atom of two numbers, meant so
-abbrev pub said_by_sign : Head → Bool → TermId → TermId → TermId → Option Negation
-said_by_sign heads.Equal false atom left right = difference_is relations.Zero atom left right
-said_by_sign heads.Less false atom left right = difference_is relations.BelowZero atom left right
-said_by_sign heads.Less true atom left right = difference_is relations.AtMostZero atom right left
-said_by_sign heads.AtMost false atom left right = difference_is relations.AtMostZero atom left right
-said_by_sign heads.AtMost true atom left right = difference_is relations.BelowZero atom right left
-said_by_sign h positive atom left right = None
+abbrev pub denial_by_sign : Head → Bool → TermId → TermId → TermId → Option Negation
+denial_by_sign heads.Equal false atom left right = difference_is relations.Zero atom left right
+denial_by_sign heads.Less false atom left right = difference_is relations.BelowZero atom left right
+denial_by_sign heads.Less true atom left right = difference_is relations.AtMostZero atom right left
+denial_by_sign heads.AtMost false atom left right = difference_is relations.AtMostZero atom left right
+denial_by_sign heads.AtMost true atom left right = difference_is relations.BelowZero atom right left
+denial_by_sign h positive atom left right = None
 
 -- what the negation of a literal with this head before two numbers says
-abbrev pub said_by : Head → Lit → TermId → TermId → Option Negation
-said_by h l left right = said_by_sign h l.positive l.term left right
+abbrev pub denial_by : Head → Lit → TermId → TermId → Option Negation
+denial_by h l left right = denial_by_sign h l.positive l.term left right

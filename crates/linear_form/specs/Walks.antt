@@ -102,11 +102,11 @@ abbrev pub HeldBy : TableView → ℕ → Option KnownForm → Type 0
 HeldBy t k None = ⊥
 HeldBy t k (Some x) = IsKnown t k x
 
--- what is known of a term stands at the place
+-- what is known of a term is at the place
 abbrev pub SlotHolds : TableView → List (Option KnownForm) → ℕ → ℕ → Type 0
 SlotHolds t slots j k = HeldBy t k (get_or slots j None)
 
--- what is still used stands at its place
+-- what is still used is at its place
 abbrev pub HoldsUsed : TableView → (order last : List ℕ) → List (Option KnownForm) → ℕ → Type 0
 HoldsUsed t order last slots tick = (j : ℕ) → j < length slots → tick ≤ get_or last j 0 → SlotHolds t slots j (get_or order j 0)
 

@@ -151,7 +151,7 @@ fn judge_pairs(
 /// Judges a step of the rule `la_generic`, by which a clause of orders and equalities holds because the negations of its literals, each
 /// multiplied by its argument, have a sum that cannot be.
 ///
-/// A literal is an order of two terms of sort Real, or a negated equality of such; it may stand below any number of `not`s. Its
+/// A literal is an order of two terms of sort Real, or a negated equality of such; it may be below any number of `not`s. Its
 /// negation says that the difference of the two is below 0, at most 0, or 0. An order's difference is multiplied by the size of its
 /// argument, an equality's by its argument; where that sum is no contradiction, by the argument with the other sign. The sum cannot be
 /// where no variable is left and its constant is above 0, or is 0 and one of those below 0 has an argument other than 0. By Farkas' lemma

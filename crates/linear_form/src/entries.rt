@@ -30,7 +30,7 @@ pub enum FormJoin {
 /// Says what becomes of each number of a form.
 #[derive(Clone, Copy, Debug, PartialEq, Eq)]
 pub enum FormChange {
-    /// It is multiplied by a factor, which stands on the left.
+    /// It is multiplied by a factor, which is on the left.
     Times(Ratio),
     /// It is divided by a divisor.
     Over(Ratio),

@@ -4,11 +4,11 @@ ghost use Rattle.std.specs.Prelude.{◌≡◌, true};
 ghost use Rattle.spec_sorts.specs.Terms.{Number, same_sort, sort_of};
 ghost use Rattle.spec_arithmetic.specs.Contradictions.{negation_of, are_numbers};
 ghost use Rattle.term_core.specs.Tables.{IsIn, term_at};
-ghost use Rattle.linear_form.specs.Literals.{negation_meant, said_by, HasSidesIn};
+ghost use Rattle.linear_form.specs.Literals.{negation_meant, denial_by, HasSidesIn};
 
 use term_core::{Head, Lit, Sort, TermId, TermTable};
 
-/// Says how the difference of two numbers stands to 0.
+/// Says how the difference of two numbers compares with 0.
 #[derive(Clone, Copy, Debug, PartialEq, Eq)]
 pub(crate) enum Relation {
     /// It is 0.
@@ -19,10 +19,10 @@ pub(crate) enum Relation {
     AtMostZero,
 }
 
-/// Says what the negation of a literal does: how the difference of its two numbers stands to 0.
+/// Says what the negation of a literal does: how the difference of its two numbers compares with 0.
 #[derive(Clone, Copy, Debug, PartialEq, Eq)]
 pub(crate) struct Negation {
-    /// How it stands to 0.
+    /// How it compares with 0.
     pub relation: Relation,
     /// The literal's atom, which has both numbers.
     pub atom: TermId,
@@ -50,8 +50,8 @@ pub(crate) fn are_numbers(table: &TermTable, left: TermId, right: TermId) -> boo
 }
 
 /// Says what the negation of a literal with this head before two numbers does; nothing where it is no order, and no negated equality.
-fn said_by(head: Head, literal: Lit, left: TermId, right: TermId) -> Option<Negation>
-    ensures { result ≡ said_by head literal left right }
+fn denial_by(head: Head, literal: Lit, left: TermId, right: TermId) -> Option<Negation>
+    ensures { result ≡ denial_by head literal left right }
 {
     let (relation, left, right) = match (head, literal.positive) {
         (Head::Equal, false) => (Relation::Zero, left, right),
@@ -86,5 +86,5 @@ pub(crate) fn negation_of(table: &TermTable, id: TermId) -> Option<Negation>
     if !are_numbers(table, *left, *right) {
         return None;
     }
-    said_by(node.head, literal, *left, *right)
+    denial_by(node.head, literal, *left, *right)
 }

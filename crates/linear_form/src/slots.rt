@@ -9,7 +9,7 @@ use crate::plan::WalkPlan;
 use std::alloc::Global;
 use world_io::NoMemory;
 
-/// Copies what stands at a place.
+/// Copies what is at a place.
 fn copied(
     alloc: Global,
     slots: &Vec<Option<KnownForm>>,
@@ -24,7 +24,7 @@ fn copied(
     }
 }
 
-/// Takes what stands at a place.
+/// Takes what is at a place.
 fn taken(slots: &mut Vec<Option<KnownForm>>, place: usize) -> KnownForm
     requires there { (t : TableView) × (k : ℕ) × SlotHolds t slots.old.items place k }
     ensures known { (t : TableView) (k : ℕ) → SlotHolds t slots.old.items place k → IsKnown t k result }
@@ -38,7 +38,7 @@ fn taken(slots: &mut Vec<Option<KnownForm>>, place: usize) -> KnownForm
     }
 }
 
-/// Takes what stands at the next place that is used, or copies it where it is used again.
+/// Takes what is at the next place that is used, or copies it where it is used again.
 pub fn fetch(
     alloc: Global,
     plan: &WalkPlan,

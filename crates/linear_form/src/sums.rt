@@ -51,7 +51,7 @@ impl From<FormStop> for ArithFault {
 /// Holds what a literal brings to the sum.
 #[derive(Drop)]
 pub(crate) struct WeightedForm {
-    /// How its form stands to 0 where the literal is false.
+    /// How its form compares with 0 where the literal is false.
     pub relation: Relation,
     /// Its form.
     pub form: Form,

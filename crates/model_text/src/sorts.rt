@@ -47,7 +47,7 @@ pub(crate) fn write_value<K: Sink>(symbols: &Symbols, v: Value, out: &mut K) -> 
     value(v, sort_of(symbols, v), out)
 }
 
-/// Gives what stands before the number of a parameter in their list.
+/// Gives what is before the number of a parameter in their list.
 fn opening(k: u64) -> &'static [u8]
     ensures { result.now ≡ gap k ++ codes "(@x" }
 {

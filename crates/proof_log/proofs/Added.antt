@@ -43,7 +43,7 @@ pub judged : (t : TableView) (log : List Logged) (l : Logged) (result : Result (
 judged t log l (Err e) f is h = subst (λ g. JudgesClause t log l (Err g)) (sym is) h
 judged t log l (Ok x) f is h = absurd is
 
--- what follows, and stands last, is added
+-- what follows, and is last, is added
 pub added : (t : TableView) (old : List Logged) (l : Logged) (id : StepId) (new : List Logged) → IsLogOf t old → AreFormulasIn t (named l)
     → FollowsFrom (derivation_in t old) (inference_of t l) → id.0 ≡ length old → new ≡ old ++ l ∷ [] → IsAdded t old l id new
 added t old l id new h here follows is_next is_last = record {

@@ -1,4 +1,4 @@
--- That the premises stand before each clause, of prefixes and with one clause more.
+-- That the premises are before each clause, of prefixes and with one clause more.
 use Rattle.std.proofs.Common.{inl, inr, ℕ, ◌<◌, List, [], ◌∷◌, ◌++◌, length, take, get_or, All, sym, subst, arith, length-append, length-take}
 use Rattle.std.proofs.lemmas.List.{get_or_append_left, get_or-take}
 use Rattle.std.proofs.lemmas.Bool.{cases_lt}
@@ -6,7 +6,7 @@ use Rattle.std.proofs.Math.Seq.{get_or-append_seam}
 use Rattle.proof_log.specs.declared.premises.StepId.{StepId}
 use Rattle.proof_log.specs.Logs.{Logged, no_logged, premises_in, AreEarlier}
 
--- the premises of a clause stand before a number
+-- the premises of a clause are before a number
 Before : ℕ → Logged → Type 0
 Before k l = All (λ (s : StepId). s.0 < k) (premises_in l)
 

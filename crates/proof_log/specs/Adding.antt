@@ -15,7 +15,7 @@ use Rattle.proof_log.specs.Logs.{Logged, assumed, AreStepsOf, clauses_in, infere
 pub record IsAssumedLast (old : List Logged) (t : TermId) (id : StepId) (new : List Logged) : Type 0 where
   -- the number is the next
   pub number : id.0 ≡ length old
-  -- it stands last
+  -- it is last
   pub last : new ≡ old ++ assumed t ∷ []
   -- over each table where the term is a formula, the log is right as before
   pub right : (u : TableView) → IsLogOf u old → IsFormulaIn u t → IsLogOf u new
@@ -25,11 +25,11 @@ abbrev pub Assumes : List Logged → TermId → Result StepId NoMemory → List 
 Assumes old t (Ok id) new = IsAssumedLast old t id new
 Assumes old t (Err _) new = new ≡ old
 
--- A clause that is right stands last, under the next number.
+-- A clause that is right is last, under the next number.
 pub record IsAdded (t : TableView) (old : List Logged) (l : Logged) (id : StepId) (new : List Logged) : Type 0 where
   -- the number is the next
   pub number : id.0 ≡ length old
-  -- it stands last
+  -- it is last
   pub last : new ≡ old ++ l ∷ []
   -- it follows from those before it
   pub follows : FollowsFrom (derivation_in t old) (inference_of t l)
@@ -47,7 +47,7 @@ Faults earlier x RuleFails = (FollowsFrom earlier x → ⊥) × (IsWideFrom earl
 Faults earlier x Wide = IsWideFrom earlier x
 Faults earlier x Memory = Unit {0}
 
--- what comes of adding a clause: it is right and stands last, or there is a fault and nothing is changed
+-- what comes of adding a clause: it is right and is last, or there is a fault and nothing is changed
 abbrev pub AddsClause : TableView → List Logged → Logged → Result StepId LogFault → List Logged → Type 0
 AddsClause t old l (Ok id) new = IsAdded t old l id new
 AddsClause t old l (Err f) new = Faults (derivation_in t old) (inference_of t l) f × (new ≡ old)

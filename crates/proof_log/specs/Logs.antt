@@ -48,7 +48,7 @@ AreStepsOf log ss = All (λ s. s.0 < length log) ss
 abbrev pub clauses_in : List Logged → List StepId → List (List TermId)
 clauses_in log ss = map (λ s. named (logged_at log s)) ss
 
--- the premises of each stand before it
+-- the premises of each are before it
 abbrev pub AreEarlier : List Logged → Type 0
 AreEarlier log = (k : ℕ) → k < length log → All (λ s. s.0 < k) (premises_in (slice_index_or log k no_logged))
 

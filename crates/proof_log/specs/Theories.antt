@@ -103,7 +103,7 @@ pub record DerivesLemmas (ts : List Term) (old new : Derived) : Type 0 where
   pub declared : declared_in new.table ≡ declared_in old.table
   -- the steps that came
   pub more : List Logged
-  -- they stand last
+  -- they are last
   pub log : new.log ≡ old.log ++ more
   -- the log is right over the table
   pub right : IsLogOf new.table new.log
@@ -119,11 +119,11 @@ Checks agrees refuses v old (Err stop) new = new ≡ old
 
 -- what a call of a theory came to: by what it gives; where an overflow stopped it; and where the budget of exchanges did; where memory
 -- runs out nothing is said
-abbrev pub CameTo : {A : Type 0} → Result A Stop → (came : A → Type 0) → (strained : Type 0) → (spent : Type 0) → Type 0
-CameTo (Ok x) came strained spent = came x
-CameTo (Err (Strained s)) came strained spent = strained
-CameTo (Err (Pivots n)) came strained spent = spent
-CameTo (Err stops.Memory) came strained spent = Unit {0}
+abbrev pub CameTo : {A : Type 0} → Result A Stop → (came : A → Type 0) → (overflowed : Type 0) → (spent : Type 0) → Type 0
+CameTo (Ok x) came overflowed spent = came x
+CameTo (Err (Strained s)) came overflowed spent = overflowed
+CameTo (Err (Pivots n)) came overflowed spent = spent
+CameTo (Err stops.Memory) came overflowed spent = Unit {0}
 
 -- how many runs are paid for after a check: one more where it found something wrong
 abbrev pub paid_after : Verdict → ℕ → ℕ

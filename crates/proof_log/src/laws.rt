@@ -15,7 +15,7 @@ pub fn empty_logs_are_right()
 {}
 
 /// States that a log over a table is one over each table to which this grows, and says the same there.
-pub fn logs_stand_in_grown_tables()
+pub fn logs_hold_in_grown_tables()
     ensures right { (t u : TableView) (log : List Logged) → IsLogOf t log → Extends t u → IsLogOf u log }
     ensures same { (t u : TableView) (log : List Logged) → IsLogOf t log → Extends t u
         → derivation_in u log ≡ derivation_in t log }
@@ -23,7 +23,7 @@ pub fn logs_stand_in_grown_tables()
 
 /// States that a log over a table is one over each table of its first terms with the same symbols, if it names these alone, and says
 /// the same there.
-pub fn logs_stand_in_cut_tables()
+pub fn logs_hold_in_cut_tables()
     ensures right { (t u : TableView) (n : ℕ) (log : List Logged) → IsLogOf t log → u.terms ≡ take n t.terms
         → u.symbols ≡ t.symbols → AreBelow n log → IsLogOf u log }
     ensures same { (t u : TableView) (n : ℕ) (log : List Logged) → IsLogOf t log → u.terms ≡ take n t.terms

@@ -184,7 +184,7 @@ impl ProofLog {
         self.entries.truncate(len as usize);
     }
 
-    /// States that the premises of each step stand before it.
+    /// States that the premises of each step are before it.
     pub fn premises_are_earlier(&self)
         ensures { AreEarlier self.now }
     {

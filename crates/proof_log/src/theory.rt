@@ -53,7 +53,7 @@ pub trait Theory {
     ghost stopped_by: { Self → TableView → List Term → ℕ → List (ℕ × ℕ) → Type 0 };
 
     /// What shows that a stop by an overflow is one, over a table and the watched terms.
-    ghost strains: { Self → TableView → List Term → Strain → Type 0 };
+    ghost may_overflow: { Self → TableView → List Term → Strain → Type 0 };
 
     /// What shows that a further exchange is needed, over a table and the watched terms.
     ghost needs_more: { Self → TableView → List Term → Type 0 };
@@ -74,7 +74,7 @@ pub trait Theory {
             (λ _. came_by self.new table.now ts (counted (term_at table.now id) n) es)
             (stopped_by self.new table.now ts n es) (Unit {0}) }
         ensures stops { IfErr result (StopsBy
-            (strains self.new table.now (terms_watched table.now (with_watched (view self.old) id))) (λ _. ⊥)) };
+            (may_overflow self.new table.now (terms_watched table.now (with_watched (view self.old) id))) (λ _. ⊥)) };
 
     /// Holds a literal more, of a term that it watches. It takes no memory.
     fn assume_lit(&mut self, lit: Lit)
@@ -91,7 +91,7 @@ pub trait Theory {
     /// made of the watched ones. `Clash` names one of them, whose clause is false under the held literals. Of the budget it may spend
     /// exchanges. `Memory` comes where memory ran out, `Strained` where a number leaves 128 bits, and `Pivots` where as many exchanges
     /// are made as the budget's limit, which it says, and a further one is needed. After a stop table and log are as they were, and the
-    /// budget keeps the exchanges that were made.
+    /// budget keeps the pivots that were made.
     ///
     /// Conditions: with each watched term its arguments are watched.
     fn check(
@@ -115,7 +115,7 @@ pub trait Theory {
             (λ verdict. came_by self.new table.new ts (paid_after verdict n) budget.new.exchanges)
             (stopped_by self.new table.new ts n budget.new.exchanges)
             (came_by self.new table.new ts (suc n) budget.new.exchanges) }
-        ensures stops { IfErr result (StopsBy (strains self.new table.new (terms_watched table.old (view self.old)))
+        ensures stops { IfErr result (StopsBy (may_overflow self.new table.new (terms_watched table.old (view self.old)))
             (AreSpent (needs_more self.new table.new (terms_watched table.old (view self.old))) budget.new)) };
 
     /// Marks what it holds and watches.

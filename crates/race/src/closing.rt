@@ -100,7 +100,7 @@ impl Marked {
         for t in formulas {
             self.hold(table, *t)?;
         }
-        self.closure.settle()?;
+        self.closure.saturate()?;
         Ok(())
     }
 
@@ -110,7 +110,7 @@ impl Marked {
             self.closure.back(1);
             self.marks -= 1;
         }
-        self.closure.settle()?;
+        self.closure.saturate()?;
         Ok(())
     }
 

@@ -98,7 +98,7 @@ fn add_cells(draft: &mut Draft, first: u64, step: u64, count: u64) -> Result<(),
     Ok(())
 }
 
-/// Adds what is checked in `transport` and `square`. The variable of a source and a sink stands in the order of the sources, and
+/// Adds what is checked in `transport` and `square`. The variable of a source and a sink is in the order of the sources, and
 /// for each of them in that of the sinks.
 fn transport(system: &mut System, draft: &mut Draft, sources: u32, n: u32) -> Result<(), Fault> {
     let sinks = u64::from(n.saturating_sub(sources));

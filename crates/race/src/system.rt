@@ -8,7 +8,7 @@ use crate::fault::Fault;
 use delta_num::Delta;
 use sat_budget::{Budget, Stop};
 use simplex_bounds::{Bound, Bounds, Lit, Side};
-use simplex_check::{Board, CheckOutcome};
+use simplex_check::{CheckOutcome, RealAssignment};
 use std::alloc::Global;
 use tableau::{Entry, Ratio};
 use term_core::TermId;
@@ -44,7 +44,7 @@ fn are_below(entries: &[Entry], number: u64) -> bool
 #[derive(Drop)]
 pub(crate) struct System {
     pub(crate) alloc: Global,
-    board: Board,
+    assignment: RealAssignment,
     bounds: Bounds,
 }
 
@@ -53,7 +53,7 @@ impl System {
     pub(crate) fn new(alloc: Global) -> System {
         System {
             alloc,
-            board: Board::new(alloc),
+            assignment: RealAssignment::new(alloc),
             bounds: Bounds::new(alloc),
         }
     }
@@ -61,7 +61,7 @@ impl System {
     /// Adds a variable, and gives its number.
     pub(crate) fn add_var(&mut self) -> Result<u64, Fault> {
         let variable = self.bounds.variables();
-        self.board.add_var()?;
+        self.assignment.add_var()?;
         self.bounds.add_var()?;
         Ok(variable)
     }
@@ -70,10 +70,10 @@ impl System {
     ///
     /// `Refused` comes where an entry's variable is not there.
     pub(crate) fn add_row(&mut self, entries: &[Entry]) -> Result<u64, Fault> {
-        if !are_below(entries, self.board.tableau().variables_len()) {
+        if !are_below(entries, self.assignment.tableau().variables_len()) {
             return Err(Fault::Refused);
         }
-        let variable = self.board.add_row(entries)?;
+        let variable = self.assignment.add_row(entries)?;
         self.bounds.add_var()?;
         Ok(variable)
     }
@@ -111,19 +111,19 @@ impl System {
 
     /// Counts the variables.
     pub(crate) fn variables(&self) -> u64 {
-        self.board.tableau().variables_len()
+        self.assignment.tableau().variables_len()
     }
 
     /// Counts the rows.
     pub(crate) fn rows(&self) -> u64 {
-        self.board.tableau().rows_len()
+        self.assignment.tableau().rows_len()
     }
 
     /// Counts the entries of all rows.
     pub(crate) fn entries(&self) -> u64 {
         let mut count = 0u64;
-        for row in 0..self.board.tableau().rows_len() {
-            count = count.saturating_add(self.board.tableau().entries(row).len() as u64);
+        for row in 0..self.assignment.tableau().rows_len() {
+            count = count.saturating_add(self.assignment.tableau().entries(row).len() as u64);
         }
         count
     }
@@ -135,9 +135,9 @@ impl System {
         &mut self,
         budget: &mut Budget,
     ) -> Result<Result<CheckOutcome, Stop>, Fault> {
-        if self.bounds.variables() > self.board.tableau().variables_len() {
+        if self.bounds.variables() > self.assignment.tableau().variables_len() {
             return Err(Fault::Refused);
         }
-        Ok(self.board.check(&self.bounds, budget))
+        Ok(self.assignment.check(&self.bounds, budget))
     }
 }

@@ -18,7 +18,7 @@ use world_io::{Failed, Sink, write_pieces};
 /// Writes the line of an error: its line and column, both from 1, in decimal, and its name, as `(error "2:9: PopTooFar")`.
 ///
 /// It takes no memory. `Failed` comes only where the sink's count of faults rose in this call; a prefix was then appended.
-/// Source: SMT-LIB 2.6, section 3.9; what stands between the quotes is own.
+/// Source: SMT-LIB 2.6, section 3.9; what is between the quotes is own.
 pub fn error<K: Sink>(place: Place, name: &[u8], out: &mut K) -> Result<(), Failed>
     ensures { Sends (error_text place.line place.col name.now) result (K.state out.old) (K.state out.new) }
 {

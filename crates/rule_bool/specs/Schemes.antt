@@ -67,7 +67,7 @@ pub record GivesRest (head : Head) (rest : Rest) (t : Term) (behind : Clause) : 
   -- the literals are as its arguments say
   pub by_arguments : Contains (rests_of rest (arguments_of t)) behind
 
--- the terms of numbers may stand after a term of these arguments
+-- the terms of numbers may be after a term of these arguments
 abbrev pub HasRest : TableView → Rest → List TermId → List TermId → Type 0
 HasRest table rest arguments ids = Contains (rests_of rest (clause_at table arguments)) (clause_at table ids)
 

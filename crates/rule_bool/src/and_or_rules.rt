@@ -57,7 +57,7 @@ pub fn rule_and_neg(
 /// Time goes in proportion to the arguments.
 ///
 /// Source: Alethe specification, rule `and`; that the place of the argument is not asked for is own, and so is that the premise
-/// may stand under two negations.
+/// may be under two negations.
 pub fn rule_and(table: &TermTable, premises: &[Clause], clause: &[TermId]) -> Result<(), RuleFails>
     requires premises { All (AreIn table.now) premises.now }
     requires clause { AreIn table.now clause.now }

@@ -50,7 +50,7 @@ fn judge_alone(
 
 /// Judges a step by its rule, whichever that is.
 ///
-/// What premises and conclusion a rule asks for says its own function (`resolution`, or `rule_` with the rule's name, which stands in
+/// What premises and conclusion a rule asks for says its own function (`resolution`, or `rule_` with the rule's name, which is in
 /// `rule_eq` where the rule is one of equality). `arguments` are what the texts of the step's `:args` write; `la_generic` alone takes them.
 ///
 /// `la_generic` and the two rules of resolution take memory from `alloc`; no other does.

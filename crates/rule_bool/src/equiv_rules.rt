@@ -86,7 +86,7 @@ pub fn rule_equiv_neg2(
 /// One premise, whose one term is `(= a b)`, for `a` and `b` of sort Bool; the conclusion is `(cl (not a) b)`. It is sound, since
 /// where terms of sort Bool are equal, both are true or neither is.
 ///
-/// Source: Alethe specification, rule `equiv1`; that the premise may stand under two negations is own.
+/// Source: Alethe specification, rule `equiv1`; that the premise may be under two negations is own.
 pub fn rule_equiv1(
     table: &TermTable,
     premises: &[Clause],
@@ -104,7 +104,7 @@ pub fn rule_equiv1(
 /// One premise, whose one term is `(= a b)`, for `a` and `b` of sort Bool; the conclusion is `(cl a (not b))`. It is sound, since
 /// where terms of sort Bool are equal, both are true or neither is.
 ///
-/// Source: Alethe specification, rule `equiv2`; that the premise may stand under two negations is own.
+/// Source: Alethe specification, rule `equiv2`; that the premise may be under two negations is own.
 pub fn rule_equiv2(
     table: &TermTable,
     premises: &[Clause],

@@ -67,7 +67,7 @@ pub fn rule_implies_neg2(
 /// One premise, whose one term is `(=> a b)`; the conclusion is `(cl (not a) b)`. It is sound, since where an implication is
 /// true, its first argument is not, or its second is.
 ///
-/// Source: Alethe specification, rule `implies`; that the premise may stand under two negations is own.
+/// Source: Alethe specification, rule `implies`; that the premise may be under two negations is own.
 pub fn rule_implies(
     table: &TermTable,
     premises: &[Clause],

@@ -86,7 +86,7 @@ pub fn rule_ite_neg2(
 /// One premise, whose one term is `(ite c a b)`, for `a` and `b` of sort Bool; the conclusion is `(cl c b)`. It is sound, since a
 /// choice has the value of its third argument where its first is not true.
 ///
-/// Source: Alethe specification, rule `ite1`; that the premise may stand under two negations is own.
+/// Source: Alethe specification, rule `ite1`; that the premise may be under two negations is own.
 pub fn rule_ite1(table: &TermTable, premises: &[Clause], clause: &[TermId]) -> Result<(), RuleFails>
     requires premises { All (AreIn table.now) premises.now }
     requires clause { AreIn table.now clause.now }
@@ -100,7 +100,7 @@ pub fn rule_ite1(table: &TermTable, premises: &[Clause], clause: &[TermId]) -> R
 /// One premise, whose one term is `(ite c a b)`, for `a` and `b` of sort Bool; the conclusion is `(cl (not c) a)`. It is sound,
 /// since a choice has the value of its second argument where its first is true.
 ///
-/// Source: Alethe specification, rule `ite2`; that the premise may stand under two negations is own.
+/// Source: Alethe specification, rule `ite2`; that the premise may be under two negations is own.
 pub fn rule_ite2(table: &TermTable, premises: &[Clause], clause: &[TermId]) -> Result<(), RuleFails>
     requires premises { All (AreIn table.now) premises.now }
     requires clause { AreIn table.now clause.now }

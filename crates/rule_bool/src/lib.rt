@@ -1,7 +1,7 @@
 //! Rules of Alethe on clauses of the table of terms of every sort.
 //!
 //! There is a call for each rule, and `judge` judges by the rule that is named, with what the texts of the step's arguments write. Of the
-//! rules of equality and functions the calls are those of `rule_eq`, and of arithmetic what is counted stands in `linear_form`. Premises
+//! rules of equality and functions the calls are those of `rule_eq`, and of arithmetic what is counted is in `linear_form`. Premises
 //! and clause give their terms by their numbers in the table, and terms are compared as they are read. `RuleFails` comes exactly where the
 //! step is not right. But for resolution and `la_generic` no rule takes memory, and where a rule's comment says nothing of time, it takes
 //! the same time for all terms.

@@ -12,7 +12,7 @@ use clause_literals::without_sign;
 use spec_proofs::{ArgumentLiteral, Rest};
 use term_core::{TermId, TermTable};
 
-/// Tells whether a term is the argument of a place, as it stands or negated.
+/// Tells whether a term is the argument of a place, as it is or negated.
 fn is_side(table: &TermTable, arguments: &[TermId], side: ArgumentLiteral, id: TermId) -> bool
     requires arguments { AreIn table.now arguments.now }
     requires id { IsIn table.now id }
@@ -26,7 +26,7 @@ fn is_side(table: &TermTable, arguments: &[TermId], side: ArgumentLiteral, id: T
     }
 }
 
-/// Tells whether terms are the arguments in their order, as they stand or negated.
+/// Tells whether terms are the arguments in their order, as they are or negated.
 fn are_each(table: &TermTable, arguments: &[TermId], positive: bool, ids: &[TermId]) -> bool
     requires arguments { AreIn table.now arguments.now }
     requires ids { AreIn table.now ids.now }
@@ -66,7 +66,7 @@ fn is_innermost(table: &TermTable, arguments: &[TermId], ids: &[TermId]) -> bool
     }
 }
 
-/// Tells whether there is one term, the argument of a place, as it stands or negated.
+/// Tells whether there is one term, the argument of a place, as it is or negated.
 fn is_one(table: &TermTable, arguments: &[TermId], side: ArgumentLiteral, ids: &[TermId]) -> bool
     requires arguments { AreIn table.now arguments.now }
     requires ids { AreIn table.now ids.now }
@@ -79,7 +79,7 @@ fn is_one(table: &TermTable, arguments: &[TermId], side: ArgumentLiteral, ids: &
     is_side(table, arguments, side, id)
 }
 
-/// Tells whether there are two terms, the arguments of two places, as they stand or negated.
+/// Tells whether there are two terms, the arguments of two places, as they are or negated.
 fn are_two(
     table: &TermTable,
     arguments: &[TermId],
@@ -102,7 +102,7 @@ fn are_two(
     is_side(table, arguments, second, *other)
 }
 
-/// Tells whether there is one term, one of the arguments, as it stands or negated.
+/// Tells whether there is one term, one of the arguments, as it is or negated.
 fn is_any(table: &TermTable, arguments: &[TermId], positive: bool, ids: &[TermId]) -> bool
     requires arguments { AreIn table.now arguments.now }
     requires ids { AreIn table.now ids.now }

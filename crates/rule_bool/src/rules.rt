@@ -31,11 +31,11 @@ fn disjunction<'a>(table: &'a TermTable, premises: &[Clause]) -> Option<&'a Node
 
 /// Judges a step of the rule `or`, which opens a disjunction into its arguments.
 ///
-/// One premise, whose one literal is a term `(or t1 .. tn)` as it stands, with one argument or more; the conclusion has each of
+/// One premise, whose one literal is a term `(or t1 .. tn)` as it is, with one argument or more; the conclusion has each of
 /// them, in any order, maybe more than once, and maybe others. It is sound, since where the disjunction is true, one of its
 /// arguments is, and with it the conclusion.
 ///
-/// Time goes in proportion to the lengths where the terms stand in the clause's order, with gaps or repeats, and is their product
+/// Time goes in proportion to the lengths where the terms are in the clause's order, with gaps or repeats, and is their product
 /// at worst.
 ///
 /// Source: Alethe specification, rule `or`; that order, repeats and further literals are free is own.
@@ -79,7 +79,7 @@ fn keeps_literals(
 /// One premise; the conclusion has each of its literals, as the same terms, in any order, and maybe others. It is sound, since
 /// where the premise is true, one of its literals is, and with it the conclusion.
 ///
-/// Time goes in proportion to the lengths where the terms stand in the clause's order, with gaps or repeats, and is their product
+/// Time goes in proportion to the lengths where the terms are in the clause's order, with gaps or repeats, and is their product
 /// at worst.
 ///
 /// Source: Alethe specification, rule `contraction`; that order and further literals are free is own.
@@ -100,7 +100,7 @@ pub fn rule_contraction(
 /// One premise; the conclusion has each of its literals, as the same terms, and maybe others. It is sound, since where the
 /// premise is true, one of its literals is, and with it the conclusion.
 ///
-/// Time goes in proportion to the lengths where the terms stand in the clause's order, with gaps or repeats, and is their product
+/// Time goes in proportion to the lengths where the terms are in the clause's order, with gaps or repeats, and is their product
 /// at worst.
 ///
 /// Source: Alethe specification, rule `reordering`; that repeats and further literals are free is own.
@@ -121,7 +121,7 @@ pub fn rule_reordering(
 /// One premise; the conclusion has each of its literals, as the same terms, at any places among others. It is sound, since where
 /// the premise is true, one of its literals is, and with it the conclusion.
 ///
-/// Time goes in proportion to the lengths where the terms stand in the clause's order, with gaps or repeats, and is their product
+/// Time goes in proportion to the lengths where the terms are in the clause's order, with gaps or repeats, and is their product
 /// at worst.
 ///
 /// Source: Alethe specification, rule `weakening`; that the added literals may stand anywhere, and that repeats may be left out,

@@ -7,20 +7,20 @@ use spec_equality::EqualityRule;
 use spec_proofs::{ArgumentLiteral, Rest, Rule};
 use term_core::Head;
 
-/// Says which clauses a term gives: its head, how it comes first, and what stands after it. The term's arguments have the sort Bool.
+/// Says which clauses a term gives: its head, how it comes first, and what is after it. The term's arguments have the sort Bool.
 ///
 /// Source: Alethe specification, rules.
 #[derive(Clone, Copy, Debug, PartialEq, Eq)]
 pub struct Scheme {
     /// The head of the first term.
     pub head: Head,
-    /// Whether the first term is meant as it stands, and not negated.
+    /// Whether the first term is meant as it is, and not negated.
     pub positive: bool,
     /// The literals after it, by its arguments.
     pub rest: Rest,
 }
 
-/// The first argument as it stands.
+/// The first argument as it is.
 const FIRST: ArgumentLiteral = ArgumentLiteral {
     place: 0,
     positive: true,
@@ -32,7 +32,7 @@ const NOT_FIRST: ArgumentLiteral = ArgumentLiteral {
     positive: false,
 };
 
-/// The second argument as it stands.
+/// The second argument as it is.
 const SECOND: ArgumentLiteral = ArgumentLiteral {
     place: 1,
     positive: true,
@@ -44,7 +44,7 @@ const NOT_SECOND: ArgumentLiteral = ArgumentLiteral {
     positive: false,
 };
 
-/// The third argument as it stands.
+/// The third argument as it is.
 const THIRD: ArgumentLiteral = ArgumentLiteral {
     place: 2,
     positive: true,

@@ -56,7 +56,7 @@ fn place_around(ids: &[TermId], id: TermId, from: usize) -> Option<usize>
 /// Tells whether the clause has each term of the list.
 ///
 /// The look for a term begins at the place of the term before it, and goes on from the prefix at the clause's end. So it takes time
-/// in proportion to both lengths where the terms stand in the clause's order, with gaps or repeats; far out of that order the
+/// in proportion to both lengths where the terms are in the clause's order, with gaps or repeats; far out of that order the
 /// lengths are multiplied, since a set of the clause's terms would take memory, which the rules on single premises do without.
 pub(crate) fn has_each(clause: &[TermId], ids: &[TermId]) -> bool
     ensures { MatchBool result (IsWithin ids.now clause.now) (IsWithin ids.now clause.now → ⊥) }

@@ -86,7 +86,7 @@ pub fn rule_xor_neg2(
 /// One premise, whose one term is `(xor a b)`; the conclusion is `(cl a b)`. It is sound, since where an exclusive disjunction is
 /// true, exactly one of its arguments is.
 ///
-/// Source: Alethe specification, rule `xor1`; that the premise may stand under two negations is own.
+/// Source: Alethe specification, rule `xor1`; that the premise may be under two negations is own.
 pub fn rule_xor1(table: &TermTable, premises: &[Clause], clause: &[TermId]) -> Result<(), RuleFails>
     requires premises { All (AreIn table.now) premises.now }
     requires clause { AreIn table.now clause.now }
@@ -100,7 +100,7 @@ pub fn rule_xor1(table: &TermTable, premises: &[Clause], clause: &[TermId]) -> R
 /// One premise, whose one term is `(xor a b)`; the conclusion is `(cl (not a) (not b))`. It is sound, since where an exclusive
 /// disjunction is true, exactly one of its arguments is.
 ///
-/// Source: Alethe specification, rule `xor2`; that the premise may stand under two negations is own.
+/// Source: Alethe specification, rule `xor2`; that the premise may be under two negations is own.
 pub fn rule_xor2(table: &TermTable, premises: &[Clause], clause: &[TermId]) -> Result<(), RuleFails>
     requires premises { All (AreIn table.now) premises.now }
     requires clause { AreIn table.now clause.now }

@@ -94,7 +94,7 @@ fn place_for(
 /// Tells whether each of the terms is the other of its place, or a reason joins the two.
 ///
 /// The look for a reason begins at the place of the reason before it, and goes on from the first. So it takes time in proportion
-/// to terms and reasons where the reasons stand in the order of the terms, with gaps or repeats; out of that order it is their
+/// to terms and reasons where the reasons are in the order of the terms, with gaps or repeats; out of that order it is their
 /// product at worst, since a map of the reasons would take memory.
 fn are_joined(table: &TermTable, reasons: Reasons<'_>, terms: &[TermId], others: &[TermId]) -> bool
     requires reasons { AreReasonsIn table.now reasons }

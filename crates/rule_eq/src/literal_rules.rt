@@ -47,11 +47,11 @@ pub fn rule_eq_transitive(
 /// Judges a step of the rule `eq_congruent`, by which a head's terms are equal where its arguments are.
 ///
 /// No premise; the conclusion is `(cl (not (= t1 u1)) .. (not (= tn un)) (= (f t1 .. tn) (f u1 .. un)))`, of one head and as many
-/// arguments, at least one. The equality stands last. Each argument is the same as the other of its place, or their negated equality
-/// stands before it, in either direction; these stand in any order, and there may be other literals. It is sound, since where all
+/// arguments, at least one. The equality is last. Each argument is the same as the other of its place, or their negated equality
+/// is before it, in either direction; these are in any order, and there may be other literals. It is sound, since where all
 /// of the equalities are true, the head has one value.
 ///
-/// Time goes in proportion to the literals where they stand in the order of the arguments, with gaps or repeats, and is the product
+/// Time goes in proportion to the literals where they are in the order of the arguments, with gaps or repeats, and is the product
 /// of arguments and literals at worst.
 ///
 /// Source: Alethe specification, rule `eq_congruent`; that order and directions are free, and so are further literals, is own.
@@ -107,7 +107,7 @@ fn ends_in_denied(table: &TermTable, clause: &[TermId]) -> bool
 /// `(not (f t1 .. tn)) (f u1 .. un)` in the place of their equality. It is sound, since where all of the equalities are true, the
 /// head has one value.
 ///
-/// Time goes in proportion to the literals where they stand in the order of the arguments, with gaps or repeats, and is the product
+/// Time goes in proportion to the literals where they are in the order of the arguments, with gaps or repeats, and is the product
 /// of arguments and literals at worst.
 ///
 /// Source: Alethe specification, rule `eq_congruent_pred`, and for the other form earlier texts of it; that order and directions

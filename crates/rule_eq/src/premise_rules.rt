@@ -38,7 +38,7 @@ pub fn rule_symm(table: &TermTable, premises: &[Clause], clause: &[TermId]) -> R
 
 /// Judges a step of the rule `trans`, by which terms are equal where a chain of equalities leads from one to the other.
 ///
-/// Premises `(cl (= t1 t2))` .. `(cl (= tm tn))`, at least one; the conclusion is `(cl (= t1 tn))`. They stand in the order of the
+/// Premises `(cl (= t1 t2))` .. `(cl (= tm tn))`, at least one; the conclusion is `(cl (= t1 tn))`. They are in the order of the
 /// chain, each in either direction. It is sound, since the terms of the chain have one value.
 ///
 /// Time goes in proportion to the premises.
@@ -71,10 +71,10 @@ pub fn rule_trans(
 /// Judges a step of the rule `cong`, by which a head's terms are equal where its arguments are.
 ///
 /// The conclusion is `(cl (= (f t1 .. tn) (f u1 .. un)))`, of one head and as many arguments, at least one. Each argument is the
-/// same as the other of its place, or a premise is their equality alone, in either direction; premises stand in any order, and there
+/// same as the other of its place, or a premise is their equality alone, in either direction; premises are in any order, and there
 /// may be others. It is sound, since a head gives one value at arguments of the same values.
 ///
-/// Time goes in proportion to arguments and premises where the premises stand in the order of the arguments, with gaps or repeats,
+/// Time goes in proportion to arguments and premises where the premises are in the order of the arguments, with gaps or repeats,
 /// and is their product at worst.
 ///
 /// Source: Alethe specification, rule `cong`; that order and directions are free, and so are further premises, is own.

@@ -47,10 +47,10 @@ Spends old new = (more : List (ℕ × ℕ)) × (new ≡ record old { exchanges =
 
 -- what shows a stop of a theory's call: what is to be shown of an overflow, and of the number of exchanges that is their limit; memory may run
 -- out anywhere
-abbrev pub StopsBy : (strains : Strain → Type 0) → (spent : ℕ → Type 0) → Stop → Type 0
-StopsBy strains spent (Strained s) = strains s
-StopsBy strains spent (Pivots n) = spent n
-StopsBy strains spent stops.Memory = ⊤
+abbrev pub StopsBy : (may_overflow : Strain → Type 0) → (spent : ℕ → Type 0) → Stop → Type 0
+StopsBy may_overflow spent (Strained s) = may_overflow s
+StopsBy may_overflow spent (Pivots n) = spent n
+StopsBy may_overflow spent stops.Memory = ⊤
 
 -- so many exchanges are made, which is their limit, and a further one is needed
 abbrev pub AreSpent : (needs_more : Type 0) → BudgetView → ℕ → Type 0

@@ -12,7 +12,7 @@ use world_io::NoMemory;
 /// Holds the limits of one search on conflicts and on exchanges, the clauses that it has learned, and the exchanges that it has
 /// made, oldest first.
 ///
-/// Each conflict that is learned from is a clause here, and each pivot of arithmetic an exchange of two variables by their
+/// Each conflict that is learned from is a clause here, and each pivot of arithmetic an pivot of two variables by their
 /// numbers, so that what is spent can be seen.
 #[derive(Drop)]
 pub struct Budget {
@@ -152,7 +152,7 @@ impl Budget {
         })
     }
 
-    /// States that no more clauses are learned, and no more exchanges made, than the limits allow.
+    /// States that no more clauses are learned, and no more pivots made, than the limits allow.
     pub fn is_within(&self)
         ensures learned { length self.now.learned ≤ self.now.limit }
         ensures exchanges { length self.now.exchanges ≤ self.now.pivots }

@@ -184,18 +184,18 @@ pop_values front held l values e g = record {
       ]
     ]
 
--- what stands by variable, where a literal more gets its own
+-- what is by variable, where a literal more gets its own
 pub pushed_map : {X : Type 0} → (held : List Lit) (l : Lit) (xs : List X) (y d : X) → l.term.0 < length xs → ((m : Lit) → Contains held m → m.term.0 ≢ l.term.0)
     → by_variable (set xs l.term.0 y) d (held ++ l ∷ []) ≡ by_variable xs d held ++ y ∷ []
 pushed_map [] l xs y d lt apart = λ i. get_or-set_same xs l.term.0 y d lt i ∷ []
 pushed_map (m ∷ ms) l xs y d lt apart = λ i. get_or-set_other xs l.term.0 m.term.0 y d (apart m (0, omega arith, refl)) i ∷ pushed_map ms l xs y d lt (λ n c. apart n (suc c.0, omega (arith, c.1), c.2)) i
 
--- what stands by variable, with a variable more
+-- what is by variable, with a variable more
 pub grown_map : {X : Type 0} → (held : List Lit) (xs : List X) (y d : X) → ((l : Lit) → Contains held l → l.term.0 < length xs) → by_variable (xs ++ y ∷ []) d held ≡ by_variable xs d held
 grown_map [] xs y d h = refl
 grown_map (m ∷ ms) xs y d h = λ i. get_or_append_left xs (y ∷ []) d m.term.0 (h m (0, omega arith, refl)) i ∷ grown_map ms xs y d (λ n c. h n (suc c.0, omega (arith, c.1), c.2)) i
 
--- what stands by variable, of the literal of a place
+-- what is by variable, of the literal of a place
 pub at_place : {X : Type 0} → (held : List Lit) (xs : List X) (n : ℕ) (d e : X) (l : Lit) → n < length held → l ≡ get_or held n l → get_or xs l.term.0 d ≡ get_or (by_variable xs d held) n e
 at_place held xs n d e l lt is = ap (λ (m : Lit). get_or xs m.term.0 d) is ∙ sym (get_or-map (λ (m : Lit). get_or xs m.term.0 d) held n l e lt)
 

@@ -5,7 +5,7 @@ use Rattle.sat_trail.specs.Trails.{TrailView}
 use Rattle.sat_trail.specs.Values.{HasValues}
 use Rattle.sat_trail.specs.declared.trail.SatTrail.TheInside.{Inside}
 
--- of each literal what stands by its variable
+-- of each literal what is by its variable
 abbrev pub by_variable : {X : Type 0} → List X → X → List Lit → List X
 by_variable xs d held = map (λ (l : Lit). get_or xs l.term.0 d) held
 

@@ -55,7 +55,7 @@ pub record HasSame (old new : TrailView) : Type 0 where
   -- the level
   pub level : new.level ≡ old.level
 
--- A literal stands last, with a reason, at a level that is the trail's from then on.
+-- A literal is last, with a reason, at a level that is the trail's from then on.
 pub record IsPushed (old : TrailView) (l : Lit) (reason : Option ℕ) (n : ℕ) (new : TrailView) : Type 0 where
   -- the literal is the last
   pub literals : new.literals ≡ old.literals ++ l ∷ []

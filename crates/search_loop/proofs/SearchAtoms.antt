@@ -38,7 +38,7 @@ not_true_fact = pair Equal (negated (of True [])) (of False [])
 abbrev not_false_fact : Term
 not_false_fact = pair Equal (negated (of False [])) (of True [])
 
--- the literals of a term as it stands, and negated
+-- the literals of a term as it is, and negated
 abbrev yes : Term → Literal
 yes u = record { atom = u; positive = true }
 

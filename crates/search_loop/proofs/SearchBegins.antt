@@ -68,11 +68,11 @@ among_roots t roots (stepped r ps qs c) h = tt
 pub answered_both : (ts bs : List Term) → AreAnswered ts → AreAnswered bs → AreAnswered (known_terms (speaking ts bs))
 answered_both ts bs own others = All-append IsLinear bs (ts ++ []) others (subst AreAnswered (sym (append-nil ts)) own)
 
-module _ (t u : TableView) (differ : AreDifferent u.terms) (roots beside : List TermId) (roots_in : AreFormulasIn t roots) (beside_in : AreFormulasIn t beside) (answered : AreAnswered (known_terms (problem_in t roots beside)))
-    (log old : List Logged) (none : old ≡ []) (steps : List StepId) (g : Grows roots t u old log) (h : HasClauses u log (problem_in t roots beside) steps) (m : AreAllMade old log steps)
-    (store : StoreView) (s : IsStoreOf u log steps store) (terms atoms : List TermId) (listed : AreSearchTerms u (problem_in t roots beside) terms) (chosen : AreAtomsAmong u terms atoms) where
+module _ (t u : TableView) (differ : AreDifferent u.terms) (roots interface : List TermId) (roots_in : AreFormulasIn t roots) (interface_in : AreFormulasIn t interface) (answered : AreAnswered (known_terms (problem_in t roots interface)))
+    (log old : List Logged) (none : old ≡ []) (steps : List StepId) (g : Grows roots t u old log) (h : HasClauses u log (problem_in t roots interface) steps) (m : AreAllMade old log steps)
+    (store : StoreView) (s : IsStoreOf u log steps store) (terms atoms : List TermId) (listed : AreSearchTerms u (problem_in t roots interface) terms) (chosen : AreAtomsAmong u terms atoms) where
   abbrev problem : Problem
-  problem = problem_in t roots beside
+  problem = problem_in t roots interface
 
   meant : clause_at u roots ≡ clause_at t roots
   meant = clause_at-kept t u g.table roots (λ k d lt. (roots_in k d lt).0)
@@ -186,9 +186,9 @@ module _ (t u : TableView) (differ : AreDifferent u.terms) (roots beside : List 
   search_begins x log_same store_same terms_same learned = record {
     roots = roots;
     roots_in = λ k d lt. formula_kept t u (record { terms = g.table; declared = g.declared }) (get_or roots k d) (roots_in k d lt);
-    beside = beside;
-    beside_in = λ k d lt. formula_kept t u (record { terms = g.table; declared = g.declared }) (get_or beside k d) (beside_in k d lt);
-    meant = problem_kept t u g.table roots beside roots_in beside_in;
+    interface = interface;
+    interface_in = λ k d lt. formula_kept t u (record { terms = g.table; declared = g.declared }) (get_or interface k d) (interface_in k d lt);
+    meant = problem_kept t u g.table roots interface roots_in interface_in;
     answered = answered;
     listed = subst (AreSearchTerms u problem) (sym terms_same) listed;
     derived = subst (λ (xs : List Logged). HasDerived problem (derivation_in u xs) (images u x.store.clauses) (images u x.budget.learned)) (sym log_same)

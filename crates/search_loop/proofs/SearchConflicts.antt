@@ -86,7 +86,7 @@ module _ (t : TableView) (differ : AreDifferent t.terms) (x : Search) (r : Searc
       new_before p.0 p.1 p.2 clause o.one (false_in o.one n o.of_level) o.there (not_before x.trail once leveled p.0 p.1 p.2 consistent o.one n o.of_level)
       (λ m i ne. let b = o.below m i ne in false_before x.trail once leveled p.0 p.1 p.2 m b.0 b.1 (omega (arith, b.3, p.3)))
 
--- where a clash has a level above 0, the search has one
+-- where a conflict has a level above 0, the search has one
 pub level_above : (t : TableView) (x : Search) (clash : StepId) (n : ℕ) → IsLeveled x.trail → IsConflictLevel (conflict_of t x clash) n → 0 < n → 0 < x.trail.level
 level_above t x clash n leveled h above = elim h.reached [
   | inl none ↦ absurd (omega (arith, none, above))

@@ -133,9 +133,9 @@ module _ (t u : TableView) (g : Extends t u) (declared : declared_in u ≡ decla
           record {
             roots = s.roots;
             roots_in = λ k e lt. formula_kept t u (record { terms = g; declared = declared }) (get_or s.roots k e) (s.roots_in k e lt);
-            beside = s.beside;
-            beside_in = λ k e lt. formula_kept t u (record { terms = g; declared = declared }) (get_or s.beside k e) (s.beside_in k e lt);
-            meant = problem_kept t u g s.roots s.beside s.roots_in s.beside_in ∙ s.meant;
+            interface = s.interface;
+            interface_in = λ k e lt. formula_kept t u (record { terms = g; declared = declared }) (get_or s.interface k e) (s.interface_in k e lt);
+            meant = problem_kept t u g s.roots s.interface s.roots_in s.interface_in ∙ s.meant;
             answered = s.answered;
             listed = listed_kept problem x.terms.items s.listed;
             derived = subst (λ (e : Derivation). HasDerived problem e (images u x.store.clauses) (images u x.budget.learned)) (sym is)

@@ -63,7 +63,7 @@ module _ (t : TableView) (x : Search) (r : SearchFits t x) (step : StepId) (held
     learned = r.learned;
   }
 
-  -- the clause stands last
+  -- the clause is last
   image : images t s.clauses ≡ images t x.store.clauses ++ literals_of (conclusion_at (derivation_in t x.log) step.0) ∷ []
   image = ap (images t) a.clauses ∙ map-append (map (literal_at t)) x.store.clauses (a.clause ∷ [])
       ∙ ap (λ (c : List Literal). images t x.store.clauses ++ c ∷ []) (a.means.same ∙ ap literals_of (sym (conclusion_there t x.log step clash.in_log)))
@@ -72,8 +72,8 @@ module _ (t : TableView) (x : Search) (r : SearchFits t x) (step : StepId) (held
   search_kept problem z = record {
     roots = z.roots;
     roots_in = z.roots_in;
-    beside = z.beside;
-    beside_in = z.beside_in;
+    interface = z.interface;
+    interface_in = z.interface_in;
     meant = z.meant;
     answered = z.answered;
     listed = z.listed;

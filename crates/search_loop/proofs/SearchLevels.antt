@@ -1,4 +1,4 @@
--- What stands before the decision of a level, and what does not.
+-- What is before the decision of a level, and what does not.
 use Rattle.std.proofs.Common.{◌≡◌, ℕ, ◌-◌, ◌<◌, ◌≤◌, List, length, get_or, take, Contains, inl, inr, sym, ap, ◌∙◌, arith}
 use Rattle.std.specs.Prelude.{None}
 use Rattle.std.proofs.lemmas.Bool.{cases_lt}
@@ -65,8 +65,8 @@ module _ (v : TrailView) (once : VariablesAreApart v.literals) (leveled : IsLeve
     false_before m n f lt = in_front v.literals f.place p (lit_complement m) (lower_before f.place f.within (omega (arith, lt, f.level))) f.within (omega (arith, within)) f.there
 
     -- a clause with one literal of a level is settled before each decision of the levels below, up to that of the others
-    pub settled_before : (clause : List Lit) (n level : ℕ) → HasOneAt v clause n level → get_or v.levels p 0 ≤ level → PropagatesNothing (take p v.literals) clause
-    settled_before clause n level h le = elim h.reached [
+    pub leveled_before : (clause : List Lit) (n level : ℕ) → HasOneAt v clause n level → get_or v.levels p 0 ≤ level → PropagatesNothing (take p v.literals) clause
+    leveled_before clause n level h le = elim h.reached [
       | inl zero ↦ let up = leveled.decided p within none in absurd (omega (arith, zero, le, up))
       | inr x ↦
           let b = h.below x.0 x.1 x.2 in

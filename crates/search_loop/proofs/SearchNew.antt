@@ -9,7 +9,7 @@ use Rattle.spec_derivations.proofs.Learned.{quiet_is_new}
 use Rattle.term_core.specs.declared.ids.Lit.{Lit}
 use Rattle.term_core.specs.Tables.{TableView, IsIn, AreDifferent, literal_at}
 use Rattle.clause_literals.specs.Literals.{lit_complement}
-use Rattle.clause_literals.specs.Statuses.{PropagatesNothing as LitSettled}
+use Rattle.clause_literals.specs.Statuses.{PropagatesNothing as LitInert}
 use Rattle.clause_literals.proofs.TableLiterals.{literals_apart}
 use Rattle.clause_store.specs.Propagating.{IsPropagated as LitQuiet}
 
@@ -35,9 +35,9 @@ module _ (t : TableView) (differ : AreDifferent t.terms) (front : List Lit) (the
       subst (λ (x : Lit). Contains front x) (literals_apart t differ h.0 l (there h.0 h.1) l_in h.2) h.1
 
   -- a settled clause's image is settled
-  settled_image : (d : List Lit) → ((l : Lit) → Contains d l → IsIn t l.term) → LitSettled front d → ImpliesNothing complement images (map (literal_at t) d)
-  settled_image d d_in (inl s) = inl (literal_at t s.literal, to_image (literal_at t) d s.literal s.there, to_image (literal_at t) front s.literal s.holds)
-  settled_image d d_in (inr s) = inr (
+  inert_image : (d : List Lit) → ((l : Lit) → Contains d l → IsIn t l.term) → LitInert front d → ImpliesNothing complement images (map (literal_at t) d)
+  inert_image d d_in (inl s) = inl (literal_at t s.literal, to_image (literal_at t) d s.literal s.there, to_image (literal_at t) front s.literal s.holds)
+  inert_image d d_in (inr s) = inr (
     literal_at t s.one,
     literal_at t s.other,
     to_image (literal_at t) d s.one s.has_one,
@@ -52,7 +52,7 @@ module _ (t : TableView) (differ : AreDifferent t.terms) (front : List Lit) (the
       → (premises : List (List Literal)) → ((c : List Literal) → Contains premises c → (d : List Lit) × Contains clauses d × (map (literal_at t) d ≡ c)) → IsQuiet complement premises images
   quiet_images clauses clauses_in quiet premises from c i =
       let h = from c i in
-      subst (λ x. ImpliesNothing complement images x) h.2 (settled_image h.0 (λ l j. clauses_in h.0 l h.1 j) (quiet h.0 h.1))
+      subst (λ x. ImpliesNothing complement images x) h.2 (inert_image h.0 (λ l j. clauses_in h.0 l h.1 j) (quiet h.0 h.1))
 
   -- consistent literals' images are consistent
   pub consistent_images : ((l : Lit) → Contains front l → Contains front (lit_complement l) → ⊥) → IsConsistent complement images

@@ -139,7 +139,7 @@ paid_begun a l h = omega arith
 pub paid_more : (a l later before after held n m k : ℕ) → n ≤ paid a l before → m + before ≡ n + after → k ≤ m → later ≡ l → held ≡ after → k ≤ paid a later held
 paid_more a l later before after held n m k le e few is same = rw (is, same) (omega (arith, le, e, few))
 
--- where a clause is learned after a clash
+-- where a clause is learned after a conflict
 pub paid_learned : (a l later before after held n m k : ℕ) → n ≤ paid a l before → m + before ≡ n + after → after ≤ a → k ≤ suc m → later ≡ l + 1 → k ≤ paid a later held
 paid_learned a l later before after held n m k le e most few is = rw is (omega (arith, le, e, most, few))
 

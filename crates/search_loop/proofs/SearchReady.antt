@@ -25,7 +25,7 @@ use Rattle.search_loop.specs.Waiting.{AreOfAtoms, AreWaiting}
 use Rattle.search_loop.specs.Search.{AreAllOf, DerivesClauses, AreDecided, AreAtomsOf, AreCovered, SearchFits, conflict_of}
 use Rattle.search_loop.specs.Rounds.{IsNoted}
 use Rattle.search_loop.proofs.SearchLists.{means_one, of_kept}
-use Rattle.search_loop.proofs.SearchLevels.{settled_before}
+use Rattle.search_loop.proofs.SearchLevels.{leveled_before}
 use Rattle.search_loop.proofs.SearchWaiting.{waiting_held}
 use Rattle.search_loop.proofs.SearchStored.{derives_same, implied_same, derives_with, derives_on, last_is, longer}
 use Rattle.search_loop.proofs.SearchDecisions.{decided_propagated, decided_more, decided_learned}
@@ -169,7 +169,7 @@ module _ (t u : TableView) (g : Extends t u) (differ : AreDifferent u.terms) (x 
     implied = implied;
     decided = subst (λ (ids : Ids). AreDecided ids.items y.store.clauses y.trail) (sym atoms) (subst (λ (cs : List (List Lit)). AreDecided x.atoms.items cs y.trail) (sym more_clauses)
         (decided_learned x.atoms.items x.store.clauses d.clause x.trail y.trail n leveled.levels_paired
-        (λ p within none le. settled_before x.trail once leveled p within none d.clause l.level d.level l.one (omega (arith, le, low))) cut r.decided));
+        (λ p within none le. leveled_before x.trail once leveled p within none d.clause l.level d.level l.one (omega (arith, le, low))) cut r.decided));
     atoms_are = subst (λ (ids : Ids). AreAtomsOf u ids.items y.atoms.items) (sym terms) (subst (λ (ids : Ids). AreAtomsOf u x.terms.items ids.items) (sym atoms) atoms_are);
     variables = subst (λ (ids : Ids). All (λ (id : TermId). id.0 < y.trail.vars) ids.items) (sym terms) (subst (λ (k : ℕ). All (λ (id : TermId). id.0 < k) x.terms.items) (sym cut.vars) r.variables);
     covered = subst (λ (ids : Ids). AreCovered ids.items y.store.clauses) (sym atoms) (subst (AreCovered x.atoms.items) (sym more_clauses) covers);

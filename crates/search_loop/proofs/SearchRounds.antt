@@ -14,8 +14,8 @@ use Rattle.search_loop.specs.declared.search.Search.{Search}
 use Rattle.search_loop.specs.declared.cdcl.Answer.{Answer}
 use Rattle.search_loop.specs.declared.cdcl.Answer.TheVariants.{Unsat, Unknown}
 use Rattle.search_loop.specs.declared.cdcl.End.{End}
-use Rattle.search_loop.specs.declared.cdcl.End.TheVariants.{Rests, Refuted, Stopped}
-use Rattle.search_loop.specs.Asking.{state, Settles, EndsSearch}
+use Rattle.search_loop.specs.declared.cdcl.End.TheVariants.{Saturated, Refuted, Stopped}
+use Rattle.search_loop.specs.Asking.{state, ResolvesConflict, EndsSearch}
 use Rattle.proof_log.specs.Theories.{TheoryView}
 use Rattle.search_loop.specs.Search.{images}
 use Rattle.search_loop.specs.Rounds.{HasDerived, Continues, ShowsAnswer}
@@ -32,8 +32,8 @@ continues_same t x y log clauses budget vars terms = record {
   search = λ problem s. record {
     roots = s.roots;
     roots_in = s.roots_in;
-    beside = s.beside;
-    beside_in = s.beside_in;
+    interface = s.interface;
+    interface_in = s.interface_in;
     meant = s.meant;
     answered = s.answered;
     listed = subst (λ (ids : Ids). AreSearchTerms t problem ids.items) (sym terms) s.listed;
@@ -70,10 +70,10 @@ pub shows_on : (s t u : TableView) (a b c : Search) (x : Answer) → Continues s
 shows_on s t u a b c x h shows problem z = shows problem (h.search problem z)
 
 -- so it is with what comes of a conflict that ends the search
-pub ends_on : (s t u : TableView) (a b c : Search) (v : TheoryView) (rested : Type 0) (end : End) → Continues s t a b → Settles (state t b) (state u c) v (Some end) → EndsSearch (state s a) (state u c) rested end
-ends_on s t u a b c v rested Rests h settles = absurd settles
-ends_on s t u a b c v rested (Refuted step) h settles = shows_on s t u a b c (Unsat step) h settles
-ends_on s t u a b c v rested (Stopped reason) h settles = shows_on s t u a b c (Unknown reason) h settles
+pub ends_on : (s t u : TableView) (a b c : Search) (v : TheoryView) (search_saturated : Type 0) (end : End) → Continues s t a b → ResolvesConflict (state t b) (state u c) v (Some end) → EndsSearch (state s a) (state u c) search_saturated end
+ends_on s t u a b c v search_saturated Saturated h resolves_conflict = absurd resolves_conflict
+ends_on s t u a b c v search_saturated (Refuted step) h resolves_conflict = shows_on s t u a b c (Unsat step) h resolves_conflict
+ends_on s t u a b c v search_saturated (Stopped reason) h resolves_conflict = shows_on s t u a b c (Unknown reason) h resolves_conflict
 
 -- a round that learns a clause leaves less
 pub less_learned : (limit later_limit n vars len later before after : ℕ) → later_limit ≡ limit → vars ≡ n → len < limit → later ≡ len + 1 → after ≤ n

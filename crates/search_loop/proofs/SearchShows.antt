@@ -183,9 +183,9 @@ module _ (t u : TableView) (g : Extends t u) (differ : AreDifferent t.terms) (di
       record {
         roots = s.roots;
         roots_in = λ k e lt. formula_kept t u (record { terms = g; declared = declared }) (get_or s.roots k e) (s.roots_in k e lt);
-        beside = s.beside;
-        beside_in = λ k e lt. formula_kept t u (record { terms = g; declared = declared }) (get_or s.beside k e) (s.beside_in k e lt);
-        meant = problem_kept t u g s.roots s.beside s.roots_in s.beside_in ∙ s.meant;
+        interface = s.interface;
+        interface_in = λ k e lt. formula_kept t u (record { terms = g; declared = declared }) (get_or s.interface k e) (s.interface_in k e lt);
+        meant = problem_kept t u g s.roots s.interface s.roots_in s.interface_in ∙ s.meant;
         answered = s.answered;
         listed = subst (λ (ids : Ids). AreSearchTerms u problem ids.items) (sym terms) (listed_kept t u g declared problem x.terms.items s.listed);
         derived = subst (λ (f : Derivation). HasDerived problem f (images u y.store.clauses) (images u y.budget.learned)) (sym (is t u g differ declared x r once leveled consistent same clash y.log d l))

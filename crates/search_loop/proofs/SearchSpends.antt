@@ -48,8 +48,8 @@ module _ (t : TableView) (x : Search) (b : BudgetView) (spends : Spends x.budget
     search = λ problem s. record {
       roots = s.roots;
       roots_in = s.roots_in;
-      beside = s.beside;
-      beside_in = s.beside_in;
+      interface = s.interface;
+      interface_in = s.interface_in;
       meant = s.meant;
       answered = s.answered;
       listed = s.listed;

@@ -12,7 +12,7 @@ use Rattle.sat_trail.specs.Trails.{TrailView}
 use Rattle.clause_store.specs.Propagating.{IsPropagated}
 use Rattle.search_loop.specs.declared.search.Search.{Search}
 use Rattle.search_loop.specs.declared.cdcl.End.{End}
-use Rattle.search_loop.specs.declared.cdcl.End.TheVariants.{Rests, Refuted, Stopped}
+use Rattle.search_loop.specs.declared.cdcl.End.TheVariants.{Saturated, Refuted, Stopped}
 use Rattle.search_loop.specs.declared.cdcl.Answer.TheVariants.{Unsat, Unknown}
 use Rattle.search_loop.specs.Waiting.{AreAssigned}
 use Rattle.search_loop.specs.Search.{AreSatisfied, SearchFits}
@@ -46,7 +46,7 @@ pub record IsAsked (v : TheoryView) (x : Search) : Type 0 where
   pub fed : x.fed ≡ length v.held
 
 -- A search rests: each atom has a value, of each clause a literal holds, and the theory agrees to what the trail holds.
-pub record HasRested (t : TableView) (x : Search) (v : TheoryView) (agreed : Type 0) : Type 0 where
+pub record HasSaturated (t : TableView) (x : Search) (v : TheoryView) (agreed : Type 0) : Type 0 where
   -- it fits together
   pub ready : SearchFits t x
   -- the theory holds what the trail does
@@ -90,11 +90,11 @@ LookFinds old new v agrees Fine = HasLooked old new v × IsPropagated new.search
 LookFinds old new v agrees (Clash step) = HasLooked old new v × IsClash new.table new.search.log new.search.trail.literals step
 
 -- what comes of a conflict: an answer is shown; or a clause is learned, for which the budget had room, and the theory keeps up
-abbrev pub Settles : (old new : SearchState) → TheoryView → Option End → Type 0
-Settles old new v (Some Rests) = ⊥
-Settles old new v (Some (Refuted step)) = ShowsAnswer old.table new.table old.search new.search (Unsat step)
-Settles old new v (Some (Stopped reason)) = ShowsAnswer old.table new.table old.search new.search (Unknown reason)
-Settles old new v None = HasLearned old.table new.table old.search new.search × IsAsked v new.search × (length old.search.budget.learned < old.search.budget.limit)
+abbrev pub ResolvesConflict : (old new : SearchState) → TheoryView → Option End → Type 0
+ResolvesConflict old new v (Some Saturated) = ⊥
+ResolvesConflict old new v (Some (Refuted step)) = ShowsAnswer old.table new.table old.search new.search (Unsat step)
+ResolvesConflict old new v (Some (Stopped reason)) = ShowsAnswer old.table new.table old.search new.search (Unknown reason)
+ResolvesConflict old new v None = HasLearned old.table new.table old.search new.search × IsAsked v new.search × (length old.search.budget.learned < old.search.budget.limit)
 
 -- A search stopped in a theory's check: it is for the same terms, and what it has derived stands.
 pub record HasStopped (old new : SearchState) (v : TheoryView) : Type 0 where
@@ -110,7 +110,7 @@ abbrev pub OnStop : Type 0 → Stop → Type 0
 OnStop P stop = StopsBy (λ s. P) (λ n. P) stop
 
 -- how a search ends: it rests, and is one for the same terms; or it shows of them what an answer does
-abbrev pub EndsSearch : (old new : SearchState) → (rested : Type 0) → End → Type 0
-EndsSearch old new rested Rests = rested × Continues old.table new.table old.search new.search
-EndsSearch old new rested (Refuted step) = ShowsAnswer old.table new.table old.search new.search (Unsat step)
-EndsSearch old new rested (Stopped reason) = ShowsAnswer old.table new.table old.search new.search (Unknown reason)
+abbrev pub EndsSearch : (old new : SearchState) → (search_saturated : Type 0) → End → Type 0
+EndsSearch old new search_saturated Saturated = search_saturated × Continues old.table new.table old.search new.search
+EndsSearch old new search_saturated (Refuted step) = ShowsAnswer old.table new.table old.search new.search (Unsat step)
+EndsSearch old new search_saturated (Stopped reason) = ShowsAnswer old.table new.table old.search new.search (Unknown reason)

@@ -30,7 +30,7 @@ use Rattle.search_loop.specs.declared.search.Search.{Search}
 use Rattle.search_loop.specs.declared.cdcl.Answer.{Answer}
 use Rattle.search_loop.specs.declared.cdcl.Answer.TheVariants.{Sat, Unsat, Unknown}
 use Rattle.search_loop.specs.Search.{images, SearchFits}
-use Rattle.search_loop.specs.Stops.{IsStrained, ArePivotsSpent}
+use Rattle.search_loop.specs.Stops.{IsOverflowed, ArePivotsSpent}
 use Rattle.search_model.specs.Models.{IsModel}
 
 -- it follows from other clauses by resolution
@@ -106,11 +106,11 @@ pub record IsSearch (t : TableView) (p : Problem) (x : Search) : Type 0 where
   -- its terms are formulas of the table, by their numbers
   pub roots : List TermId
   pub roots_in : AreFormulasIn t roots
-  -- and so are those beside them
-  pub beside : List TermId
-  pub beside_in : AreFormulasIn t beside
+  -- and so are the interface equalities
+  pub interface : List TermId
+  pub interface_in : AreFormulasIn t interface
   -- its terms are asserted, and nothing else is asked
-  pub meant : problem_in t roots beside ≡ p
+  pub meant : problem_in t roots interface ≡ p
   -- the search answers for both
   pub answered : AreAnswered (known_terms p)
   -- its terms are those that a search of the problem speaks of
@@ -152,7 +152,7 @@ added_by (Unknown reason) learned = learned
 abbrev pub HasEvidence : TableView → Problem → List Logged → BudgetView → Answer → Type 0
 HasEvidence t p log budget (Sat interp) = IsModel t (terms_of_problem p) interp
 HasEvidence t p log budget (Unsat step) = (stated t log step ≡ []) × IsDerivedFrom (terms_of_problem p) (derivation_in t log) step.0
-HasEvidence t p log budget (Unknown (Overflow s)) = IsStrained p (length budget.learned) budget.exchanges s
+HasEvidence t p log budget (Unknown (Overflow s)) = IsOverflowed p (length budget.learned) budget.exchanges s
 HasEvidence t p log budget (Unknown (Pivots n)) = ArePivotsSpent p budget n
 HasEvidence t p log budget (Unknown (Conflicts n)) = IsConflictBudgetSpent p (derivation_in t log) budget.limit n (map (map (literal_at t)) budget.learned) × IsConflict p (derivation_in t log) (map (map (literal_at t)) budget.learned)
 
@@ -162,7 +162,7 @@ abbrev pub HasLogged : Problem → Derivation → Answer → List (List Literal)
 HasLogged p d (Unknown (Overflow s)) learned = HasSteps p d learned ⊎ ((d ≡ []) × (learned ≡ []))
 HasLogged p d a learned = HasSteps p d (added_by a learned)
 
--- What stands beside each answer: the log assumes the problem's terms alone, what was learned may be, and is what the search added to the log.
+-- What is beside each answer: the log assumes the problem's terms alone, what was learned may be, and is what the search added to the log.
 pub record IsLearning (t : TableView) (p : Problem) (log : List Logged) (a : Answer) (learned : List (List Lit)) : Type 0 where
   -- the log assumes the problem's terms alone
   pub assumes : All (λ l. AssumesAmong (terms_of_problem p) (inference_of t l)) log

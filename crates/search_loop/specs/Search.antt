@@ -113,6 +113,6 @@ pub record SearchFits (t : TableView) (x : Search) : Type 0 where
   -- what was learned is over the table
   pub learned : AreAllOf t x.budget.learned
 
--- a clash of a search, with what it is to be understood by
+-- a conflict of a search, with what it is to be understood by
 abbrev pub conflict_of : TableView → Search → StepId → Conflict
 conflict_of t x clash = record { table = t; log = x.log; trail = x.trail; clash = clash }

@@ -2,17 +2,17 @@
 use Rattle.std.specs.Prelude.{◌≡◌, ℕ, List, [], length}
 use Rattle.spec_derivations.specs.Problems.{Problem, subterms_in}
 use Rattle.spec_derivations.specs.Orders.{whole_terms}
-use Rattle.spec_causes.specs.Standing.{Standing}
+use Rattle.spec_causes.specs.TermTableau.{TermTableau}
 use Rattle.spec_causes.specs.Reached.{IsStoppedAt}
 use Rattle.spec_causes.specs.Counts.{AreFewRuns}
-use Rattle.spec_causes.specs.Causes.{StrainsForm, StrainsAt}
+use Rattle.spec_causes.specs.Causes.{OverflowsForm, OverflowsAt}
 use Rattle.spec_causes.specs.Checks.{IsOverflowAmong}
 use Rattle.spec_causes.specs.Checks as causes
 use Rattle.ratio128.specs.Meant.{overflow}
 use Rattle.sat_budget.specs.declared.limits.Basis.{Basis}
 use Rattle.sat_budget.specs.declared.limits.Strain.{Strain}
 use Rattle.sat_budget.specs.Budgets.{BudgetView}
-use Rattle.simplex_atoms.specs.Standings.{IsBasisAt}
+use Rattle.simplex_atoms.specs.TermTableauViews.{IsBasisAt}
 
 -- no basis was there yet
 abbrev pub IsNoBasis : Basis → Type 0
@@ -20,14 +20,14 @@ IsNoBasis b = (b.variables.items ≡ []) × (b.values.items ≡ [])
 
 -- An operation of a search of the problem, which learned l clauses and kept these exchanges, leaves the bound, as the strain tells,
 -- which comes with the basis and the values where it was asked for.
-pub data IsStrained (p : Problem) (l : ℕ) (es : List (ℕ × ℕ)) (s : Strain) : Type 0 where
+pub data IsOverflowed (p : Problem) (l : ℕ) (es : List (ℕ × ℕ)) (s : Strain) : Type 0 where
   -- the form of an atom, before it begins
-  forming : l ≡ 0 → es ≡ [] → StrainsForm (subterms_in p) (overflow s.wide) → IsNoBasis s.basis → IsStrained p l es s
+  forming : l ≡ 0 → es ≡ [] → OverflowsForm (subterms_in p) (overflow s.wide) → IsNoBasis s.basis → IsOverflowed p l es s
   -- a clause of the orders of an equality, before there is a basis
-  ordering : l ≡ 0 → es ≡ [] → IsOverflowAmong (whole_terms p) (overflow s.wide) → IsNoBasis s.basis → IsStrained p l es s
+  ordering : l ≡ 0 → es ≡ [] → IsOverflowAmong (whole_terms p) (overflow s.wide) → IsNoBasis s.basis → IsOverflowed p l es s
   -- an operation of simplex, where it is stopped after these exchanges, in few runs
-  reckoning : (x : Standing) (runs : ℕ) → IsStoppedAt (whole_terms p) runs es x → AreFewRuns (whole_terms p) l runs
-      → StrainsAt (whole_terms p) x (overflow s.wide) → IsBasisAt x s.basis → IsStrained p l es s
+  reckoning : (x : TermTableau) (runs : ℕ) → IsStoppedAt (whole_terms p) runs es x → AreFewRuns (whole_terms p) l runs
+      → OverflowsAt (whole_terms p) x (overflow s.wide) → IsBasisAt x s.basis → IsOverflowed p l es s
 
 -- As many exchanges were made as the budget allows, which the reason says, and simplex needs a further one.
 pub record ArePivotsSpent (p : Problem) (budget : BudgetView) (n : ℕ) : Type 0 where

@@ -54,8 +54,8 @@ fn trail_of(alloc: Global, table: &TermTable) -> Result<SatTrail, NoMemory>
     Ok(trail)
 }
 
-/// Begins a search: the clauses of all terms and of those beside them, in a new log and store, with a trail of no
-/// literals and a new budget. The terms are asserted; those beside them need not be true, and the search speaks of them.
+/// Begins a search: the clauses of all terms and of the interface equalities, in a new log and store, with a trail of no
+/// literals and a new budget. The terms are asserted; the interface equalities need not be true, and the search speaks of them.
 ///
 /// `Wide` comes where an operation leaves 128 bits that judges a clause of an equality's orders. Where memory runs out, the terms that
 /// it has put stay.
@@ -63,17 +63,17 @@ pub fn begin(
     alloc: Global,
     table: &mut TermTable,
     roots: &[TermId],
-    beside: &[TermId],
+    interface: &[TermId],
     limits: &Limits,
 ) -> Result<Search, ClauseStop>
     requires roots { AreFormulasIn table.old roots.now }
-    requires beside { AreFormulasIn table.old beside.now }
+    requires interface { AreFormulasIn table.old interface.now }
     requires answered { AreAnswered (clause_at table.old roots.now) }
-    requires answered_beside { AreAnswered (clause_at table.old beside.now) }
+    requires answered_interface { AreAnswered (clause_at table.old interface.now) }
     ensures grown { Extends table.old table.new }
     ensures declared { declared_in table.new ≡ declared_in table.old }
-    ensures begins { IfOk result (BeginsSearch table.new (problem_in table.old roots.now beside.now) limits.now) }
-    ensures wide { IfErr result (OnClauseOverflow (IsOrderOverflow (problem_in table.old roots.now beside.now))) }
+    ensures begins { IfOk result (BeginsSearch table.new (problem_in table.old roots.now interface.now) limits.now) }
+    ensures wide { IfErr result (OnClauseOverflow (IsOrderOverflow (problem_in table.old roots.now interface.now))) }
 {
     whole_clauses_are_over_whole_terms();
     whole_terms_are_known();
@@ -81,7 +81,7 @@ pub fn begin(
     what_is_marked_was_seen();
     reasons_stay_right();
     let mut log = ProofLog::new(alloc);
-    let Stated { steps, terms } = clauses_of_all(alloc, table, &mut log, roots, beside)?;
+    let Stated { steps, terms } = clauses_of_all(alloc, table, &mut log, roots, interface)?;
     table.ids_are_unique();
     let atoms = atoms_of(alloc, table, &terms)?;
     let store = store_of(alloc, table, &log, steps.as_slice())?;

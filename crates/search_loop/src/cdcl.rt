@@ -9,9 +9,9 @@ ghost use Rattle.proof_log.specs.Logs.{IsLogOf};
 ghost use Rattle.proof_log.specs.Theories.{terms_watched, literals_held, CameTo};
 ghost use Rattle.search_loop.specs.Search.{SearchFits};
 ghost use Rattle.search_loop.specs.Rounds.{KeepsLimits};
-ghost use Rattle.search_loop.specs.Asking.{IsAsked, HasRested, HasStopped, OnStop, state, EndsSearch};
+ghost use Rattle.search_loop.specs.Asking.{IsAsked, HasSaturated, HasStopped, OnStop, state, EndsSearch};
 ghost use Rattle.search_loop.specs.Paying.{atoms_of, most, IsPaid};
-ghost use Rattle.search_loop.specs.declared.cdcl.End.TheVariants.{Rests};
+ghost use Rattle.search_loop.specs.declared.cdcl.End.TheVariants.{Saturated};
 
 use crate::search::Search;
 use clause_store::laws::{reasons_stay_right, what_is_marked_was_seen};
@@ -35,7 +35,7 @@ pub enum Answer {
 #[derive(Drop)]
 pub enum End {
     /// Each atom has a value, of each clause a literal holds, and the theory finds nothing wrong.
-    Rests,
+    Saturated,
     /// The clause of this step of the log is empty.
     Refuted(StepId),
     /// It was not found out, for this reason.
@@ -46,7 +46,7 @@ impl Search {
     /// Searches until the theory and the clauses agree to values of all atoms, or cannot, or the budget is spent.
     ///
     /// Each round assigns an atom more, or learns a clause and takes one from the budget. The theory is asked wherever propagation is
-    /// quiet. A clash that it finds is a step of the log, as one of the clauses is; its clause is not kept.
+    /// quiet. A conflict that it finds is a step of the log, as one of the clauses is; its clause is not kept.
     ///
     /// `Memory` comes where memory ran out, here or in the theory. The other stops are those of the theory's check.
     pub fn run<T: Theory>(&mut self, table: &mut TermTable, theory: &mut T) -> Result<End, Stop>
@@ -59,16 +59,16 @@ impl Search {
         ensures limits { IfOk result (λ _. KeepsLimits self.old.budget self.new.budget) }
         ensures with { IfOk result (λ _. T.goes_with theory.new table.new) }
         ensures ends { IfOk result (EndsSearch (state table.old self.old) (state table.new self.new)
-            (HasRested table.new self.new (T.view theory.new) (T.agrees theory.new
+            (HasSaturated table.new self.new (T.view theory.new) (T.agrees theory.new
             (terms_watched table.new (T.view theory.new)) (literals_held table.new (T.view theory.new))))) }
         ensures came { (ts : List Term) → T.came_by theory.old table.old ts
             (atoms_of table.old self.old) self.old.budget.exchanges
-            → CameTo result (λ end. end ≡ Rests → IsPaid
+            → CameTo result (λ end. end ≡ Saturated → IsPaid
             (λ n. T.came_by theory.new table.new ts n self.new.budget.exchanges) (most table.old self.old self.new))
             (IsPaid (λ n. T.stopped_by theory.new table.new ts n self.new.budget.exchanges) (most table.old self.old self.new))
             (IsPaid (λ n. T.came_by theory.new table.new ts n self.new.budget.exchanges) (most table.old self.old self.new)) }
         ensures stops { IfErr result (StopsBy
-            (T.strains theory.new table.new (terms_watched table.new (T.view theory.new)))
+            (T.may_overflow theory.new table.new (terms_watched table.new (T.view theory.new)))
             (AreSpent (T.needs_more theory.new table.new (terms_watched table.new (T.view theory.new)))
             self.new.budget)) }
         ensures stopped { IfErr result (OnStop (T.goes_with theory.new table.new
@@ -81,7 +81,7 @@ impl Search {
             match self.look(table, theory)? {
                 Verdict::Fine => {
                     let Some(l) = self.decider.next(&self.trail) else {
-                        return Ok(End::Rests);
+                        return Ok(End::Saturated);
                     };
                     self.trail.is_sound();
                     theory.mark()?;
@@ -89,7 +89,7 @@ impl Search {
                     self.trail.is_sound();
                 }
                 Verdict::Clash(clash) => {
-                    if let Some(end) = self.settle(table, theory, clash)? {
+                    if let Some(end) = self.resolve_conflict(table, theory, clash)? {
                         return Ok(end);
                     }
                 }

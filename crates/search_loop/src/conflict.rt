@@ -8,7 +8,7 @@ ghost use Rattle.proof_log.specs.Clashes.{IsClash};
 ghost use Rattle.conflict_learn.specs.Conflicts.{IsOfZero, IsAboveZero};
 ghost use Rattle.search_loop.specs.Search.{SearchFits, conflict_of};
 ghost use Rattle.search_loop.specs.Rounds.{KeepsLimits, IsNoted, IsStep, LogsEmptyClause, HasLearned, ShowsAnswer};
-ghost use Rattle.search_loop.specs.Asking.{IsAsked, state, Settles};
+ghost use Rattle.search_loop.specs.Asking.{IsAsked, state, ResolvesConflict};
 ghost use Rattle.search_loop.specs.declared.cdcl.Answer.TheVariants.{Unsat, Unknown};
 ghost use Rattle.sat_budget.specs.declared.limits.Reason.TheVariants.{Conflicts};
 
@@ -17,7 +17,7 @@ use crate::feeding::go_back;
 use crate::search::Search;
 use clause_store::laws::{reasons_stay_right, what_is_marked_was_seen};
 use conflict_learn::{conflict_level, learn, refute};
-use proof_log::laws::logs_stand_in_grown_tables;
+use proof_log::laws::logs_hold_in_grown_tables;
 use proof_log::{StepId, Theory};
 use sat_budget::{Budget, BudgetStop, Reason};
 use term_core::{Lit, TermTable};
@@ -37,7 +37,7 @@ fn note(budget: &mut Budget, clause: &[Lit]) -> Result<(), NoMemory>
 
 impl Search {
     /// Says how the search ends at a conflict, or learns from it and goes back.
-    pub(crate) fn settle<T: Theory>(
+    pub(crate) fn resolve_conflict<T: Theory>(
         &mut self,
         table: &mut TermTable,
         theory: &mut T,
@@ -55,7 +55,7 @@ impl Search {
             → T.came_by theory.new table.new ts n self.new.budget.exchanges) }
         ensures right { IfOk result (λ _. IsLogOf table.new self.new.log) }
         ensures limits { IfOk result (λ _. KeepsLimits self.old.budget self.new.budget) }
-        ensures settles { IfOk result (Settles (state table.old self.old) (state table.new self.new)
+        ensures resolves_conflict { IfOk result (ResolvesConflict (state table.old self.old) (state table.new self.new)
             (T.view theory.new)) }
     {
         table.ids_are_unique();
@@ -102,7 +102,7 @@ impl Search {
             → n ≡ self.old.budget.limit
             → ShowsAnswer table.old table.new self.old self.new (Unknown (Conflicts n))) }
     {
-        logs_stand_in_grown_tables();
+        logs_hold_in_grown_tables();
         table.ids_are_unique();
         self.trail.is_sound();
         let len = self.log.len();
@@ -139,7 +139,7 @@ impl Search {
     {
         what_is_marked_was_seen();
         reasons_stay_right();
-        logs_stand_in_grown_tables();
+        logs_hold_in_grown_tables();
         table.ids_are_unique();
         self.trail.is_sound();
         self.store.steps_are_paired();

@@ -13,7 +13,7 @@ use crate::feeding::feed;
 use crate::search::Search;
 use clause_store::Propagation;
 use clause_store::laws::{reasons_stay_right, what_is_marked_was_seen};
-use proof_log::laws::logs_stand_in_grown_tables;
+use proof_log::laws::logs_hold_in_grown_tables;
 use proof_log::{Theory, Verdict};
 use sat_budget::Stop;
 use term_core::TermTable;
@@ -44,7 +44,7 @@ impl Search {
             (T.stopped_by theory.new table.new ts m self.new.budget.exchanges)
             (T.came_by theory.new table.new ts (suc m) self.new.budget.exchanges)) }
         ensures stops { IfErr result (StopsBy
-            (T.strains theory.new table.new (terms_watched table.new (T.view theory.new)))
+            (T.may_overflow theory.new table.new (terms_watched table.new (T.view theory.new)))
             (AreSpent (T.needs_more theory.new table.new (terms_watched table.new (T.view theory.new)))
             self.new.budget)) }
         ensures stopped { IfErr result (OnStop (T.goes_with theory.new table.new
@@ -52,7 +52,7 @@ impl Search {
     {
         what_is_marked_was_seen();
         reasons_stay_right();
-        logs_stand_in_grown_tables();
+        logs_hold_in_grown_tables();
         table.ids_are_unique();
         self.trail.is_sound();
         if let Propagation::Clash(step) = self.store.propagate(&mut self.trail)? {

@@ -34,7 +34,7 @@ pub fn watch_all<T: Theory>(theory: &mut T, table: &TermTable, terms: &[TermId])
         (IsPaid (λ n. T.stopped_by theory.new table.now ts n es) (counted_among table.now terms.now)) (Unit {0}) }
     ensures stops { IfErr result (λ stop. (k : ℕ) × (k < length terms.now)
         × ((T.view theory.new).watched ≡ take k terms.now)
-        × StopsBy (T.strains theory.new table.now (clause_at table.now (take (k + 1) terms.now))) (λ _. ⊥) stop) }
+        × StopsBy (T.may_overflow theory.new table.now (clause_at table.now (take (k + 1) terms.now))) (λ _. ⊥) stop) }
 {
     'terms: for id in terms.iter() {
         theory.watch_term(table, *id)?;

@@ -23,7 +23,7 @@ use Rattle.sat_trail.specs.Trails.{HasValue}
 use Rattle.search_model.specs.Models.{affirms, truths_of}
 
 module _ (ts : List Term) (come_first : (before after : List Term) (t : Term) → ts ≡ before ++ t ∷ after → AreAmong (arguments_of t) before) where
-  -- an argument stands at an earlier place
+  -- an argument is at an earlier place
   earlier : (n : ℕ) (t u : Term) → n < length ts → get_or ts n no_term ≡ t → Contains (arguments_of t) u → (m : ℕ) × (m < n) × (get_or ts m no_term ≡ u)
   earlier n t u lt e i =
       let split : ts ≡ take n ts ++ t ∷ drop (suc n) ts = split_at ts n no_term lt ∙ ap (λ x. take n ts ++ x ∷ drop (suc n) ts) e in
@@ -56,7 +56,7 @@ module _ (t : TableView) (held : List Lit) (different : AreDifferent t.terms) (t
   abbrev v : Truths
   v = truths_of t held
 
-  -- what holds as it stands is true
+  -- what holds as it is is true
   pub affirmed : (l : Lit) → Contains held l → l.positive ≡ true → v (term_at t l.term) ≡ true
   affirmed l c e =
       let same : same_term (term_at t l.term) (term_at t l.term) ≡ true = (terms_decide (term_at t l.term) (term_at t l.term)).1 refl in

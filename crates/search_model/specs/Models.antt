@@ -16,11 +16,11 @@ use Rattle.term_core.specs.Tables.{TableView, term_at, clause_at}
 use Rattle.term_walks.specs.declared.values.Interp.{Interp}
 use Rattle.term_walks.specs.Valuations.{no_table, tables_meant, HasSymbolTables, IsTableNamed}
 
--- the literal is the term as it stands
+-- the literal is the term as it is
 abbrev pub affirms : TableView → Lit → Term → Bool
 affirms t l u = l.positive && same_term (term_at t l.term) u
 
--- a term is true where it is among the literals that hold, as it stands
+-- a term is true where it is among the literals that hold, as it is
 abbrev pub truths_of : TableView → List Lit → Truths
 truths_of t held u = list_any (λ l. affirms t l u) held
 

@@ -5,7 +5,7 @@ ghost use Rattle.spec_numbers.specs.Fractions.{Fraction};
 ghost use Rattle.spec_sorts.specs.Terms.{Term};
 ghost use Rattle.spec_sorts.specs.Values.{Interpretation};
 ghost use Rattle.spec_valuations.specs.Classes.{class_in};
-ghost use Rattle.spec_valuations.specs.Resting.{values_of as values_at_rest};
+ghost use Rattle.spec_valuations.specs.Saturation.{values_of as values_at_saturation};
 ghost use Rattle.spec_valuations.specs.Tables.{IsModelBy};
 ghost use Rattle.term_core.specs.declared.ids.Lit.{Lit};
 ghost use Rattle.term_core.specs.declared.ids.TermId.{TermId};
@@ -28,14 +28,14 @@ pub fn made_models_stand()
         → IsModelBy i (values_of t held terms classes numbers) t.symbols (clause_at t terms) }
 {}
 
-/// States that a model made with the numbers of a function of terms has the tables of a search that rests on them. The
+/// States that a model made with the numbers of a function of terms has the tables of a saturated search on them. The
 /// arguments of sort Real are listed, with the numbers of their heads.
 pub fn made_models_are_those_of_numbers()
     ensures { (t : TableView) (held : List Lit) (terms : List TermId) (classes : List ℕ) (number : Term → Fraction)
         (interp : Interp) → TakeNumbersOf number (clause_at t terms)
         → IsModelOf t held terms classes (map number (clause_at t terms)) interp
         → (i : Interpretation) → HasSymbolTables t interp i
-        → IsModelBy i (values_at_rest (record {
+        → IsModelBy i (values_at_saturation (record {
           truths = truths_of t held;
           class = class_in (clause_at t terms) classes;
           number = number;

@@ -1,4 +1,4 @@
-//! The model of a search that rests: an interpretation by the truths of its literals and the classes of its terms.
+//! The model of a saturated search: an interpretation by the truths of its literals and the classes of its terms.
 #![tactic(auto)]
 
 pub mod laws;

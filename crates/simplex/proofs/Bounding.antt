@@ -1,4 +1,4 @@
--- Bounds that are held are those that held literals state, over what simplex stands on.
+-- Bounds that are held are those that held literals state, over what simplex is on.
 use Rattle.std.proofs.Common.{◌≡◌, ℕ, ◌<◌, Bool, true, false, List, [], ◌∷◌, map, All, Contains, Option, Some, None, inl, inr, refl, sym, ◌∙◌, ap, subst}
 use Rattle.std.proofs.lemmas.List.{length-map}
 use Rattle.std.proofs.lemmas.List.Elements.{All-contains, All-map}
@@ -11,8 +11,8 @@ use Rattle.spec_tableaux.specs.Fields.{is_positive}
 use Rattle.spec_tableaux.specs.Spaces.{Pair}
 use Rattle.spec_tableaux.specs.Numbers.{Number, numbers}
 use Rattle.spec_simplex.specs.Constraints.{Relation, below, at_most, equals, at_least, above}
-use Rattle.spec_causes.specs.Standing.{Standing}
-use Rattle.spec_causes.specs.Standing as terms
+use Rattle.spec_causes.specs.TermTableau.{TermTableau}
+use Rattle.spec_causes.specs.TermTableau as terms
 use Rattle.spec_causes.specs.Bounds.{Side, lower, upper, side_by, bound_on, IsSideOf, is_strict, tilt_by, IsMultiple, IsBound, AreBounds}
 use Rattle.term_core.specs.declared.ids.TermId.{TermId}
 use Rattle.term_core.specs.declared.ids.Lit.{Lit}
@@ -25,19 +25,19 @@ use Rattle.simplex_bounds.specs.declared.bounds.Side.TheVariants.{Lower, Upper}
 use Rattle.simplex_bounds.specs.Deltas.{pair_of}
 use Rattle.simplex_bounds.specs.Held.{strongest, value_in, ranges_in}
 use Rattle.simplex_bounds.proofs.Keeping.{strongest_is_held}
-use Rattle.simplex_atoms.specs.declared.place.Slack.{Slack}
+use Rattle.simplex_atoms.specs.declared.slack.Slack.{Slack}
 use Rattle.simplex_atoms.specs.Owners.{owner_at, AreOwned}
-use Rattle.simplex_atoms.specs.Places.{IsFormOf, place_in, relation_by}
+use Rattle.simplex_atoms.specs.Slacks.{IsFormOf, slack_in, relation_by}
 use Rattle.simplex_atoms.specs.Atoms.{ground_of, setting_of}
 use Rattle.simplex_atoms.specs.Limits.{Limit, limit_of, limit_on, limits_where, limits_by}
 use Rattle.simplex_atoms.specs.Limits as limits
-use Rattle.simplex_atoms.specs.Standings.{owner_meant}
+use Rattle.simplex_atoms.specs.TermTableauViews.{owner_meant}
 use Rattle.simplex_atoms.proofs.Numbered.{owner_mapped}
 use Rattle.simplex_reasons.specs.Stops.{IsStatedBound}
 use Rattle.simplex_reasons.proofs.Pieces.{with_relation, reads}
 use Rattle.simplex_held.proofs.Stating.{bounds_stated, literals_held as held_literal}
 use Rattle.simplex.specs.Views.{SimplexView, SimplexFits, IsOf}
-use Rattle.simplex.specs.Coming.{standing_of}
+use Rattle.simplex.specs.Coming.{term_tableau_of}
 
 -- values of the terms of owners are values of the owners
 owned_terms : (t : TableView) (os : List (Option TermId)) (n : Term → Number) (v : ℕ → Number) → terms.AreOwned (map (owner_meant t) os) n v → AreOwned t os n v
@@ -70,66 +70,66 @@ bound_same Lower held y = refl
 bound_same Upper held y = refl
 
 -- What a bound of a place says, whose form stands so to 0.
-record IsLimit (place : Slack) (r : Relation) (x : Limit) : Type 0 where
-  pub variable : x.variable ≡ place.variable
-  pub on_side : IsSideOf r (is_positive numbers (number_of place.factor)) (side_in x.side)
-  pub value : x.value ≡ record { base = number_of place.bound; tilt = tilt_by (side_in x.side) (is_strict r) }
+record IsLimit (slack : Slack) (r : Relation) (x : Limit) : Type 0 where
+  pub variable : x.variable ≡ slack.variable
+  pub on_side : IsSideOf r (is_positive numbers (number_of slack.factor)) (side_in x.side)
+  pub value : x.value ≡ record { base = number_of slack.bound; tilt = tilt_by (side_in x.side) (is_strict r) }
 
 -- a bound on one side
-limit_is : (place : Slack) (l : Lit) (r : Relation) (s : CodeSide) (strict : Bool) → IsSideOf r (is_positive numbers (number_of place.factor)) (side_in s) → strict ≡ is_strict r
-    → (x : Limit) → Contains (limit_on place l s strict ∷ []) x → IsLimit place r x
-limit_is place l r s strict on e x c = subst (IsLimit place r) (only (limit_on place l s strict) x c) (record {
+limit_is : (slack : Slack) (l : Lit) (r : Relation) (s : CodeSide) (strict : Bool) → IsSideOf r (is_positive numbers (number_of slack.factor)) (side_in s) → strict ≡ is_strict r
+    → (x : Limit) → Contains (limit_on slack l s strict ∷ []) x → IsLimit slack r x
+limit_is slack l r s strict on e x c = subst (IsLimit slack r) (only (limit_on slack l s strict) x c) (record {
   variable = refl;
   on_side = on;
-  value = λ i. record { base = number_of place.bound; tilt = (tilt_same s strict ∙ ap (tilt_by (side_in s)) e) i };
+  value = λ i. record { base = number_of slack.bound; tilt = (tilt_same s strict ∙ ap (tilt_by (side_in s)) e) i };
 })
 
 -- what each bound says that a literal states
-limit_says : (place : Slack) (l : Lit) (r : Option Relation) → (x : Limit) → Contains (limits_where r (is_positive numbers (number_of place.factor)) place l) x
-    → (s : Relation) × (r ≡ Some s) × IsLimit place s x
-limit_says place l None x c = absurd (no_member x c)
-limit_says place l (Some below) x c = (below, refl, limit_is place l below _ true (side_same _) refl x c)
-limit_says place l (Some at_most) x c = (at_most, refl, limit_is place l at_most _ false (side_same _) refl x c)
-limit_says place l (Some at_least) x c = (at_least, refl, limit_is place l at_least _ false (side_same _) refl x c)
-limit_says place l (Some above) x c = (above, refl, limit_is place l above _ true (side_same _) refl x c)
-limit_says place l (Some equals) x c = (
+limit_says : (slack : Slack) (l : Lit) (r : Option Relation) → (x : Limit) → Contains (limits_where r (is_positive numbers (number_of slack.factor)) slack l) x
+    → (s : Relation) × (r ≡ Some s) × IsLimit slack s x
+limit_says slack l None x c = absurd (no_member x c)
+limit_says slack l (Some below) x c = (below, refl, limit_is slack l below _ true (side_same _) refl x c)
+limit_says slack l (Some at_most) x c = (at_most, refl, limit_is slack l at_most _ false (side_same _) refl x c)
+limit_says slack l (Some at_least) x c = (at_least, refl, limit_is slack l at_least _ false (side_same _) refl x c)
+limit_says slack l (Some above) x c = (above, refl, limit_is slack l above _ true (side_same _) refl x c)
+limit_says slack l (Some equals) x c = (
   equals,
   refl,
-  elim (cases (limit_on place l Lower false) (limit_on place l Upper false ∷ []) x c) [
-    | inl e ↦ limit_is place l equals Lower false tt refl x (subst (Contains (limit_on place l Lower false ∷ [])) e (first (limit_on place l Lower false) []))
-    | inr d ↦ limit_is place l equals Upper false tt refl x d
+  elim (cases (limit_on slack l Lower false) (limit_on slack l Upper false ∷ []) x c) [
+    | inl e ↦ limit_is slack l equals Lower false tt refl x (subst (Contains (limit_on slack l Lower false ∷ [])) e (first (limit_on slack l Lower false) []))
+    | inr d ↦ limit_is slack l equals Upper false tt refl x d
   ],
 )
 
 module _ (t : TableView) (v : SimplexView) (is : IsOf v t) where
-  abbrev s : Standing
-  s = standing_of t v
+  abbrev s : TermTableau
+  s = term_tableau_of t v
 
-  multiple : (place : Slack) (f : Form) → IsFormOf (setting_of t (ground_of v.atoms.owners v.board)) place f → IsMultiple s f (number_of place.factor) place.variable
-  multiple place f m = record {
+  multiple : (slack : Slack) (f : Form) → IsFormOf (setting_of t (ground_of v.atoms.owners v.assignment)) slack f → IsMultiple s f (number_of slack.factor) slack.variable
+  multiple slack f m = record {
     nonzero = m.factor;
-    there = subst (λ n. place.variable < n) (sym (length-map v.atoms.owners (owner_meant t))) m.variable;
-    unit = λ e. m.unit (none_meant t (owner_at v.atoms.owners place.variable) (sym (owner_mapped t v.atoms.owners place.variable) ∙ e));
+    there = subst (λ n. slack.variable < n) (sym (length-map v.atoms.owners (owner_meant t))) m.variable;
+    unit = λ e. m.unit (none_meant t (owner_at v.atoms.owners slack.variable) (sym (owner_mapped t v.atoms.owners slack.variable) ∙ e));
     value = λ n x o h. m.value n x (owned_terms t v.atoms.owners n x o) h;
   }
 
   -- A literal of an atom with this place bounds the variable, by the factor of the place.
   abbrev pub States : Lit → Slack → ℕ → Side → Pair Number → Type 0
-  States l place y side b =
-      (x : IsBound s (literal_at t l) y side b) × (x.factor ≡ number_of place.factor) × (relation_by place.kind l.positive ≡ Some x.constraint.relation)
+  States l slack y side b =
+      (x : IsBound s (literal_at t l) y side b) × (x.factor ≡ number_of slack.factor) × (relation_by slack.kind l.positive ≡ Some x.constraint.relation)
 
-  states_limit : (l : Lit) (place : Slack) → place_in v.atoms.placed l.term ≡ Some place → (x : Limit) → Contains (limits_by place l) x → States l place x.variable (side_in x.side) x.value
-  states_limit l place there x c =
-      let p = (is.right.are_placed l.term place there).is in
-      let says = limit_says place l (relation_by place.kind l.positive) x c in (
+  states_limit : (l : Lit) (slack : Slack) → slack_in v.atoms.slack_list l.term ≡ Some slack → (x : Limit) → Contains (limits_by slack l) x → States l slack x.variable (side_in x.side) x.value
+  states_limit l slack there x c =
+      let p = (is.right.are_slacked l.term slack there).is in
+      let says = limit_says slack l (relation_by slack.kind l.positive) x c in (
         record {
           constraint = with_relation says.0 p.constraint;
-          says = reads (term_at t l.term) l.positive p.constraint place.kind says.0 p.says p.kind says.1;
+          says = reads (term_at t l.term) l.positive p.constraint slack.kind says.0 p.says p.kind says.1;
           form = p.form;
           has = p.has;
-          factor = number_of place.factor;
-          multiple = subst (λ y. IsMultiple s p.form (number_of place.factor) y) (sym says.2.variable) (multiple place p.form p.is);
-          constant = number_of place.constant;
+          factor = number_of slack.factor;
+          multiple = subst (λ y. IsMultiple s p.form (number_of slack.factor) y) (sym says.2.variable) (multiple slack p.form p.is);
+          constant = number_of slack.constant;
           constant_is = sym p.is.constant;
           on_side = says.2.on_side;
           is = says.2.value ∙ (λ i. record { base = p.is.bound i; tilt = tilt_by (side_in x.side) (is_strict says.0) });
@@ -139,26 +139,26 @@ module _ (t : TableView) (v : SimplexView) (is : IsOf v t) where
       )
 
   module _ (fits : SimplexFits v) where
-    states_bound : (b : Bound) → Contains v.bounds.held b → (place : Slack) → place_in v.atoms.placed b.literal.term ≡ Some place
-        → States b.literal place b.variable (side_in b.side) (pair_of b.value)
-    states_bound b c place there =
-        let stated = All-contains (IsStatedBound v.atoms.placed) v.bounds.held b (bounds_stated v.atoms.placed v.theory.held v.bounds.held fits.bounds_are) c in
-        let same : stated.place ≡ place = same_Some stated.place place (sym stated.there ∙ there) in
-        states_limit b.literal place there (limit_of b) (subst (λ p. Contains (limits_by p b.literal) (limit_of b)) same stated.states)
+    states_bound : (b : Bound) → Contains v.bounds.held b → (slack : Slack) → slack_in v.atoms.slack_list b.literal.term ≡ Some slack
+        → States b.literal slack b.variable (side_in b.side) (pair_of b.value)
+    states_bound b c slack there =
+        let stated = All-contains (IsStatedBound v.atoms.slack_list) v.bounds.held b (bounds_stated v.atoms.slack_list v.theory.held v.bounds.held fits.bounds_are) c in
+        let same : stated.slack ≡ slack = same_Some stated.slack slack (sym stated.there ∙ there) in
+        states_limit b.literal slack there (limit_of b) (subst (λ p. Contains (limits_by p b.literal) (limit_of b)) same stated.states)
 
     -- the strongest bound on a side
-    pub states_strongest : (side : CodeSide) (y : ℕ) (b : Bound) → strongest side y v.bounds.held ≡ Some b → (place : Slack) → place_in v.atoms.placed b.literal.term ≡ Some place
-        → States b.literal place y (side_in side) (pair_of b.value)
-    states_strongest side y b e place there =
+    pub states_strongest : (side : CodeSide) (y : ℕ) (b : Bound) → strongest side y v.bounds.held ≡ Some b → (slack : Slack) → slack_in v.atoms.slack_list b.literal.term ≡ Some slack
+        → States b.literal slack y (side_in side) (pair_of b.value)
+    states_strongest side y b e slack there =
         let h = strongest_is_held side y v.bounds.held b e in
-        subst (λ z. States b.literal place z (side_in side) (pair_of b.value)) h.2
-        (subst (λ z. States b.literal place b.variable (side_in z) (pair_of b.value)) h.1 (states_bound b h.0 place there))
+        subst (λ z. States b.literal slack z (side_in side) (pair_of b.value)) h.2
+        (subst (λ z. States b.literal slack b.variable (side_in z) (pair_of b.value)) h.1 (states_bound b h.0 slack there))
 
     -- the literal of the strongest bound is held
     pub strongest_by_held : (side : CodeSide) (y : ℕ) (b : Bound) → strongest side y v.bounds.held ≡ Some b → Contains (literals_held t v.theory) (literal_at t b.literal)
     strongest_by_held side y b e =
         to_image (literal_at t) v.theory.held b.literal
-        (held_literal v.atoms.placed v.theory.held v.bounds.held fits.bounds_are b (strongest_is_held side y v.bounds.held b e).0)
+        (held_literal v.atoms.slack_list v.theory.held v.bounds.held fits.bounds_are b (strongest_is_held side y v.bounds.held b e).0)
 
     -- a literal states the bound on a side
     on_a_side : (side : CodeSide) (y : ℕ) (b : Pair Number) → value_in (strongest side y v.bounds.held) ≡ Some b
@@ -169,10 +169,10 @@ module _ (t : TableView) (v : SimplexView) (is : IsOf v t) where
         by None f g = absurd (cc)
         by (Some x) f g =
             let h = strongest_is_held side y v.bounds.held x f in
-            let stated = All-contains (IsStatedBound v.atoms.placed) v.bounds.held x (bounds_stated v.atoms.placed v.theory.held v.bounds.held fits.bounds_are) h.0 in (
+            let stated = All-contains (IsStatedBound v.atoms.slack_list) v.bounds.held x (bounds_stated v.atoms.slack_list v.theory.held v.bounds.held fits.bounds_are) h.0 in (
               literal_at t x.literal,
               strongest_by_held side y x f,
-              subst (IsBound s (literal_at t x.literal) y (side_in side)) (same_Some (pair_of x.value) b g) (states_strongest side y x f stated.place stated.there).0,
+              subst (IsBound s (literal_at t x.literal) y (side_in side)) (same_Some (pair_of x.value) b g) (states_strongest side y x f stated.slack stated.there).0,
             )
 
     -- on each side

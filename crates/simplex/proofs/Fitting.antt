@@ -9,17 +9,17 @@ use Rattle.term_core.specs.Tables.{TableView}
 use Rattle.proof_log.specs.Theories.{TheoryView, Mark, no_mark, mark_now, with_held, with_mark, at_mark, gone_back}
 use Rattle.held_literals.specs.Room.{AreHeldMarks, IsHeldOver, without_mark}
 use Rattle.simplex_bounds.specs.Held.{BoundsView}
-use Rattle.simplex_check.specs.Boards.{BoardView}
-use Rattle.simplex_atoms.specs.declared.place.Slack.{Slack}
+use Rattle.simplex_check.specs.Assignments.{AssignmentView}
+use Rattle.simplex_atoms.specs.declared.slack.Slack.{Slack}
 use Rattle.simplex_atoms.specs.Limits.{Limit, limit_of}
 use Rattle.simplex_atoms.specs.Atoms.{AtomsView, AtomsFit}
 use Rattle.simplex.specs.declared.starts.Start.{Start}
 use Rattle.simplex_held.specs.Stated.{stated_by, all_stated, IsKnownIn}
-use Rattle.simplex.specs.Views.{SimplexView, SimplexFits, IsOf, start_of, placed_count}
+use Rattle.simplex.specs.Views.{SimplexView, SimplexFits, IsOf, start_of, slack_count}
 use Rattle.simplex.proofs.Stated.{stated_more, stated_first, first_states_less, count_first, stated_bounded}
 
 -- what is right with bounds is so with those of as many variables
-pub right_with : (t : TableView) (a : AtomsView) (b : BoardView) (x y : BoundsView) → x.variables ≡ y.variables → AtomsFit t a b x → AtomsFit t a b y
+pub right_with : (t : TableView) (a : AtomsView) (b : AssignmentView) (x y : BoundsView) → x.variables ≡ y.variables → AtomsFit t a b x → AtomsFit t a b y
 right_with t a b x y e r = record {
   counted = r.counted;
   within = omega (arith, e, r.within);
@@ -27,10 +27,10 @@ right_with t a b x y e r = record {
   once = r.once;
   grounded = r.grounded;
   sums = r.sums;
-  are_placed = λ id place at. record {
-    is_in = (r.are_placed id place at).is_in;
-    is = (r.are_placed id place at).is;
-    reached = omega (arith, e, (r.are_placed id place at).reached);
+  are_slacked = λ id slack at. record {
+    is_in = (r.are_slacked id slack at).is_in;
+    is = (r.are_slacked id slack at).is;
+    reached = omega (arith, e, (r.are_slacked id slack at).reached);
   };
 }
 
@@ -45,10 +45,10 @@ map_more f (y ∷ ys) x = ap (λ l. f y ∷ l) (map_more f ys x)
 
 -- a start by what literals and terms there were
 abbrev start_from : List (ℕ × Slack) → List Lit → List TermId → Start
-start_from p held watched = record { bounds = length (all_stated p held); placed = placed_count p watched }
+start_from p held watched = record { bounds = length (all_stated p held); slack_list = slack_count p watched }
 
 -- as many bounds are held as are stated
-pub bounds_counted : (v : SimplexView) → SimplexFits v → length v.bounds.held ≡ length (all_stated v.atoms.placed v.theory.held)
+pub bounds_counted : (v : SimplexView) → SimplexFits v → length v.bounds.held ≡ length (all_stated v.atoms.slack_list v.theory.held)
 bounds_counted v f = sym (length-map v.bounds.held limit_of) ∙ ap (λ (l : List Limit). length l) f.bounds_are
 
 -- what is to be known of bounds to which those came that a literal states
@@ -59,39 +59,39 @@ pub record HoldsStated (old new : BoundsView) (stated : List Limit) : Type 0 whe
 
 module _ (v : SimplexView) (f : SimplexFits v) where
   abbrev marked : Start → SimplexView
-  marked s = record { theory = with_mark v.theory; atoms = v.atoms; board = v.board; bounds = v.bounds; starts = v.starts ++ s ∷ [] }
+  marked s = record { theory = with_mark v.theory; atoms = v.atoms; assignment = v.assignment; bounds = v.bounds; starts = v.starts ++ s ∷ [] }
 
-  pub fits_marked : (s : Start) → s.bounds ≡ length v.bounds.held → s.placed ≡ placed_count v.atoms.placed v.theory.watched → SimplexFits (marked s)
+  pub fits_marked : (s : Start) → s.bounds ≡ length v.bounds.held → s.slack_list ≡ slack_count v.atoms.slack_list v.theory.watched → SimplexFits (marked s)
   fits_marked s b c = record {
     bounds_are = f.bounds_are;
     starts_are =
-        let is : s ≡ start_of v.atoms.placed v.theory (mark_now v.theory) = λ i. record {
-          bounds = (b ∙ bounds_counted v f ∙ ap (λ ls. length (all_stated v.atoms.placed ls)) (sym (take-length v.theory.held))) i;
-          placed = (c ∙ ap (placed_count v.atoms.placed) (sym (take-length v.theory.watched))) i;
+        let is : s ≡ start_of v.atoms.slack_list v.theory (mark_now v.theory) = λ i. record {
+          bounds = (b ∙ bounds_counted v f ∙ ap (λ ls. length (all_stated v.atoms.slack_list ls)) (sym (take-length v.theory.held))) i;
+          slack_list = (c ∙ ap (slack_count v.atoms.slack_list) (sym (take-length v.theory.watched))) i;
         } in
-        (λ i. f.starts_are i ++ is i ∷ []) ∙ sym (map_more (start_of v.atoms.placed v.theory) v.theory.marks (mark_now v.theory));
+        (λ i. f.starts_are i ++ is i ∷ []) ∙ sym (map_more (start_of v.atoms.slack_list v.theory) v.theory.marks (mark_now v.theory));
     room = f.room;
     reached = f.reached;
   }
 
   -- without the newest mark
   abbrev unmarked : SimplexView
-  unmarked = record { theory = without_mark v.theory; atoms = v.atoms; board = v.board; bounds = v.bounds; starts = take (length v.theory.marks - 1) v.starts }
+  unmarked = record { theory = without_mark v.theory; atoms = v.atoms; assignment = v.assignment; bounds = v.bounds; starts = take (length v.theory.marks - 1) v.starts }
 
   pub fits_unmarked : SimplexFits unmarked
   fits_unmarked = record {
     bounds_are = f.bounds_are;
     starts_are =
         let n = length v.theory.marks - 1 in
-        ap (take n) f.starts_are ∙ take-map (start_of v.atoms.placed v.theory) n v.theory.marks
-        ∙ each_mark (start_of v.atoms.placed v.theory) (start_of v.atoms.placed (without_mark v.theory)) (take n v.theory.marks) (λ k lt. refl);
+        ap (take n) f.starts_are ∙ take-map (start_of v.atoms.slack_list v.theory) n v.theory.marks
+        ∙ each_mark (start_of v.atoms.slack_list v.theory) (start_of v.atoms.slack_list (without_mark v.theory)) (take n v.theory.marks) (λ k lt. refl);
     room = f.room;
     reached = f.reached;
   }
 
 module _ (v : SimplexView) (f : SimplexFits v) (m : AreHeldMarks v.theory.held v.theory.watched v.theory.marks) where
   abbrev p : List (ℕ × Slack)
-  p = v.atoms.placed
+  p = v.atoms.slack_list
 
   -- there is room for what a literal states that is new
   pub room_for : (l : Lit) → IsHeldOver (v.theory.held ++ l ∷ []) v.theory.watched → length (stated_by p l) ≤ v.bounds.room
@@ -105,7 +105,7 @@ module _ (v : SimplexView) (f : SimplexFits v) (m : AreHeldMarks v.theory.held v
   )
 
   abbrev holding : Lit → BoundsView → SimplexView
-  holding l bounds = record { theory = with_held v.theory l; atoms = v.atoms; board = v.board; bounds = bounds; starts = v.starts }
+  holding l bounds = record { theory = with_held v.theory l; atoms = v.atoms; assignment = v.assignment; bounds = bounds; starts = v.starts }
 
   pub fits_held : (l : Lit) (bounds : BoundsView) → HoldsStated v.bounds bounds (stated_by p l) → SimplexFits (holding l bounds)
   fits_held l bounds h = record {
@@ -122,7 +122,7 @@ module _ (v : SimplexView) (f : SimplexFits v) (m : AreHeldMarks v.theory.held v
       length-map v.bounds.held limit_of,
       length-map bounds.held limit_of,
     );
-    reached = λ id place at. omega (arith, h.variables, f.reached id place at);
+    reached = λ id slack at. omega (arith, h.variables, f.reached id slack at);
   }
 
   -- going back to a mark
@@ -134,7 +134,7 @@ module _ (v : SimplexView) (f : SimplexFits v) (m : AreHeldMarks v.theory.held v
     at = at_mark v.theory kept
 
     abbrev gone : BoundsView → SimplexView
-    gone bounds = record { theory = at; atoms = v.atoms; board = v.board; bounds = bounds; starts = take kept v.starts }
+    gone bounds = record { theory = at; atoms = v.atoms; assignment = v.assignment; bounds = bounds; starts = take kept v.starts }
 
     pub start_there : (d : Start) → get_or v.starts kept d ≡ start_of p v.theory back
     start_there d = ap (λ ss. get_or ss kept d) f.starts_are ∙ read v.theory.marks kept lt
@@ -164,21 +164,21 @@ module _ (v : SimplexView) (f : SimplexFits v) (m : AreHeldMarks v.theory.held v
       starts_are = ap (take kept) f.starts_are ∙ take-map (start_of p v.theory) kept v.theory.marks
           ∙ each_mark (start_of p v.theory) (start_of p at) (take kept v.theory.marks) same_start;
       room = omega (arith, room, f.room, count_first p back.watched v.theory.watched);
-      reached = λ id place is. omega (arith, variables, f.reached id place is);
+      reached = λ id slack is. omega (arith, variables, f.reached id slack is);
     }
 
 -- what is kept is right over a table where as many variables have bounds, of the first of the watched terms
-pub of_fewer : (t : TableView) (v w : SimplexView) → w.atoms ≡ v.atoms → w.board ≡ v.board → w.bounds.variables ≡ v.bounds.variables
+pub of_fewer : (t : TableView) (v w : SimplexView) → w.atoms ≡ v.atoms → w.assignment ≡ v.assignment → w.bounds.variables ≡ v.bounds.variables
     → (n : ℕ) → w.theory.watched ≡ take n v.theory.watched → IsOf v t → IsOf w t
 of_fewer t v w a b e n is o = record {
-  right = subst (λ (x : AtomsView). AtomsFit t x w.board w.bounds) (sym a)
-      (subst (λ (x : BoardView). AtomsFit t v.atoms x w.bounds) (sym b) (right_with t v.atoms v.board v.bounds w.bounds (sym e) o.right));
-  known = subst (λ (x : AtomsView). All (IsKnownIn t x.placed) w.theory.watched) (sym a)
-      (subst (All (IsKnownIn t v.atoms.placed)) (sym is) (All-take (IsKnownIn t v.atoms.placed) n v.theory.watched o.known));
+  right = subst (λ (x : AtomsView). AtomsFit t x w.assignment w.bounds) (sym a)
+      (subst (λ (x : AssignmentView). AtomsFit t v.atoms x w.bounds) (sym b) (right_with t v.atoms v.assignment v.bounds w.bounds (sym e) o.right));
+  known = subst (λ (x : AtomsView). All (IsKnownIn t x.slack_list) w.theory.watched) (sym a)
+      (subst (All (IsKnownIn t v.atoms.slack_list)) (sym is) (All-take (IsKnownIn t v.atoms.slack_list) n v.theory.watched o.known));
 }
 
 -- the same of as many terms
-pub of_kept : (t : TableView) (v w : SimplexView) → w.atoms ≡ v.atoms → w.board ≡ v.board → w.bounds.variables ≡ v.bounds.variables
+pub of_kept : (t : TableView) (v w : SimplexView) → w.atoms ≡ v.atoms → w.assignment ≡ v.assignment → w.bounds.variables ≡ v.bounds.variables
     → w.theory.watched ≡ v.theory.watched → IsOf v t → IsOf w t
 of_kept t v w a b e is = of_fewer t v w a b e (length v.theory.watched) (is ∙ sym (take-length v.theory.watched))
 
@@ -191,7 +191,7 @@ gone_is v zero kept lt e = absurd (omega (arith, lt))
 gone_is v (suc n) kept lt e = ap (at_mark v) (sym e)
 
 pub as_many : (v : SimplexView) → SimplexFits v → length v.starts ≡ length v.theory.marks
-as_many v f = ap (λ (ss : List Start). length ss) f.starts_are ∙ length-map v.theory.marks (start_of v.atoms.placed v.theory)
+as_many v f = ap (λ (ss : List Start). length ss) f.starts_are ∙ length-map v.theory.marks (start_of v.atoms.slack_list v.theory)
 
 pub no_place : (o p : Option Slack) → o ≡ p → ((x : Slack) → o ≡ Some x → ⊥) → p ≡ None
 no_place o None e not = refl

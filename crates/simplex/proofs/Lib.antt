@@ -1,7 +1,7 @@
 -- The lemmas of this crate.
 pub mod Stated
 pub mod Fitting
-pub mod Placed
+pub mod SlackFacts
 pub mod Bounding
 pub mod Reasoning
 pub mod Coming

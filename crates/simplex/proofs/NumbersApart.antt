@@ -15,11 +15,11 @@ use Rattle.spec_tableaux.proofs.Numbers.{number_is}
 use Rattle.spec_simplex.specs.Numbers.{HoldsAt}
 use Rattle.spec_strains.specs.Points.{deltas, point_in, Ranges}
 use Rattle.spec_strains.specs.Halves.{at_number}
-use Rattle.spec_causes.specs.Standing.{Standing, owner_in}
-use Rattle.spec_causes.specs.Standing as standings
+use Rattle.spec_causes.specs.TermTableau.{TermTableau, owner_in}
+use Rattle.spec_causes.specs.TermTableau as term_tableaux
 use Rattle.spec_causes.specs.Shared.{IsSharedAmong, IsValueOf, AreValuesOf, AreSharedValues}
 use Rattle.spec_causes.specs.Bounds.{AreBounds}
-use Rattle.spec_causes.specs.Causes.{IsEpsilon, AreWithin, StrainsAt, evaluating, evaluating_shared}
+use Rattle.spec_causes.specs.Causes.{IsEpsilon, AreWithin, OverflowsAt, evaluating, evaluating_shared}
 use Rattle.spec_causes.proofs.Owned.{one_value}
 use Rattle.spec_causes.proofs.AtNumbers.{value_at_number}
 use Rattle.spec_causes.proofs.SharedNumbers.{same_number, still_hold}
@@ -31,24 +31,24 @@ use Rattle.proof_log.specs.Theories.{literals_held}
 use Rattle.simplex_bounds.specs.Deltas.{pair_of}
 use Rattle.simplex_check.proofs.Points.{deltas_are_ordered as o}
 use Rattle.simplex_atoms.specs.Owners.{owner_at}
-use Rattle.simplex_atoms.specs.Standings.{owner_meant, TellsOwners}
+use Rattle.simplex_atoms.specs.TermTableauViews.{owner_meant, TellsOwners}
 use Rattle.simplex_atoms.proofs.Numbered.{owner_mapped}
 use Rattle.simplex_atoms.proofs.Coming.{term_owned}
 use Rattle.simplex_held.proofs.Owners.{absent}
 use Rattle.simplex_numbers.specs.Values.{flat, KeepsApart}
 use Rattle.simplex.specs.Views.{SimplexView, IsOf}
 use Rattle.simplex.specs.Values.{TellsValues}
-use Rattle.simplex.specs.Numbers.{IsNumberWith, StrainsNumberWith, HoldApart}
-use Rattle.simplex.specs.Coming.{standing_of}
+use Rattle.simplex.specs.Numbers.{IsNumberWith, OverflowsNumberWith, HoldApart}
+use Rattle.simplex.specs.Coming.{term_tableau_of}
 use Rattle.simplex.proofs.TermNumbers.{number_in, numbers_owned, number_is_in}
-use Rattle.simplex.proofs.TellingValues.{value_at_place}
+use Rattle.simplex.proofs.TellingValues.{value_at_slack}
 
 -- terms have their own numbers, but the shared ones those of their heads
 abbrev pub number_apart : (Term → Number) → List Term → Term → Fraction
 number_apart n us u = cond (has_term us u) (number_at (λ w. (n w).fraction) u) (n u).fraction
 
 -- the value of a listed term
-value_among : (s : Standing) (us : List Term) (ps : List (Pair Number)) → AreValuesOf s us ps → (u : Term) → Contains us u → (p : Pair Number) × Contains ps p × IsValueOf s u p
+value_among : (s : TermTableau) (us : List Term) (ps : List (Pair Number)) → AreValuesOf s us ps → (u : Term) → Contains us u → (p : Pair Number) × Contains ps p × IsValueOf s u p
 value_among s [] ps h u c = absurd (no_member u c)
 value_among s (w ∷ us) [] h u c = absurd h
 value_among s (w ∷ us) (p ∷ ps) h u c = elim (cases w us u c) [
@@ -57,7 +57,7 @@ value_among s (w ∷ us) (p ∷ ps) h u c = elim (cases w us u c) [
 ]
 
 -- listed values are those of shared terms
-pub shared_values_are : (ts : List Term) (s : Standing) (us : List Term) (ps : List (Pair Number)) → AreValuesOf s us ps → All (IsSharedAmong ts) us → AreSharedValues ts s ps
+pub shared_values_are : (ts : List Term) (s : TermTableau) (us : List Term) (ps : List (Pair Number)) → AreValuesOf s us ps → All (IsSharedAmong ts) us → AreSharedValues ts s ps
 shared_values_are ts s [] [] h all p c = absurd (no_member p c)
 shared_values_are ts s [] (q ∷ qs) h all p c = absurd h
 shared_values_are ts s (u ∷ us) [] h all p c = absurd h
@@ -79,10 +79,10 @@ module _ (t : TableView) (v : SimplexView) (unique : AreDifferent t.terms) (is :
   tells : TellsOwners t v.atoms.owners
   tells = (unique, is.right.owners_in)
 
-  abbrev stands : Standing
-  stands = standing_of t v
+  abbrev stands : TermTableau
+  stands = term_tableau_of t v
 
-  -- the variable that stands for a term does so by its number
+  -- the variable that means a term does so by its number
   owner_of : (y : ℕ) (u : Term) → owner_in stands.owners y ≡ Some u → (id : TermId) × (owner_at v.atoms.owners y ≡ Some id) × (term_at t id ≡ u)
   owner_of y u k = by (owner_at v.atoms.owners y) refl (sym (owner_mapped t v.atoms.owners y) ∙ k)
     where
@@ -100,11 +100,11 @@ module _ (t : TableView) (v : SimplexView) (unique : AreDifferent t.terms) (is :
     abbrev own : Term → Number
     own = number_in t v e
 
-    variables_have : standings.AreOwned stands.owners own (λ y. at_number e (point_in v.board.values y))
+    variables_have : term_tableaux.AreOwned stands.owners own (λ y. at_number e (point_in v.assignment.values y))
     variables_have y u k = let i = owner_of y u k in numbers_owned t v e unique is y i.0 i.1 ∙ ap own i.2
 
     others_have : (u : Term) → ((y : ℕ) → owner_in stands.owners y ≡ Some u → ⊥) → own u ≡ numbers.zero
-    others_have u none = ap (λ (p : Pair Number). p.base) (absent t v.atoms.owners (λ y. flat (at_number e (point_in v.board.values y))) u
+    others_have u none = ap (λ (p : Pair Number). p.base) (absent t v.atoms.owners (λ y. flat (at_number e (point_in v.assignment.values y))) u
         (λ y id k same. none y (owner_mapped t v.atoms.owners y ∙ ap (owner_meant t) k ∙ ap Some same)))
 
     -- a linear term has the number of its value
@@ -172,14 +172,14 @@ module _ (t : TableView) (v : SimplexView) (unique : AreDifferent t.terms) (is :
       told_value : (id : TermId) (d : Delta) → told id.0 ≡ Some d → Contains (clause_at t ids) (term_at t id) × IsValueOf stands (term_at t id) (pair_of d)
       told_value id d h =
           let x = telling.tells id.0 d h in
-          (to_image (term_at t) ids id (x.0, x.1, x.2), value_at_place t stands ids ds values x.0 id d x.1 x.2 x.3)
+          (to_image (term_at t) ids id (x.0, x.1, x.2), value_at_slack t stands ids ds values x.0 id d x.1 x.2 x.3)
 
       not_told : (id : TermId) → AreIn t ids → IsIn t id → told id.0 ≡ None → Contains (clause_at t ids) (term_at t id) → ⊥
       not_told id all there h c =
           let x = from_image (term_at t) ids (term_at t id) c in
           let same : x.0 ≡ id = same_numbers t unique x.0 id (All-contains (IsIn t) ids x.0 all x.1) there x.2 in
-          let place = subst (Contains ids) same x.1 in
-          telling.tells_all place.0 id place.1 place.2 h
+          let slack = subst (Contains ids) same x.1 in
+          telling.tells_all slack.0 id slack.1 slack.2 h
 
       pub number_is_apart : All (IsLinearOver t.symbols) (clause_at t ids) → AreIn t ids → (id : TermId) → IsIn t id → (q : Number) → IsNumberWith e v id (told id.0) q
           → q.fraction ≡ number_apart (number_in t v e) (clause_at t ids) (term_at t id)
@@ -194,14 +194,14 @@ module _ (t : TableView) (v : SimplexView) (unique : AreDifferent t.terms) (is :
               ap (λ (x : Number). x.fraction) h ∙ sym (listed_value (clause_at t ids) linear (term_at t id) (pair_of d) x.0 x.1)
 
       -- its overflow
-      pub evaluating_strains : (ts : List Term) → All (IsSharedAmong ts) (clause_at t ids) → (ranges : Ranges) → AreBounds ts stands ranges → AreWithin ranges (point_in v.board.values)
-          → IsEpsilon ranges (point_in v.board.values) (map pair_of ds) e → (id : TermId) (o : Overflow) → StrainsNumberWith e v (told id.0) o → StrainsAt ts stands o
-      evaluating_strains ts shared ranges bounds within epsilon id o h = by (told id.0) refl h
+      pub evaluating_overflows : (ts : List Term) → All (IsSharedAmong ts) (clause_at t ids) → (ranges : Ranges) → AreBounds ts stands ranges → AreWithin ranges (point_in v.assignment.values)
+          → IsEpsilon ranges (point_in v.assignment.values) (map pair_of ds) e → (id : TermId) (o : Overflow) → OverflowsNumberWith e v (told id.0) o → OverflowsAt ts stands o
+      evaluating_overflows ts shared ranges bounds within epsilon id o h = by (told id.0) refl h
         where
           kept : AreSharedValues ts stands (map pair_of ds)
           kept = shared_values_are ts stands (clause_at t ids) (map pair_of ds) values shared
 
-          by : (r : Option Delta) → told id.0 ≡ r → StrainsNumberWith e v r o → StrainsAt ts stands o
+          by : (r : Option Delta) → told id.0 ≡ r → OverflowsNumberWith e v r o → OverflowsAt ts stands o
           by None k h = evaluating ranges bounds within (map pair_of ds) kept e epsilon (h t)
           by (Some d) k h =
               let x = told_value id d k in

@@ -13,10 +13,10 @@ use Rattle.spec_tableaux.specs.Numbers.{Number, numbers}
 use Rattle.spec_simplex.specs.Constraints.{Relation, below, at_most, equals, at_least, above}
 use Rattle.spec_simplex.specs.Weights.{denial}
 use Rattle.spec_strains.specs.Points.{Ranges}
-use Rattle.spec_causes.specs.Standing.{Standing}
+use Rattle.spec_causes.specs.TermTableau.{TermTableau}
 use Rattle.spec_causes.specs.Bounds.{bound_on, AreBounds}
-use Rattle.spec_causes.specs.Reasons.{directed, IsStop, weight_by, IsReason, AreReasons, literals_in, weights_in, crossing, sticking, StrainsReasons, weighing, adding}
-use Rattle.spec_causes.specs.Causes.{StrainsAt, explaining}
+use Rattle.spec_causes.specs.Reasons.{directed, IsStop, weight_by, IsReason, AreReasons, literals_in, weights_in, crossing, sticking, OverflowsReasons, weighing, adding}
+use Rattle.spec_causes.specs.Causes.{OverflowsAt, explaining}
 use Rattle.ratio128.specs.Meant.{fraction}
 use Rattle.term_core.specs.declared.ids.Lit.{Lit}
 use Rattle.term_core.specs.Tables.{TableView, term_at, literal_at}
@@ -27,8 +27,8 @@ use Rattle.simplex_bounds.specs.Deltas.{pair_of}
 use Rattle.simplex_bounds.specs.Held.{value_in, ranges_in}
 use Rattle.simplex_check.specs.declared.check.CheckOutcome.{CheckOutcome}
 use Rattle.simplex_check.specs.declared.check.CheckOutcome.TheVariants.{Fine, Crossed, Conflict}
-use Rattle.simplex_atoms.specs.declared.place.Slack.{Slack}
-use Rattle.simplex_atoms.specs.Places.{place_in, relation_by}
+use Rattle.simplex_atoms.specs.declared.slack.Slack.{Slack}
+use Rattle.simplex_atoms.specs.Slacks.{slack_in, relation_by}
 use Rattle.simplex_atoms.specs.Limits.{weight_of}
 use Rattle.simplex_atoms.specs.Limits as limits
 use Rattle.simplex_explain.specs.declared.weighted.Weighted.{Weighted}
@@ -38,8 +38,8 @@ use Rattle.simplex_reasons.specs.Stops.{stop_of}
 use Rattle.simplex_reasons.specs.Reasons.{footing, AreReasonsFor}
 use Rattle.simplex_reasons.specs.Reasons as code
 use Rattle.simplex.specs.Views.{SimplexView, SimplexFits, IsOf}
-use Rattle.simplex.specs.Checks.{Found, StrainsFound, AreReasonsOf}
-use Rattle.simplex.specs.Coming.{standing_of}
+use Rattle.simplex.specs.Checks.{Found, OverflowsFound, AreReasonsOf}
+use Rattle.simplex.specs.Coming.{term_tableau_of}
 use Rattle.simplex.proofs.Bounding.{side_same, bound_same, States, states_strongest, strongest_by_held, are_bounds}
 
 -- a literal with its weight, as a table means them
@@ -53,10 +53,10 @@ weights_same : (t : TableView) (ws : List Weighted) → weights_in (map (reason_
 weights_same t ws = map-map (λ (x : Literal × Fraction). x.1) (reason_meant t) ws ∙ sym (map-map fraction (λ (w : Weighted). w.weight) ws)
 
 -- the weight of a literal that says this
-weight_says : (o : Option Relation) (r : Relation) (place : Slack) (q : Number) → o ≡ Some r → code.weight_by o place q ≡ weight_by r (numbers.times q (numbers.inverse (number_of place.factor)))
-weight_says o r place q e = ap (λ z. code.weight_by z place q) e ∙ by r
+weight_says : (o : Option Relation) (r : Relation) (slack : Slack) (q : Number) → o ≡ Some r → code.weight_by o slack q ≡ weight_by r (numbers.times q (numbers.inverse (number_of slack.factor)))
+weight_says o r slack q e = ap (λ z. code.weight_by z slack q) e ∙ by r
   where
-    by : (r : Relation) → weight_of r place q ≡ weight_by r (numbers.times q (numbers.inverse (number_of place.factor)))
+    by : (r : Relation) → weight_of r slack q ≡ weight_by r (numbers.times q (numbers.inverse (number_of slack.factor)))
     by below = refl
     by at_most = refl
     by equals = refl
@@ -64,8 +64,8 @@ weight_says o r place q e = ap (λ z. code.weight_by z place q) e ∙ by r
     by above = refl
 
 module _ (t : TableView) (v : SimplexView) (is : IsOf v t) (fits : SimplexFits v) where
-  abbrev s : Standing
-  s = standing_of t v
+  abbrev s : TermTableau
+  s = term_tableau_of t v
 
   abbrev ranges : Ranges
   ranges = ranges_in v.bounds.held
@@ -75,15 +75,15 @@ module _ (t : TableView) (v : SimplexView) (is : IsOf v t) (fits : SimplexFits v
 
   -- A literal whose atom has this place stops the variable of an entry, by the factor of the place.
   abbrev Stops : Bool → Entry Number → Lit → Slack → Type 0
-  Stops up e l place =
-      (x : IsStop s held ranges up e (literal_at t l)) × (x.states.factor ≡ number_of place.factor) × (relation_by place.kind l.positive ≡ Some x.states.constraint.relation)
+  Stops up e l slack =
+      (x : IsStop s held ranges up e (literal_at t l)) × (x.states.factor ≡ number_of slack.factor) × (relation_by slack.kind l.positive ≡ Some x.states.constraint.relation)
 
-  stops : (up : Bool) (e : Entry Number) (b : Bound) → stop_of v.bounds.held up e ≡ Some b → (place : Slack) → place_in v.atoms.placed b.literal.term ≡ Some place
-      → Stops up e b.literal place
-  stops up e b stop place there =
+  stops : (up : Bool) (e : Entry Number) (b : Bound) → stop_of v.bounds.held up e ≡ Some b → (slack : Slack) → slack_in v.atoms.slack_list b.literal.term ≡ Some slack
+      → Stops up e b.literal slack
+  stops up e b stop slack there =
       let q = cond (is_positive numbers e.coefficient) up (not up) in
-      let states = subst (λ side. States t v is b.literal place e.variable side (pair_of b.value)) (side_same q)
-      (states_strongest t v is fits (limits.side_by q) e.variable b stop place there) in (
+      let states = subst (λ side. States t v is b.literal slack e.variable side (pair_of b.value)) (side_same q)
+      (states_strongest t v is fits (limits.side_by q) e.variable b stop slack there) in (
         record {
           is_held = strongest_by_held t v is fits (limits.side_by q) e.variable b stop;
           bound = pair_of b.value;
@@ -96,12 +96,12 @@ module _ (t : TableView) (v : SimplexView) (is : IsOf v t) (fits : SimplexFits v
 
   reason_is : (up : Bool) (e : Entry Number) (w : Weighted) → code.IsBoundReason (footing v.atoms v.bounds) up e w → IsReason s held ranges up e (reason_meant t w)
   reason_is up e w r =
-      let x = subst (λ l. Stops up e l r.place) (sym r.literal) (stops up e r.bound r.stops r.place r.there) in
+      let x = subst (λ l. Stops up e l r.slack) (sym r.literal) (stops up e r.bound r.stops r.slack r.there) in
       record {
         stop = x.0;
         weight =
-            let relation = ap (λ (l : Lit). relation_by r.place.kind l.positive) (sym r.literal) ∙ x.2 in
-            r.weight ∙ weight_says (relation_by r.place.kind r.bound.literal.positive) x.0.states.constraint.relation r.place (directed up e.coefficient) relation
+            let relation = ap (λ (l : Lit). relation_by r.slack.kind l.positive) (sym r.literal) ∙ x.2 in
+            r.weight ∙ weight_says (relation_by r.slack.kind r.bound.literal.positive) x.0.states.constraint.relation r.slack (directed up e.coefficient) relation
             ∙ ap (λ k. weight_by x.0.states.constraint.relation (numbers.times (directed up e.coefficient) (numbers.inverse k))) (sym x.1);
       }
 
@@ -112,15 +112,15 @@ module _ (t : TableView) (v : SimplexView) (is : IsOf v t) (fits : SimplexFits v
   reasons_are up (e ∷ es) [] h = h
 
   -- a weight of them
-  weight_strains : (up : Bool) (es : List (Entry Number)) (o : Overflow) → code.StrainsReasons (footing v.atoms v.bounds) up es o → StrainsReasons s held ranges up es o
-  weight_strains up es o (e, has, r) =
-      let x = stops up e r.bound r.stops r.place r.there in
+  weight_overflows : (up : Bool) (es : List (Entry Number)) (o : Overflow) → code.OverflowsReasons (footing v.atoms v.bounds) up es o → OverflowsReasons s held ranges up es o
+  weight_overflows up es o (e, has, r) =
+      let x = stops up e r.bound r.stops r.slack r.there in
       weighing e has (literal_at t r.bound.literal) x.0 (ap (λ (k : Number). divided (directed up e.coefficient).fraction k.fraction) x.1 ∙ r.quotient)
 
   -- their sum
-  sum_strains : (up : Bool) (es : List (Entry Number)) (ws : List Weighted) (o : Overflow) → AreReasonsFor (footing v.atoms v.bounds) up es ws → judged t ws ≡ Err (wide o)
-      → StrainsReasons s held ranges up es o
-  sum_strains up es ws o are e =
+  sum_overflowing : (up : Bool) (es : List (Entry Number)) (ws : List Weighted) (o : Overflow) → AreReasonsFor (footing v.atoms v.bounds) up es ws → judged t ws ≡ Err (wide o)
+      → OverflowsReasons s held ranges up es o
+  sum_overflowing up es ws o are e =
       adding (map (reason_meant t) ws) (reasons_are up es ws are)
       ((λ i. la_generic (map denial (literals_same t ws i)) (map given (weights_same t ws i))) ∙ e)
 
@@ -129,13 +129,13 @@ module _ (t : TableView) (v : SimplexView) (is : IsOf v t) (fits : SimplexFits v
     bounds = are_bounds t v is fits ts atoms
 
     -- a weight of the reasons for what was found
-    pub found_weighs : (outcome : CheckOutcome) (o : Overflow) → Found v outcome → StrainsFound v outcome o → StrainsAt ts s o
+    pub found_weighs : (outcome : CheckOutcome) (o : Overflow) → Found v outcome → OverflowsFound v outcome o → OverflowsAt ts s o
     found_weighs Fine o found h = absurd found
-    found_weighs (Crossed y) o found h = explaining ranges bounds true _ (crossing y found) (weight_strains true _ o h)
-    found_weighs (Conflict b) o found h = explaining ranges bounds _ _ (sticking b found.0 found.1) (weight_strains _ _ o h)
+    found_weighs (Crossed y) o found h = explaining ranges bounds true _ (crossing y found) (weight_overflows true _ o h)
+    found_weighs (Conflict b) o found h = explaining ranges bounds _ _ (sticking b found.0 found.1) (weight_overflows _ _ o h)
 
     -- their sum
-    pub found_adds : (outcome : CheckOutcome) (ws : List Weighted) (o : Overflow) → Found v outcome → AreReasonsOf v outcome ws → judged t ws ≡ Err (wide o) → StrainsAt ts s o
+    pub found_adds : (outcome : CheckOutcome) (ws : List Weighted) (o : Overflow) → Found v outcome → AreReasonsOf v outcome ws → judged t ws ≡ Err (wide o) → OverflowsAt ts s o
     found_adds Fine ws o found h e = absurd found
-    found_adds (Crossed y) ws o found h e = explaining ranges bounds true _ (crossing y found) (sum_strains true _ ws o h e)
-    found_adds (Conflict b) ws o found h e = explaining ranges bounds _ _ (sticking b found.0 found.1) (sum_strains _ _ ws o h e)
+    found_adds (Crossed y) ws o found h e = explaining ranges bounds true _ (crossing y found) (sum_overflowing true _ ws o h e)
+    found_adds (Conflict b) ws o found h e = explaining ranges bounds _ _ (sticking b found.0 found.1) (sum_overflowing _ _ ws o h e)

@@ -14,11 +14,11 @@ use Rattle.spec_tableaux.specs.Fields.{is_positive}
 use Rattle.spec_tableaux.specs.Numbers.{numbers}
 use Rattle.tableau.specs.Numbers.{number_of}
 use Rattle.spec_simplex.specs.Constraints.{Relation, below, at_most, equals, at_least, above}
-use Rattle.simplex_atoms.specs.declared.place.Slack.{Slack}
-use Rattle.simplex_atoms.specs.Places.{place_in, relation_by}
+use Rattle.simplex_atoms.specs.declared.slack.Slack.{Slack}
+use Rattle.simplex_atoms.specs.Slacks.{slack_in, relation_by}
 use Rattle.simplex_atoms.specs.Limits.{limits_by, limits_where}
 use Rattle.simplex_held.specs.Stated.{stated_at, stated_by, all_stated}
-use Rattle.simplex.specs.Views.{has_place, placed_count}
+use Rattle.simplex.specs.Views.{has_slack, slack_count}
 
 joined : {A : Type 0} (xs ys zs : List A) → xs ++ (ys ++ zs) ≡ (xs ++ ys) ++ zs
 joined [] ys zs = refl
@@ -41,10 +41,10 @@ stated_append p (l ∷ ls) ms = ap (λ bs. stated_by p l ++ bs) (stated_append p
 pub stated_more : (p : List (ℕ × Slack)) (ls : List Lit) (l : Lit) → all_stated p (ls ++ l ∷ []) ≡ all_stated p ls ++ stated_by p l
 stated_more p ls l = stated_append p ls (l ∷ []) ∙ ap (λ bs. all_stated p ls ++ bs) (append-nil (stated_by p l))
 
-pub stated_same : (p q : List (ℕ × Slack)) (ls : List Lit) → All (λ (l : Lit). place_in q l.term ≡ place_in p l.term) ls → all_stated q ls ≡ all_stated p ls
+pub stated_same : (p q : List (ℕ × Slack)) (ls : List Lit) → All (λ (l : Lit). slack_in q l.term ≡ slack_in p l.term) ls → all_stated q ls ≡ all_stated p ls
 stated_same p q [] same = refl
-stated_same p q (l ∷ ls) same = λ i. stated_at (All-head (λ (m : Lit). place_in q m.term ≡ place_in p m.term) l ls same i) l
-    ++ stated_same p q ls (All-tail (λ (m : Lit). place_in q m.term ≡ place_in p m.term) l ls same) i
+stated_same p q (l ∷ ls) same = λ i. stated_at (All-head (λ (m : Lit). slack_in q m.term ≡ slack_in p m.term) l ls same i) l
+    ++ stated_same p q ls (All-tail (λ (m : Lit). slack_in q m.term ≡ slack_in p m.term) l ls same) i
 
 pub stated_first : (p : List (ℕ × Slack)) (m : ℕ) (ls : List Lit) → take (length (all_stated p (take m ls))) (all_stated p ls) ≡ all_stated p (take m ls)
 stated_first p zero [] = refl
@@ -67,63 +67,63 @@ first_states_less p (suc m) (l ∷ ls) = omega (
 
 -- how many have a place
 
-pub count_same : (p q : List (ℕ × Slack)) (ids : List TermId) → All (λ id. place_in q id ≡ place_in p id) ids → placed_count q ids ≡ placed_count p ids
+pub count_same : (p q : List (ℕ × Slack)) (ids : List TermId) → All (λ id. slack_in q id ≡ slack_in p id) ids → slack_count q ids ≡ slack_count p ids
 count_same p q [] same = refl
 count_same p q (id ∷ ids) same = by
-    (ap is_some (All-head (λ i. place_in q i ≡ place_in p i) id ids same))
-    (count_same p q ids (All-tail (λ i. place_in q i ≡ place_in p i) id ids same))
+    (ap is_some (All-head (λ i. slack_in q i ≡ slack_in p i) id ids same))
+    (count_same p q ids (All-tail (λ i. slack_in q i ≡ slack_in p i) id ids same))
   where
     each : (b : Bool) (xs ys : List TermId) → length xs ≡ length ys → length (cond b (id ∷ xs) xs) ≡ length (cond b (id ∷ ys) ys)
     each true xs ys e = ap suc e
     each false xs ys e = e
 
-    by : has_place q id ≡ has_place p id → placed_count q ids ≡ placed_count p ids → placed_count q (id ∷ ids) ≡ placed_count p (id ∷ ids)
-    by e same_rest = ap (λ b. length (cond b (id ∷ filter (has_place q) ids) (filter (has_place q) ids))) e
-        ∙ each (has_place p id) (filter (has_place q) ids) (filter (has_place p) ids) same_rest
+    by : has_slack q id ≡ has_slack p id → slack_count q ids ≡ slack_count p ids → slack_count q (id ∷ ids) ≡ slack_count p (id ∷ ids)
+    by e same_rest = ap (λ b. length (cond b (id ∷ filter (has_slack q) ids) (filter (has_slack q) ids))) e
+        ∙ each (has_slack p id) (filter (has_slack q) ids) (filter (has_slack p) ids) same_rest
 
-pub count_first : (p : List (ℕ × Slack)) (n : ℕ) (ids : List TermId) → placed_count p (take n ids) ≤ placed_count p ids
+pub count_first : (p : List (ℕ × Slack)) (n : ℕ) (ids : List TermId) → slack_count p (take n ids) ≤ slack_count p ids
 count_first p zero [] = omega arith
 count_first p (suc n) [] = omega arith
 count_first p zero (id ∷ ids) = omega arith
-count_first p (suc n) (id ∷ ids) = by (has_place p id) (count_first p n ids)
+count_first p (suc n) (id ∷ ids) = by (has_slack p id) (count_first p n ids)
   where
-    by : (b : Bool) → placed_count p (take n ids) ≤ placed_count p ids
-        → length (cond b (id ∷ filter (has_place p) (take n ids)) (filter (has_place p) (take n ids))) ≤ length (cond b (id ∷ filter (has_place p) ids) (filter (has_place p) ids))
+    by : (b : Bool) → slack_count p (take n ids) ≤ slack_count p ids
+        → length (cond b (id ∷ filter (has_slack p) (take n ids)) (filter (has_slack p) (take n ids))) ≤ length (cond b (id ∷ filter (has_slack p) ids) (filter (has_slack p) ids))
     by true le = omega (arith, le)
     by false le = le
 
 -- how many bounds they are
 
-two_where : (r : Option Relation) (up : Bool) (place : Slack) (l : Lit) → length (limits_where r up place l) ≤ 2
-two_where None up place l = omega arith
-two_where (Some below) up place l = omega arith
-two_where (Some at_most) up place l = omega arith
-two_where (Some equals) up place l = omega arith
-two_where (Some at_least) up place l = omega arith
-two_where (Some above) up place l = omega arith
+two_where : (r : Option Relation) (up : Bool) (slack : Slack) (l : Lit) → length (limits_where r up slack l) ≤ 2
+two_where None up slack l = omega arith
+two_where (Some below) up slack l = omega arith
+two_where (Some at_most) up slack l = omega arith
+two_where (Some equals) up slack l = omega arith
+two_where (Some at_least) up slack l = omega arith
+two_where (Some above) up slack l = omega arith
 
 -- the literals whose term has a place
 abbrev with_place : List (ℕ × Slack) → List Lit → List Lit
-with_place p ls = filter (λ (l : Lit). has_place p l.term) ls
+with_place p ls = filter (λ (l : Lit). has_slack p l.term) ls
 
 stated_twice : (p : List (ℕ × Slack)) (ls : List Lit) → length (all_stated p ls) ≤ 2 * length (with_place p ls)
 stated_twice p [] = omega arith
-stated_twice p (l ∷ ls) = by (place_in p l.term) (stated_twice p ls)
+stated_twice p (l ∷ ls) = by (slack_in p l.term) (stated_twice p ls)
   where
     rest : List Lit
-    rest = filter (λ (m : Lit). has_place p m.term) ls
+    rest = filter (λ (m : Lit). has_slack p m.term) ls
 
     by : (o : Option Slack) → length (all_stated p ls) ≤ 2 * length rest → length (stated_at o l ++ all_stated p ls) ≤ 2 * length (cond (is_some o) (l ∷ rest) rest)
     by None le = le
-    by (Some place) le = omega (arith, le, length-append (limits_by place l) (all_stated p ls), two_where (relation_by place.kind l.positive) (is_positive numbers (number_of place.factor)) place l)
+    by (Some slack) le = omega (arith, le, length-append (limits_by slack l) (all_stated p ls), two_where (relation_by slack.kind l.positive) (is_positive numbers (number_of slack.factor)) slack l)
 
-pub stated_bounded : (p : List (ℕ × Slack)) (held : List Lit) (watched : List TermId) → IsHeldOver held watched → length (all_stated p held) ≤ 4 * placed_count p watched
+pub stated_bounded : (p : List (ℕ × Slack)) (held : List Lit) (watched : List TermId) → IsHeldOver held watched → length (all_stated p held) ≤ 4 * slack_count p watched
 stated_bounded p held watched h =
-    let passes = filter_passes (λ (l : Lit). has_place p l.term) held in
-    let over = All-filter (λ (l : Lit). has_place p l.term) (λ (l : Lit). Contains watched l.term) held h.over in
+    let passes = filter_passes (λ (l : Lit). has_slack p l.term) held in
+    let over = All-filter (λ (l : Lit). has_slack p l.term) (λ (l : Lit). Contains watched l.term) held h.over in
     omega (
       arith,
       stated_twice p held,
-      bounded (with_place p held) (filter (has_place p) watched) (AllPairs-filter (λ l m. l ≢ m) (λ (l : Lit). has_place p l.term) held h.once)
-          (λ k d lt. in_filter (has_place p) watched _ (over k d lt) (passes k d lt)),
+      bounded (with_place p held) (filter (has_slack p) watched) (AllPairs-filter (λ l m. l ≢ m) (λ (l : Lit). has_slack p l.term) held h.once)
+          (λ k d lt. in_filter (has_slack p) watched _ (over k d lt) (passes k d lt)),
     )

@@ -3,7 +3,7 @@ use Rattle.std.proofs.Common.{◌≡◌, ℕ, zero, suc, ◌+◌, ◌<◌, ◌�
 use Rattle.std.proofs.lemmas.Bool.{cases_lt, eqb-true, eq-eqb}
 use Rattle.std.proofs.lemmas.List.{get_or_default}
 use Rattle.std.proofs.lemmas.Option.{none-some, same_Some}
-use Rattle.spec_causes.specs.Standing.{Standing}
+use Rattle.spec_causes.specs.TermTableau.{TermTableau}
 use Rattle.spec_causes.specs.Shared.{IsValueOf, AreValuesOf}
 use Rattle.delta_num.specs.declared.delta.Delta.{Delta}
 use Rattle.term_core.specs.declared.ids.TermId.{TermId}
@@ -43,8 +43,8 @@ module _ (old new : ℕ → Option Delta) (ids : List TermId) (values : List Del
   tells_each k i lt at none true here side = none-some d (sym none ∙ updates i.0 ∙ ap (λ b. cond b (Some d) (old i.0)) here)
   tells_each k i lt at none false other (inl before) = tells.tells_all k i before at (sym (ap (λ b. cond b (Some d) (old i.0)) other) ∙ sym (updates i.0) ∙ none)
   tells_each k i lt at none false other (inr last) =
-      let place : k ≡ n = omega (arith, lt, last) in
-      let same : id ≡ i = id_is ∙ get_or_default ids n id i there ∙ ap (λ m. get_or ids m i) (sym place) ∙ at in
+      let slack : k ≡ n = omega (arith, lt, last) in
+      let same : id ≡ i = id_is ∙ get_or_default ids n id i there ∙ ap (λ m. get_or ids m i) (sym slack) ∙ at in
       absurd (true≢false (sym (eq-eqb id.0 i.0 (ap (λ (x : TermId). x.0) same)) ∙ other))
 
   pub tells_more : TellsValues new ids values (n + 1)
@@ -54,16 +54,16 @@ module _ (old new : ℕ → Option Delta) (ids : List TermId) (values : List Del
   }
 
 -- there is a value for each term
-pub values_length : (t : TableView) (s : Standing) (ids : List TermId) (ds : List Delta) → AreValuesOf s (clause_at t ids) (map pair_of ds) → length ids ≡ length ds
+pub values_length : (t : TableView) (s : TermTableau) (ids : List TermId) (ds : List Delta) → AreValuesOf s (clause_at t ids) (map pair_of ds) → length ids ≡ length ds
 values_length t s [] [] h = refl
 values_length t s (id ∷ ids) (d ∷ ds) h = ap suc (values_length t s ids ds h.1)
 values_length t s [] (d ∷ ds) h = absurd h
 values_length t s (id ∷ ids) [] h = absurd h
 
 -- the value at the place of a term is its own
-pub value_at_place : (t : TableView) (s : Standing) (ids : List TermId) (ds : List Delta) → AreValuesOf s (clause_at t ids) (map pair_of ds) → (k : ℕ) (id : TermId) (d : Delta) → k < length ids
+pub value_at_slack : (t : TableView) (s : TermTableau) (ids : List TermId) (ds : List Delta) → AreValuesOf s (clause_at t ids) (map pair_of ds) → (k : ℕ) (id : TermId) (d : Delta) → k < length ids
     → get_or ids k id ≡ id → get_or ds k d ≡ d → IsValueOf s (term_at t id) (pair_of d)
-value_at_place t s [] ds h k id d lt a b = absurd (omega (arith, lt))
-value_at_place t s (i ∷ ids) [] h k id d lt a b = absurd h
-value_at_place t s (i ∷ ids) (x ∷ ds) h zero id d lt a b = subst (λ (y : Delta). IsValueOf s (term_at t id) (pair_of y)) b (subst (λ (j : TermId). IsValueOf s (term_at t j) (pair_of x)) a h.0)
-value_at_place t s (i ∷ ids) (x ∷ ds) h (suc k) id d lt a b = value_at_place t s ids ds h.1 k id d (omega (arith, lt)) a b
+value_at_slack t s [] ds h k id d lt a b = absurd (omega (arith, lt))
+value_at_slack t s (i ∷ ids) [] h k id d lt a b = absurd h
+value_at_slack t s (i ∷ ids) (x ∷ ds) h zero id d lt a b = subst (λ (y : Delta). IsValueOf s (term_at t id) (pair_of y)) b (subst (λ (j : TermId). IsValueOf s (term_at t j) (pair_of x)) a h.0)
+value_at_slack t s (i ∷ ids) (x ∷ ds) h (suc k) id d lt a b = value_at_slack t s ids ds h.1 k id d (omega (arith, lt)) a b

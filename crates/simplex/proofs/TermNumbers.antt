@@ -21,21 +21,21 @@ use Rattle.tableau.specs.Numbers.{number_of}
 use Rattle.proof_log.specs.Theories.{IsAtomIn, IsTheoryOver}
 use Rattle.spec_strains.specs.Deltas.{delta_evaluated}
 use Rattle.spec_strains.specs.Points.{point_in, delta_in}
-use Rattle.spec_causes.specs.Causes.{StrainsValueAt}
+use Rattle.spec_causes.specs.Causes.{OverflowsValueAt}
 use Rattle.simplex_bounds.specs.Deltas.{pair_of}
 use Rattle.simplex_atoms.specs.Owners.{owner_at, IsNumberOf, AreOwned}
-use Rattle.simplex_atoms.specs.Standings.{owner_meant}
+use Rattle.simplex_atoms.specs.TermTableauViews.{owner_meant}
 use Rattle.simplex_atoms.proofs.Numbered.{owner_mapped}
 use Rattle.simplex_held.proofs.Owners.{point_of, owned, absent}
 use Rattle.simplex_numbers.specs.Values.{flat}
 use Rattle.spec_strains.specs.Halves.{at_number}
 use Rattle.simplex.specs.Views.{SimplexView, IsOf}
 use Rattle.simplex.specs.Numbers.{number_by, IsNumberAt}
-use Rattle.simplex.specs.Coming.{standing_of}
+use Rattle.simplex.specs.Coming.{term_tableau_of}
 
 -- the number of a term where the infinitesimal is e
 abbrev pub number_in : TableView → SimplexView → Number → Term → Number
-number_in t v e u = (point_of t v.atoms.owners (λ y. flat (at_number e (point_in v.board.values y))) u).base
+number_in t v e u = (point_of t v.atoms.owners (λ y. flat (at_number e (point_in v.assignment.values y))) u).base
 
 -- the terms of held literals are well sorted
 pub held_sorted : (t : TableView) (v : SimplexView) → IsTheoryOver t v.theory → All (λ (l : Lit). IsWellSorted t.symbols [] (term_at t l.term)) v.theory.held
@@ -43,8 +43,8 @@ held_sorted t v over = All-weaker (λ (l : Lit). IsAtomIn t l.term) (λ (l : Lit
 
 module _ (t : TableView) (v : SimplexView) (e : Number) (unique : AreDifferent t.terms) (is : IsOf v t) where
   -- variables have the numbers of the terms that they stand for
-  pub numbers_owned : AreOwned t v.atoms.owners (number_in t v e) (λ y. at_number e (point_in v.board.values y))
-  numbers_owned y id o = ap (λ (p : Pair Number). p.base) (owned t v.atoms.owners (λ y. flat (at_number e (point_in v.board.values y))) unique is.right.owners_in is.right.once y id o)
+  pub numbers_owned : AreOwned t v.atoms.owners (number_in t v e) (λ y. at_number e (point_in v.assignment.values y))
+  numbers_owned y id o = ap (λ (p : Pair Number). p.base) (owned t v.atoms.owners (λ y. flat (at_number e (point_in v.assignment.values y))) unique is.right.owners_in is.right.once y id o)
 
   nobody : (id : TermId) → IsIn t id → IsNumberOf v.atoms.owners id None → (y : ℕ) (i : TermId) → owner_at v.atoms.owners y ≡ Some i → term_at t i ≡ term_at t id → ⊥
   nobody id there none y i o same =
@@ -54,17 +54,17 @@ module _ (t : TableView) (v : SimplexView) (e : Number) (unique : AreDifferent t
   by_variable : (id : TermId) → IsIn t id → (o : Option ℕ) → IsNumberOf v.atoms.owners id o → number_by e v o ≡ number_in t v e (term_at t id)
   by_variable id there (Some y) h = numbers_owned y id h
   by_variable id there None h =
-      sym (ap (λ (p : Pair Number). p.base) (absent t v.atoms.owners (λ y. flat (at_number e (point_in v.board.values y))) (term_at t id) (nobody id there h)))
+      sym (ap (λ (p : Pair Number). p.base) (absent t v.atoms.owners (λ y. flat (at_number e (point_in v.assignment.values y))) (term_at t id) (nobody id there h)))
 
   -- a number of a term is the number that it has
   pub number_is_in : (id : TermId) (q : Number) → IsIn t id → IsNumberAt e v id q → q ≡ number_in t v e (term_at t id)
   number_is_in id q there n = n.is ∙ by_variable id there n.variable n.stands
 
--- an overflow of the value of a variable that stands for a term
-pub value_strains : (v : SimplexView) (e : Ratio) (id : TermId) (y : ℕ) (a : Delta) (r : Result Ratio Wide) → IsNumberOf v.atoms.owners id (Some y) → pair_of a ≡ point_in v.board.values y
-    → IfErr r (λ w. delta_evaluated (delta a) (fraction e) ≡ Err (overflow w)) → IfErr r (λ w. (t : TableView) → StrainsValueAt (number_of e) (standing_of t v) (overflow w))
-value_strains v e id y a (Ok q) stands is h = tt
-value_strains v e id y a (Err w) stands is h = λ t. record {
+-- an overflow of the value of a variable that means a term
+pub value_overflowing : (v : SimplexView) (e : Ratio) (id : TermId) (y : ℕ) (a : Delta) (r : Result Ratio Wide) → IsNumberOf v.atoms.owners id (Some y) → pair_of a ≡ point_in v.assignment.values y
+    → IfErr r (λ w. delta_evaluated (delta a) (fraction e) ≡ Err (overflow w)) → IfErr r (λ w. (t : TableView) → OverflowsValueAt (number_of e) (term_tableau_of t v) (overflow w))
+value_overflowing v e id y a (Ok q) stands is h = tt
+value_overflowing v e id y a (Err w) stands is h = λ t. record {
   variable = y;
   term = term_at t id;
   stands = owner_mapped t v.atoms.owners y ∙ ap (owner_meant t) stands;

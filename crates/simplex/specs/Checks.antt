@@ -11,12 +11,12 @@ use Rattle.proof_log.specs.declared.theory.Verdict.{Verdict}
 use Rattle.proof_log.specs.declared.theory.Verdict.TheVariants as verdicts
 use Rattle.spec_strains.specs.Points.{deltas, point_in}
 use Rattle.simplex_bounds.specs.Held.{ranges_in}
-use Rattle.simplex_check.specs.Boards.{state_of}
+use Rattle.simplex_check.specs.Assignments.{state_of}
 use Rattle.simplex_check.specs.declared.check.CheckOutcome.{CheckOutcome}
 use Rattle.simplex_check.specs.declared.check.CheckOutcome.TheVariants.{Fine, Crossed, Conflict}
 use Rattle.simplex_explain.specs.declared.weighted.Weighted.{Weighted}
 use Rattle.spec_causes.specs.Reasons.{with_basic, unit_entries}
-use Rattle.simplex_reasons.specs.Reasons.{footing, AreReasonsFor, StrainsReasons}
+use Rattle.simplex_reasons.specs.Reasons.{footing, AreReasonsFor, OverflowsReasons}
 use Rattle.simplex.specs.Views.{SimplexView, IsOf}
 
 -- What is held, over a table.
@@ -37,32 +37,32 @@ pub record Suits (v : SimplexView) (t : TableView) : Type 0 where
 
 -- the values solve the rows and keep the bounds that are held
 abbrev pub KeepsBounds : SimplexView → Type 0
-KeepsBounds v = Meets deltas v.board.tableau.rows (ranges_in v.bounds.held) (point_in v.board.values)
+KeepsBounds v = Meets deltas v.assignment.tableau.rows (ranges_in v.bounds.held) (point_in v.assignment.values)
 
 -- what a check found is wrong at the rows, the values and the bounds: those of a variable cross; or a basic variable is
 -- stuck, and nonbasic ones keep their bounds
 abbrev pub Found : SimplexView → CheckOutcome → Type 0
 Found v Fine = ⊥
-Found v (Crossed y) = RuleSays deltas (ranges_in v.bounds.held) (state_of v.board) (crossed y)
+Found v (Crossed y) = RuleSays deltas (ranges_in v.bounds.held) (state_of v.assignment) (crossed y)
 Found v (Conflict b) =
-    IsNonbasicFeasible deltas (ranges_in v.bounds.held) (state_of v.board)
-    × RuleSays deltas (ranges_in v.bounds.held) (state_of v.board) (stuck b)
+    IsNonbasicFeasible deltas (ranges_in v.bounds.held) (state_of v.assignment)
+    × RuleSays deltas (ranges_in v.bounds.held) (state_of v.assignment) (stuck b)
 
 -- a weight of the reasons for what was found comes to the overflow
-abbrev pub StrainsFound : SimplexView → CheckOutcome → Overflow → Type 0
-StrainsFound v Fine o = ⊥
-StrainsFound v (Crossed y) o = StrainsReasons (footing v.atoms v.bounds) true (with_basic y (unit_entries y)) o
-StrainsFound v (Conflict b) o =
-    StrainsReasons (footing v.atoms v.bounds) (goes_up deltas (ranges_in v.bounds.held) (state_of v.board) b)
-    (with_basic b (row_of b v.board.tableau.rows).entries) o
+abbrev pub OverflowsFound : SimplexView → CheckOutcome → Overflow → Type 0
+OverflowsFound v Fine o = ⊥
+OverflowsFound v (Crossed y) o = OverflowsReasons (footing v.atoms v.bounds) true (with_basic y (unit_entries y)) o
+OverflowsFound v (Conflict b) o =
+    OverflowsReasons (footing v.atoms v.bounds) (goes_up deltas (ranges_in v.bounds.held) (state_of v.assignment) b)
+    (with_basic b (row_of b v.assignment.tableau.rows).entries) o
 
 -- these are the reasons for what was found
 abbrev pub AreReasonsOf : SimplexView → CheckOutcome → List Weighted → Type 0
 AreReasonsOf v Fine rs = ⊥
 AreReasonsOf v (Crossed y) rs = AreReasonsFor (footing v.atoms v.bounds) true (with_basic y (unit_entries y)) rs
 AreReasonsOf v (Conflict b) rs =
-    AreReasonsFor (footing v.atoms v.bounds) (goes_up deltas (ranges_in v.bounds.held) (state_of v.board) b)
-    (with_basic b (row_of b v.board.tableau.rows).entries) rs
+    AreReasonsFor (footing v.atoms v.bounds) (goes_up deltas (ranges_in v.bounds.held) (state_of v.assignment) b)
+    (with_basic b (row_of b v.assignment.tableau.rows).entries) rs
 
 -- what is answered to what a check of the rows found: that nothing is wrong, where it found nothing wrong; something
 -- else, where it did; and its own stop

@@ -27,20 +27,20 @@ AreTermsIn t xs = All (λ (p : TermId × Ratio). IsIn t p.0) xs
 -- a sum with k times the value of a variable, or without one
 abbrev pub next_by : SimplexView → Number → Pair Number → Option ℕ → Pair Number
 next_by v k sum None = sum
-next_by v k sum (Some y) = deltas.plus sum (deltas.scale k (point_in v.board.values y))
+next_by v k sum (Some y) = deltas.plus sum (deltas.scale k (point_in v.assignment.values y))
 
--- The sum with k times the value of the variable that stands for a term, if one does.
+-- The sum with k times the value of the variable that means a term, if one does.
 pub record IsNextSum (v : SimplexView) (id : TermId) (k : Number) (sum next : Pair Number) : Type 0 where
   pub variable : Option ℕ
   pub stands : IsNumberOf v.atoms.owners id variable
   pub is : next ≡ next_by v k sum variable
 
 -- It comes to the overflow o: the product does, or the sum with it.
-pub record StrainsNextSum (v : SimplexView) (id : TermId) (k : Number) (sum : Pair Number) (o : Overflow) : Type 0 where
+pub record OverflowsNextSum (v : SimplexView) (id : TermId) (k : Number) (sum : Pair Number) (o : Overflow) : Type 0 where
   pub variable : ℕ
   pub stands : owner_at v.atoms.owners variable ≡ Some id
-  pub strains : (delta_scaled k.fraction (delta_in (point_in v.board.values variable)) ≡ Err o)
-      ⊎ (delta_added (delta_in sum) (delta_in (deltas.scale k (point_in v.board.values variable))) ≡ Err o)
+  pub may_overflow : (delta_scaled k.fraction (delta_in (point_in v.assignment.values variable)) ≡ Err o)
+      ⊎ (delta_added (delta_in sum) (delta_in (deltas.scale k (point_in v.assignment.values variable))) ≡ Err o)
 
 -- Values by the numbers of terms: those of the first n of these terms, of each the value at its place.
 pub record TellsValues (told : ℕ → Option Delta) (ids : List TermId) (values : List Delta) (n : ℕ) : Type 0 where

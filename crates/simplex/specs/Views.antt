@@ -6,10 +6,10 @@ use Rattle.term_core.specs.declared.ids.TermId.{TermId}
 use Rattle.term_core.specs.Tables.{TableView}
 use Rattle.proof_log.specs.Theories.{TheoryView, Mark}
 use Rattle.simplex_bounds.specs.Held.{BoundsView}
-use Rattle.simplex_check.specs.Boards.{BoardView}
+use Rattle.simplex_check.specs.Assignments.{AssignmentView}
 use Rattle.simplex_atoms.specs.Atoms.{AtomsView, AtomsFit}
-use Rattle.simplex_atoms.specs.Places.{place_in}
-use Rattle.simplex_atoms.specs.declared.place.Slack.{Slack}
+use Rattle.simplex_atoms.specs.Slacks.{slack_in}
+use Rattle.simplex_atoms.specs.declared.slack.Slack.{Slack}
 use Rattle.simplex.specs.declared.starts.Start.{Start}
 use Rattle.simplex_held.specs.Stated.{all_stated, AreBoundsOf, IsKnownIn}
 
@@ -17,45 +17,45 @@ use Rattle.simplex_held.specs.Stated.{all_stated, AreBoundsOf, IsKnownIn}
 pub record SimplexView : Type 0 where
   -- the literals, the watched terms and the marks
   pub theory : TheoryView
-  -- what variables stand for, and the places of atoms
+  -- what variables stand for, and the slack variables of atoms
   pub atoms : AtomsView
   -- the rows, and the values of variables
-  pub board : BoardView
+  pub assignment : AssignmentView
   -- the bounds
   pub bounds : BoundsView
   -- how many bounds were held at each mark, and how many watched terms had a place
   pub starts : List Start
 
 -- an atom has a place
-abbrev pub has_place : List (ℕ × Slack) → TermId → Bool
-has_place placed id = is_some (place_in placed id)
+abbrev pub has_slack : List (ℕ × Slack) → TermId → Bool
+has_slack slack_list id = is_some (slack_in slack_list id)
 
 -- how many of these have a place
-abbrev pub placed_count : List (ℕ × Slack) → List TermId → ℕ
-placed_count placed ids = length (filter (has_place placed) ids)
+abbrev pub slack_count : List (ℕ × Slack) → List TermId → ℕ
+slack_count slack_list ids = length (filter (has_slack slack_list) ids)
 
 -- how many bounds the literals at a mark state, and how many terms watched there have a place
 abbrev pub start_of : List (ℕ × Slack) → TheoryView → Mark → Start
-start_of placed theory m = record {
-  bounds = length (all_stated placed (take m.held theory.held));
-  placed = placed_count placed (take m.watched theory.watched);
+start_of slack_list theory m = record {
+  bounds = length (all_stated slack_list (take m.held theory.held));
+  slack_list = slack_count slack_list (take m.watched theory.watched);
 }
 
 -- The parts fit together.
 pub record SimplexFits (v : SimplexView) : Type 0 where
   -- the bounds that are held are those that the literals state
-  pub bounds_are : AreBoundsOf v.atoms.placed v.theory.held v.bounds.held
+  pub bounds_are : AreBoundsOf v.atoms.slack_list v.theory.held v.bounds.held
   -- and so they were at each mark
-  pub starts_are : v.starts ≡ map (start_of v.atoms.placed v.theory) v.theory.marks
+  pub starts_are : v.starts ≡ map (start_of v.atoms.slack_list v.theory) v.theory.marks
   -- there is room for the bounds of both literals of each watched atom
-  pub room : 4 * placed_count v.atoms.placed v.theory.watched ≤ v.bounds.room + length v.bounds.held
+  pub room : 4 * slack_count v.atoms.slack_list v.theory.watched ≤ v.bounds.room + length v.bounds.held
   -- bounds can be held of the variables of places
-  pub reached : (id : TermId) (place : Slack) → place_in v.atoms.placed id ≡ Some place
-      → place.variable < v.bounds.variables
+  pub reached : (id : TermId) (slack : Slack) → slack_in v.atoms.slack_list id ≡ Some slack
+      → slack.variable < v.bounds.variables
 
 -- What it keeps of the terms that it watches is right over a table.
 pub record IsOf (v : SimplexView) (t : TableView) : Type 0 where
   -- what atoms are placed on
-  pub right : AtomsFit t v.atoms v.board v.bounds
+  pub right : AtomsFit t v.atoms v.assignment v.bounds
   -- watched terms have places exactly where they say something of linear arithmetic
-  pub known : All (IsKnownIn t v.atoms.placed) v.theory.watched
+  pub known : All (IsKnownIn t v.atoms.slack_list) v.theory.watched

@@ -12,15 +12,15 @@ ghost use Rattle.proof_log.specs.Logs.{IsLogOf};
 ghost use Rattle.proof_log.specs.Clashes.{IsClash};
 ghost use Rattle.proof_log.specs.Theories.{IsTheoryOver, terms_watched, literals_held, DerivesLemmas, Checks, CameTo, paid_after};
 ghost use Rattle.simplex_bounds.specs.Held.{ranges_in};
-ghost use Rattle.simplex_check.specs.Boards.{IsBasisOf};
+ghost use Rattle.simplex_check.specs.Assignments.{IsBasisOf};
 ghost use Rattle.simplex_check.specs.Ends.{EndsCheck};
 ghost use Rattle.simplex_check.specs.declared.check.CheckOutcome.{CheckOutcome};
 ghost use Rattle.simplex_explain.specs.Reasons.{Refutes};
 ghost use Rattle.simplex_explain.specs.Steps.{derived};
 ghost use Rattle.simplex_reasons.specs.Reasons.{AreOfHeld, OnReasonOverflow};
 ghost use Rattle.simplex.specs.Views.{IsOf};
-ghost use Rattle.simplex.specs.Checks.{Case, KeepsBounds, Found, StrainsFound, AreReasonsOf, AnswersOutcome};
-ghost use Rattle.simplex.specs.Coming.{standing_of, CameBy, StoppedBy, IsStrainAt};
+ghost use Rattle.simplex.specs.Checks.{Case, KeepsBounds, Found, OverflowsFound, AreReasonsOf, AnswersOutcome};
+ghost use Rattle.simplex.specs.Coming.{term_tableau_of, CameBy, StoppedBy, IsOverflowAt};
 
 use crate::simplex::Simplex;
 use proof_log::{ProofLog, StepId, Verdict};
@@ -35,9 +35,9 @@ impl Simplex {
     /// Makes the stop of an overflow, with the basic variables and the values. It is out of memory where their lists find
     /// none.
     pub(crate) fn stop_of(&self, wide: Wide) -> Stop
-        ensures { StopsBy (λ s. (s.wide ≡ wide) × IsBasisOf self.now.board s.basis) (λ _. ⊥) result }
+        ensures { StopsBy (λ s. (s.wide ≡ wide) × IsBasisOf self.now.assignment s.basis) (λ _. ⊥) result }
     {
-        match self.board.basis() {
+        match self.assignment.basis() {
             Ok(basis) => Stop::Strained(Strain { wide, basis }),
             Err(_) => Stop::Memory,
         }
@@ -54,13 +54,13 @@ impl Simplex {
         ensures reasons { IfOk result (λ reasons. AreReasonsOf self.now outcome reasons.items) }
         ensures refutes { IfOk result (λ reasons. Refutes of.table reasons.items) }
         ensures held { IfOk result (λ reasons. AreOfHeld self.now.bounds.held reasons.items) }
-        ensures wide { IfErr result (OnReasonOverflow (StrainsFound self.now outcome)) }
+        ensures wide { IfErr result (OnReasonOverflow (OverflowsFound self.now outcome)) }
     {
         match outcome {
             CheckOutcome::Fine => unreachable!(),
             CheckOutcome::Crossed(y) => crossing_reasons(self.alloc, &self.bounds, &self.atoms, y),
             CheckOutcome::Conflict(b) => {
-                row_reasons(self.alloc, &self.board, &self.bounds, &self.atoms, b)
+                row_reasons(self.alloc, &self.assignment, &self.bounds, &self.atoms, b)
             }
         }
     }
@@ -88,7 +88,7 @@ impl Simplex {
         ensures clash { IfOk result (IsClash table.new log.new self.now.theory.held) }
         ensures infeasible { OnOk result (IsInfeasible (literals_held table.old self.now.theory)) }
         ensures same { OnErr result ((table.new ≡ table.old) × (log.new ≡ log.old)) }
-        ensures stops { IfErr result (StopsBy (λ s. IsStrainAt table.old (terms_watched table.old self.now.theory) s
+        ensures stops { IfErr result (StopsBy (λ s. IsOverflowAt table.old (terms_watched table.old self.now.theory) s
             self.now) (λ _. ⊥)) }
     {
         self.literals.are_of_watched_terms();
@@ -122,10 +122,10 @@ impl Simplex {
         requires with { IsOf self.old table.old }
         requires log { IsLogOf table.old log.old }
         ensures with { IsOf self.new table.new }
-        ensures same { self.new ≡ record self.old { board = self.new.board } }
+        ensures same { self.new ≡ record self.old { assignment = self.new.assignment } }
         ensures budget { Spends budget.old budget.new }
         ensures ends { (found : Result CheckOutcome Stop) × AnswersOutcome found result
-            × EndsCheck (ranges_in self.old.bounds.held) self.old.board self.new.board budget.old budget.new found }
+            × EndsCheck (ranges_in self.old.bounds.held) self.old.assignment self.new.assignment budget.old budget.new found }
         ensures checks { Checks (HaveForms (literals_held table.old self.old.theory)
             × IsFeasible (literals_held table.old self.old.theory) × KeepsBounds self.new)
             (IsInfeasible (literals_held table.old self.old.theory))
@@ -135,25 +135,25 @@ impl Simplex {
             (StoppedBy table.new ts n budget.new.exchanges self.new)
             (CameBy table.new ts (suc n) budget.new.exchanges self.new) }
         ensures stops { IfErr result (StopsBy
-            (λ s. IsStrainAt table.new (terms_watched table.old self.old.theory) s self.new)
-            (AreSpent (NeedsMore (terms_watched table.old self.old.theory) (standing_of table.new self.new)) budget.new)) }
+            (λ s. IsOverflowAt table.new (terms_watched table.old self.old.theory) s self.new)
+            (AreSpent (NeedsMore (terms_watched table.old self.old.theory) (term_tableau_of table.new self.new)) budget.new)) }
     {
         self.literals.are_of_watched_terms();
-        self.board.values_solve_the_rows();
-        self.board.tableau().rows_are_in_solved_form();
+        self.assignment.values_solve_the_rows();
+        self.assignment.tableau().rows_are_in_solved_form();
         table.ids_are_unique();
         let kept = self.kept;
         self.kept = 0;
-        let outcome = match self.board.check_after(&self.bounds, kept, budget) {
+        let outcome = match self.assignment.check_after(&self.bounds, kept, budget) {
             Ok(outcome) => outcome,
             Err(stop) => {
-                self.board.values_solve_the_rows();
+                self.assignment.values_solve_the_rows();
                 return Err(stop);
             }
         };
-        self.board.values_solve_the_rows();
+        self.assignment.values_solve_the_rows();
         if let CheckOutcome::Fine = outcome {
-            self.board.tableau().rows_are_in_solved_form();
+            self.assignment.tableau().rows_are_in_solved_form();
             self.kept = self.bounds.held_len();
             return Ok(Verdict::Fine);
         }

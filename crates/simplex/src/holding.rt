@@ -5,7 +5,7 @@ ghost use Rattle.term_core.specs.Tables.{TableView};
 ghost use Rattle.proof_log.specs.Theories.{with_held, with_mark, gone_back};
 ghost use Rattle.held_literals.specs.Room.{without_mark};
 ghost use Rattle.simplex_bounds.specs.declared.bounds.Bound.{Bound};
-ghost use Rattle.simplex_atoms.specs.Places.{place_in};
+ghost use Rattle.simplex_atoms.specs.Slacks.{slack_in};
 ghost use Rattle.simplex_atoms.specs.Limits.{limit_of, one_of, limits_by};
 ghost use Rattle.simplex.specs.Views.{IsOf};
 
@@ -31,16 +31,16 @@ fn hold_one(bounds: &mut Bounds, bound: Option<Bound>)
 }
 
 /// Holds the bounds that a literal states whose atom has this place. It takes no memory.
-fn hold_by(bounds: &mut Bounds, place: Slack, lit: Lit)
-    requires there { place.variable < bounds.old.variables }
-    requires room { length (limits_by place lit) ≤ bounds.old.room }
-    ensures held { map limit_of bounds.new.held ≡ map limit_of bounds.old.held ++ limits_by place lit }
+fn hold_by(bounds: &mut Bounds, slack: Slack, lit: Lit)
+    requires there { slack.variable < bounds.old.variables }
+    requires room { length (limits_by slack lit) ≤ bounds.old.room }
+    ensures held { map limit_of bounds.new.held ≡ map limit_of bounds.old.held ++ limits_by slack lit }
     ensures more { (bs : List Bound) × (bounds.new.held ≡ bounds.old.held ++ bs) }
     ensures variables { bounds.new.variables ≡ bounds.old.variables }
-    ensures room { bounds.new.room + length (limits_by place lit) ≡ bounds.old.room }
+    ensures room { bounds.new.room + length (limits_by slack lit) ≡ bounds.old.room }
 {
     bounds_have_weights();
-    let (first, second) = bounds_by(place, lit);
+    let (first, second) = bounds_by(slack, lit);
     hold_one(bounds, first);
     hold_one(bounds, second);
 }
@@ -53,14 +53,14 @@ impl Simplex {
         ensures with { (t : TableView) → IsOf self.old t → IsOf self.new t }
         ensures holds { self.new.theory ≡ with_held self.old.theory lit }
         ensures atoms { self.new.atoms ≡ self.old.atoms }
-        ensures board { self.new.board ≡ self.old.board }
-        ensures plain { place_in self.old.atoms.placed lit.term ≡ None → self.new.bounds.held ≡ self.old.bounds.held }
+        ensures assignment { self.new.assignment ≡ self.old.assignment }
+        ensures plain { slack_in self.old.atoms.slack_list lit.term ≡ None → self.new.bounds.held ≡ self.old.bounds.held }
     {
         self.literals.are_of_watched_terms();
         self.literals.marks_are_prefixes();
         self.literals.hold(lit);
-        if let Some(place) = self.atoms.place(lit.term) {
-            hold_by(&mut self.bounds, place, lit);
+        if let Some(slack) = self.atoms.slack(lit.term) {
+            hold_by(&mut self.bounds, slack, lit);
         }
     }
 
@@ -72,12 +72,12 @@ impl Simplex {
         ensures marks { MatchResult result (λ _. self.new.theory ≡ with_mark self.old.theory)
             (λ _. self.new.theory ≡ self.old.theory) }
         ensures atoms { self.new.atoms ≡ self.old.atoms }
-        ensures board { self.new.board ≡ self.old.board }
+        ensures assignment { self.new.assignment ≡ self.old.assignment }
         ensures bounds { self.new.bounds ≡ self.old.bounds }
     {
         let start = Start {
             bounds: self.bounds.held_len(),
-            placed: self.placed,
+            slack_list: self.slack_list,
         };
         self.starts.reserve(1)?;
         self.literals.mark()?;
@@ -91,7 +91,7 @@ impl Simplex {
         ensures with { (t : TableView) → IsOf self.old t → IsOf self.new t }
         ensures forgets { self.new.theory ≡ without_mark self.old.theory }
         ensures atoms { self.new.atoms ≡ self.old.atoms }
-        ensures board { self.new.board ≡ self.old.board }
+        ensures assignment { self.new.assignment ≡ self.old.assignment }
         ensures bounds { self.new.bounds ≡ self.old.bounds }
     {
         let kept = self.starts.len() - 1;
@@ -100,13 +100,13 @@ impl Simplex {
     }
 
     /// Goes back so many marks: it holds and watches what it did there, with the bounds of the literals that are left. The
-    /// rows, the values and the places of atoms stay. It takes no memory.
+    /// rows, the values and the slack variables of atoms stay. It takes no memory.
     pub fn back(&mut self, marks: u32)
         requires there { marks ≤ length self.old.theory.marks }
         ensures with { (t : TableView) → IsOf self.old t → IsOf self.new t }
         ensures back { self.new.theory ≡ gone_back marks self.old.theory }
         ensures atoms { self.new.atoms ≡ self.old.atoms }
-        ensures board { self.new.board ≡ self.old.board }
+        ensures assignment { self.new.assignment ≡ self.old.assignment }
         ensures bounds { (n : ℕ) × (self.new.bounds.held ≡ take n self.old.bounds.held) }
     {
         if marks > 0 {
@@ -116,7 +116,7 @@ impl Simplex {
             self.bounds.back(start.bounds);
             self.literals.back(marks);
             self.starts.truncate(kept);
-            self.placed = start.placed;
+            self.slack_list = start.slack_list;
             self.kept = self.kept.min(start.bounds);
         }
     }

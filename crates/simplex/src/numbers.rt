@@ -4,7 +4,7 @@ ghost use Rattle.std.specs.Prelude.{◌≡◌, length, map, nat_eq, All, IfOk, I
 ghost use Rattle.std.specs.HashMap.{get};
 ghost use Rattle.spec_arithmetic.specs.Numbers.{IsLinearOver};
 ghost use Rattle.spec_causes.specs.Shared.{IsSharedAmong};
-ghost use Rattle.spec_causes.specs.Causes.{StrainsValueAt};
+ghost use Rattle.spec_causes.specs.Causes.{OverflowsValueAt};
 ghost use Rattle.ratio128.specs.Meant.{fraction, overflow};
 ghost use Rattle.term_core.specs.Tables.{TableView, AreIn, clause_at};
 ghost use Rattle.sat_budget.specs.Budgets.{StopsBy};
@@ -13,8 +13,8 @@ ghost use Rattle.tableau.specs.Numbers.{number_of};
 ghost use Rattle.simplex.specs.Views.{IsOf};
 ghost use Rattle.simplex.specs.Checks.{KeepsBounds};
 ghost use Rattle.simplex.specs.Values.{TellsValues};
-ghost use Rattle.simplex.specs.Numbers.{IsNumberAt, IsNumberWith, StrainsNumberWith, HoldApart};
-ghost use Rattle.simplex.specs.Coming.{standing_of, IsStrainAt};
+ghost use Rattle.simplex.specs.Numbers.{IsNumberAt, IsNumberWith, OverflowsNumberWith, HoldApart};
+ghost use Rattle.simplex.specs.Coming.{term_tableau_of, IsOverflowAt};
 
 use crate::simplex::Simplex;
 use delta_num::Delta;
@@ -40,25 +40,25 @@ fn values_by_term(
     ensures { IfOk result (λ known. TellsValues (get nat_eq known) terms.now values.now (length terms.now)) }
 {
     let mut known = HashMap::new(alloc);
-    'places: for at in 0..terms.len() {
+    'slacks: for at in 0..terms.len() {
         known.insert(terms[at].0, values[at])?;
     }
     Ok(known)
 }
 
 impl Simplex {
-    /// Gives the number of a term where the infinitesimal is e: that of the variable that stands for the term, and 0 where none
+    /// Gives the number of a term where the infinitesimal is e: that of the variable that means the term, and 0 where none
     /// does. It takes no memory.
     ///
     /// `Wide` comes where the tilt of the variable's value times e, or the base plus this product, leaves 128 bits.
     fn number_at(&self, e: Ratio, id: TermId) -> Result<Ratio, Wide>
         ensures number { IfOk result (λ q. IsNumberAt (number_of e) self.now id (number_of q)) }
         ensures wide { IfErr result (λ w. (t : TableView)
-            → StrainsValueAt (number_of e) (standing_of t self.now) (overflow w)) }
+            → OverflowsValueAt (number_of e) (term_tableau_of t self.now) (overflow w)) }
     {
         match self.atoms.var(id) {
             None => Ok(zero()),
-            Some(y) => value_at(self.board.value(y), e),
+            Some(y) => value_at(self.assignment.value(y), e),
         }
     }
 
@@ -69,7 +69,7 @@ impl Simplex {
     fn number_with(&self, e: Ratio, id: TermId, values: &HashMap<u64, Delta>) -> Result<Ratio, Wide>
         ensures number { IfOk result (λ q. IsNumberWith (number_of e) self.now id (get nat_eq values.now id.0)
             (number_of q)) }
-        ensures wide { IfErr result (λ w. StrainsNumberWith (number_of e) self.now (get nat_eq values.now id.0)
+        ensures wide { IfErr result (λ w. OverflowsNumberWith (number_of e) self.now (get nat_eq values.now id.0)
             (overflow w)) }
     {
         match values.get(&id.0) {
@@ -104,15 +104,15 @@ impl Simplex {
         ensures ok { IfOk result (λ xs. HoldApart table.now self.now (clause_at table.now terms.now)
             (clause_at table.now shared.now) (map fraction xs.items)) }
         ensures stops { IfErr result (StopsBy
-            (λ s. IsStrainAt table.now (terms_watched table.now self.now.theory) s self.now) (λ _. ⊥)) }
+            (λ s. IsOverflowAt table.now (terms_watched table.now self.now.theory) s self.now) (λ _. ⊥)) }
     {
         self.literals.are_of_watched_terms();
-        self.board.tableau().rows_are_in_solved_form();
+        self.assignment.tableau().rows_are_in_solved_form();
         table.ids_are_unique();
         let mut values = self.shared_values(table, shared)?;
         let known = values_by_term(self.alloc, shared, &values)?;
         // The values are left in another order, which the table does not ask for.
-        let small = match small_number(&self.bounds, &self.board, values.as_mut_slice()) {
+        let small = match small_number(&self.bounds, &self.assignment, values.as_mut_slice()) {
             Ok(small) => small,
             Err(wide) => return Err(self.stop_of(wide)),
         };

@@ -1,7 +1,7 @@
 //! Values of terms that functions and linear arithmetic share.
 
 ghost use Rattle.std.specs.Prelude.{map, All, IfOk, IfErr};
-ghost use Rattle.spec_causes.specs.Shared.{IsSharedAmong, IsSumAt, IsValueOf, AreValuesOf, StrainsSumAt, StrainsTerm};
+ghost use Rattle.spec_causes.specs.Shared.{IsSharedAmong, IsSumAt, IsValueOf, AreValuesOf, OverflowsSumAt, OverflowsTerm};
 ghost use Rattle.ratio128.specs.Meant.{overflow};
 ghost use Rattle.term_core.specs.Tables.{IsIn, AreIn, term_at, clause_at};
 ghost use Rattle.sat_budget.specs.Budgets.{StopsBy};
@@ -10,8 +10,8 @@ ghost use Rattle.tableau.specs.Numbers.{number_of};
 ghost use Rattle.simplex_bounds.specs.Deltas.{pair_of};
 ghost use Rattle.simplex_atoms.specs.Watching.{OnAtomOverflow};
 ghost use Rattle.simplex.specs.Views.{IsOf};
-ghost use Rattle.simplex.specs.Values.{variables_meant, AreTermsIn, IsNextSum, StrainsNextSum};
-ghost use Rattle.simplex.specs.Coming.{standing_of, IsStrainAt};
+ghost use Rattle.simplex.specs.Values.{variables_meant, AreTermsIn, IsNextSum, OverflowsNextSum};
+ghost use Rattle.simplex.specs.Coming.{term_tableau_of, IsOverflowAt};
 
 use crate::simplex::Simplex;
 use delta_num::Delta;
@@ -23,34 +23,34 @@ use simplex_bounds::deltas::{plus, scaled, zero};
 use term_core::{TermId, TermTable};
 
 impl Simplex {
-    /// Gives a sum with a coefficient times the value of the variable that stands for a term; the sum itself where none does. It takes
+    /// Gives a sum with a coefficient times the value of the variable that means a term; the sum itself where none does. It takes
     /// no memory.
     ///
     /// The error is the `Wide` of the product, or else that of the sum with it.
     fn sum_with(&self, sum: Delta, id: TermId, k: Ratio) -> Result<Delta, Wide>
         ensures next { IfOk result (λ d. IsNextSum self.now id (number_of k) (pair_of sum) (pair_of d)) }
-        ensures wide { IfErr result (λ w. StrainsNextSum self.now id (number_of k) (pair_of sum) (overflow w)) }
+        ensures wide { IfErr result (λ w. OverflowsNextSum self.now id (number_of k) (pair_of sum) (overflow w)) }
     {
         match self.atoms.var(id) {
             None => Ok(sum),
             Some(y) => {
-                let product = scaled(k, self.board.value(y))?;
+                let product = scaled(k, self.assignment.value(y))?;
                 let next = plus(sum, product)?;
                 Ok(next)
             }
         }
     }
 
-    /// Gives the sum of terms with coefficients: each coefficient times the value of the variable that stands for the term. A term for
+    /// Gives the sum of terms with coefficients: each coefficient times the value of the variable that means the term. A term for
     /// which none stands counts as 0. It takes no memory.
     ///
     /// The error is the `Wide` of such a product, or of the sum of those before with it.
     fn sum_of(&self, table: &TermTable, variables: &[(TermId, Ratio)]) -> Result<Delta, Wide>
         requires with { IsOf self.now table.now }
         requires there { AreTermsIn table.now variables.now }
-        ensures sum { IfOk result (λ d. IsSumAt (standing_of table.now self.now)
+        ensures sum { IfOk result (λ d. IsSumAt (term_tableau_of table.now self.now)
             (variables_meant table.now variables.now) (pair_of d)) }
-        ensures wide { IfErr result (λ w. StrainsSumAt (standing_of table.now self.now)
+        ensures wide { IfErr result (λ w. OverflowsSumAt (term_tableau_of table.now self.now)
             (variables_meant table.now variables.now) (overflow w)) }
     {
         table.ids_are_unique();
@@ -70,9 +70,9 @@ impl Simplex {
     fn value_of(&self, table: &TermTable, id: TermId) -> Result<Delta, AtomStop>
         requires with { IsOf self.now table.now }
         requires there { IsIn table.now id }
-        ensures value { IfOk result (λ d. IsValueOf (standing_of table.now self.now) (term_at table.now id)
+        ensures value { IfOk result (λ d. IsValueOf (term_tableau_of table.now self.now) (term_at table.now id)
             (pair_of d)) }
-        ensures wide { IfErr result (OnAtomOverflow (StrainsTerm (standing_of table.now self.now) (term_at table.now id))) }
+        ensures wide { IfErr result (OnAtomOverflow (OverflowsTerm (term_tableau_of table.now self.now) (term_at table.now id))) }
     {
         let form = form_of(self.alloc, table, id)?;
         let variables = form.variables(self.alloc)?;
@@ -92,10 +92,10 @@ impl Simplex {
         requires there { AreIn table.now shared.now }
         requires shared { All (IsSharedAmong (terms_watched table.now self.now.theory))
             (clause_at table.now shared.now) }
-        ensures ok { IfOk result (λ values. AreValuesOf (standing_of table.now self.now)
+        ensures ok { IfOk result (λ values. AreValuesOf (term_tableau_of table.now self.now)
             (clause_at table.now shared.now) (map pair_of values.items)) }
         ensures stops { IfErr result (StopsBy
-            (λ s. IsStrainAt table.now (terms_watched table.now self.now.theory) s self.now) (λ _. ⊥)) }
+            (λ s. IsOverflowAt table.now (terms_watched table.now self.now.theory) s self.now) (λ _. ⊥)) }
     {
         let mut values = Vec::new(self.alloc);
         'terms: for id in shared.iter() {

@@ -5,8 +5,8 @@ ghost use Rattle.spec_tableaux.specs.LeastVariable as rule;
 ghost use Rattle.simplex_bounds.specs.Deltas.{pair_of};
 ghost use Rattle.spec_strains.specs.Points.{deltas, point_in};
 ghost use Rattle.simplex_bounds.specs.Held.{ranges_in};
-ghost use Rattle.simplex_check.specs.Boards.{state_of, empty_board, IsBasisOf};
-ghost use Rattle.simplex_check.specs.Moves.{said};
+ghost use Rattle.simplex_check.specs.Assignments.{state_of, empty_assignment, IsBasisOf};
+ghost use Rattle.simplex_check.specs.Moves.{rule_move};
 ghost use Rattle.simplex_atoms.specs.Owners.{IsNumberOf};
 ghost use Rattle.simplex.specs.Views.{SimplexFits};
 
@@ -16,7 +16,7 @@ use held_literals::HeldLiterals;
 use sat_budget::Basis;
 use simplex_atoms::Atoms;
 use simplex_bounds::Bounds;
-use simplex_check::{Board, Move};
+use simplex_check::{Move, RealAssignment};
 use std::alloc::Global;
 use std::marker::Model;
 use term_core::TermId;
@@ -24,7 +24,7 @@ use world_io::NoMemory;
 
 /// Holds literals of linear real arithmetic, and values of the variables that keep what was checked of them.
 ///
-/// The form of an atom bounds a variable: one that stands for a term, or one that stands for a row of several. Literals are
+/// The form of an atom bounds a variable: one that means a term, or one that stands for a row of several. Literals are
 /// held as bounds, strict ones by an infinitesimal. Contracts see what it holds and watches, the rows and the bounds.
 /// Source: Dutertre and de Moura, A Fast Linear-Arithmetic Solver for DPLL(T), CAV 2006.
 #[derive(Drop)]
@@ -32,12 +32,12 @@ pub struct Simplex {
     pub(crate) alloc: Global,
     pub(crate) literals: HeldLiterals,
     pub(crate) atoms: Atoms,
-    pub(crate) board: Board,
+    pub(crate) assignment: RealAssignment,
     pub(crate) bounds: Bounds,
     /// What there was at each mark.
     pub(crate) starts: Vec<Start>,
     /// How many watched terms have a place.
-    pub(crate) placed: u64,
+    pub(crate) slack_list: u64,
     /// How many of the bounds, from the oldest on, the values are known to keep.
     pub(crate) kept: u64,
 }
@@ -45,14 +45,14 @@ pub struct Simplex {
 impl Model for Simplex {
     ghost use Rattle.std.specs.Prelude.{◌≡◌};
     ghost use Rattle.simplex_check.specs.Suspects.{KeepsFirst};
-    ghost use Rattle.simplex.specs.Views.{SimplexView, SimplexFits, placed_count};
+    ghost use Rattle.simplex.specs.Views.{SimplexView, SimplexFits, slack_count};
 
     ghost Value = { SimplexView };
 
     ghost view = { λ s. record {
       theory = s.literals;
       atoms = s.atoms;
-      board = s.board;
+      assignment = s.assignment;
       bounds = s.bounds;
       starts = s.starts.items;
     } };
@@ -60,10 +60,10 @@ impl Model for Simplex {
     ghost invariant = { λ s. SimplexFits (record {
       theory = s.literals;
       atoms = s.atoms;
-      board = s.board;
+      assignment = s.assignment;
       bounds = s.bounds;
       starts = s.starts.items;
-    }) × (s.placed ≡ placed_count s.atoms.placed s.literals.watched) × KeepsFirst s.kept s.bounds.held s.board.values };
+    }) × (s.slack_list ≡ slack_count s.atoms.slack_list s.literals.watched) × KeepsFirst s.kept s.bounds.held s.assignment.values };
 }
 
 impl Simplex {
@@ -71,8 +71,8 @@ impl Simplex {
     pub fn new(alloc: Global) -> Simplex
         ensures { result ≡ record {
           theory = record { held = []; watched = []; marks = [] };
-          atoms = record { owners = []; sums = []; placed = [] };
-          board = empty_board;
+          atoms = record { owners = []; sums = []; slack_list = [] };
+          assignment = empty_assignment;
           bounds = record { variables = 0; held = []; room = 0 };
           starts = [];
         } }
@@ -81,10 +81,10 @@ impl Simplex {
             alloc,
             literals: HeldLiterals::new(alloc),
             atoms: Atoms::new(alloc),
-            board: Board::new(alloc),
+            assignment: RealAssignment::new(alloc),
             bounds: Bounds::new(alloc),
             starts: Vec::new(alloc),
-            placed: 0,
+            slack_list: 0,
             kept: 0,
         }
     }
@@ -97,7 +97,7 @@ impl Simplex {
         let _ = &self.literals;
     }
 
-    /// Gives the number of the variable that stands for a term; `None` exactly where none does, as it is no variable of a
+    /// Gives the number of the variable that means a term; `None` exactly where none does, as it is no variable of a
     /// watched term's form. It takes no memory.
     pub fn var(&self, id: TermId) -> Option<u64>
         ensures { IsNumberOf self.now.atoms.owners id result }
@@ -107,24 +107,24 @@ impl Simplex {
 
     /// Gives the value of a variable by its number, and 0 where there is none. It takes no memory.
     pub fn point(&self, variable: u64) -> Delta
-        ensures { pair_of result ≡ point_in self.now.board.values variable }
+        ensures { pair_of result ≡ point_in self.now.assignment.values variable }
     {
-        self.board.value(variable)
+        self.assignment.value(variable)
     }
 
     /// Gives what the least-variable rule says of the rows, the values and the bounds. It takes no memory.
     pub fn bland_step(&self) -> Move
-        ensures { rule.RuleSays deltas (ranges_in self.now.bounds.held) (state_of self.now.board) (said result) }
+        ensures { rule.RuleSays deltas (ranges_in self.now.bounds.held) (state_of self.now.assignment) (rule_move result) }
     {
-        self.board.next_move(&self.bounds)
+        self.assignment.next_move(&self.bounds)
     }
 
     /// Lists the basic variables, in the order of their rows, and the values of all variables.
     ///
     /// `NoMemory` comes where a list finds no memory.
     pub fn basis(&self) -> Result<Basis, NoMemory>
-        ensures { IfOk result (λ basis. IsBasisOf self.now.board basis) }
+        ensures { IfOk result (λ basis. IsBasisOf self.now.assignment basis) }
     {
-        self.board.basis()
+        self.assignment.basis()
     }
 }

@@ -6,5 +6,5 @@ pub(crate) struct Start {
     /// The bounds.
     pub(crate) bounds: u64,
     /// The watched terms that had a place.
-    pub(crate) placed: u64,
+    pub(crate) slack_list: u64,
 }

@@ -17,14 +17,14 @@ impl Theory for Simplex {
     ghost use Rattle.term_core.specs.declared.ids.Lit.{Lit};
     ghost use Rattle.term_core.specs.Tables.{IsIn, positive_literal};
     ghost use Rattle.term_core.proofs.TermsExtend.{IsIn-kept, term_at-kept};
-    ghost use Rattle.simplex_atoms.specs.Places.{place_in};
+    ghost use Rattle.simplex_atoms.specs.Slacks.{slack_in};
     ghost use Rattle.simplex_atoms.specs.Watching.{IsWatched};
     ghost use Rattle.simplex_atoms.proofs.Fitting.{right_after};
     ghost use Rattle.simplex_held.specs.Stated.{IsKnownIn};
     ghost use Rattle.simplex_held.proofs.Stating.{all_from};
-    ghost use Rattle.simplex_held.proofs.Standings.{standing_kept, among_kept, atoms_kept};
+    ghost use Rattle.simplex_held.proofs.TermTableauViews.{term_tableau_kept, among_kept, atoms_kept};
     ghost use Rattle.simplex.specs.Checks.{Suits, KeepsBounds};
-    ghost use Rattle.simplex.specs.Coming.{standing_of, CameBy, StoppedBy, IsStrainAt};
+    ghost use Rattle.simplex.specs.Coming.{term_tableau_of, CameBy, StoppedBy, IsOverflowAt};
 
     ghost view = { λ s. s.theory };
 
@@ -38,9 +38,9 @@ impl Theory for Simplex {
 
     ghost stopped_by = { λ s t ts n es. StoppedBy t ts n es s };
 
-    ghost strains = { λ s t ts x. IsStrainAt t ts x s };
+    ghost may_overflow = { λ s t ts x. IsOverflowAt t ts x s };
 
-    ghost needs_more = { λ s t ts. NeedsMore ts (standing_of t s) };
+    ghost needs_more = { λ s t ts. NeedsMore ts (term_tableau_of t s) };
 
     fn watch_term(&mut self, table: &TermTable, id: TermId) -> Result<(), Stop> {
         Simplex::watch_term(self, table, id)
@@ -69,11 +69,11 @@ impl Theory for Simplex {
 
     ghost grown = { λ s t u more with. record {
       is = record {
-        right = right_after t u more s.atoms s.board s.bounds with.is.right;
-        known = all_from (IsKnownIn u s.atoms.placed) s.theory.watched (λ id has. subst
-            (λ (x : Term). IsWatched (place_in s.atoms.placed id) (constraint_of (positive_literal x)))
+        right = right_after t u more s.atoms s.assignment s.bounds with.is.right;
+        known = all_from (IsKnownIn u s.atoms.slack_list) s.theory.watched (λ id has. subst
+            (λ (x : Term). IsWatched (slack_in s.atoms.slack_list id) (constraint_of (positive_literal x)))
             (sym (term_at-kept t u more id (All-contains (IsIn t) s.theory.watched id with.there has)))
-            (All-contains (IsKnownIn t s.atoms.placed) s.theory.watched id with.is.known has));
+            (All-contains (IsKnownIn t s.atoms.slack_list) s.theory.watched id with.is.known has));
       };
       there = All-weaker (IsIn t) (IsIn u) (λ id within. IsIn-kept t u more id within) s.theory.watched with.there;
       held = All-weaker (λ (l : Lit). IsIn t l.term) (λ (l : Lit). IsIn u l.term)
@@ -85,7 +85,7 @@ impl Theory for Simplex {
       held = atoms_kept t u more ts s.theory.held with.held came.held;
       runs = came.runs;
       reached = subst (IsReached ts came.runs es)
-          (sym (standing_kept t u more s.atoms.owners s.board with.is.right.owners_in)) came.reached;
+          (sym (term_tableau_kept t u more s.atoms.owners s.assignment with.is.right.owners_in)) came.reached;
       few = came.few;
     } };
 

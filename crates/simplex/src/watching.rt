@@ -8,24 +8,24 @@ ghost use Rattle.term_core.specs.Tables.{IsIn, term_at};
 ghost use Rattle.sat_budget.specs.Budgets.{StopsBy};
 ghost use Rattle.sat_budget.specs.declared.limits.Stop.TheVariants as stops;
 ghost use Rattle.proof_log.specs.Theories.{with_watched, terms_watched, IsTermIn, CameTo};
-ghost use Rattle.simplex_check.specs.Boards.{IsBasisOf};
+ghost use Rattle.simplex_check.specs.Assignments.{IsBasisOf};
 ghost use Rattle.simplex_held.specs.Stated.{IsKnownIn};
-ghost use Rattle.simplex.specs.Views.{IsOf, placed_count};
-ghost use Rattle.simplex.specs.Coming.{CameBy, StoppedBy, IsStrainAt};
+ghost use Rattle.simplex.specs.Views.{IsOf, slack_count};
+ghost use Rattle.simplex.specs.Coming.{CameBy, StoppedBy, IsOverflowAt};
 
 use crate::simplex::Simplex;
 use ratio128::Wide;
 use sat_budget::{Stop, Strain};
 use simplex_atoms::AtomStop;
-use simplex_check::Board;
+use simplex_check::RealAssignment;
 use term_core::{TermId, TermTable};
 
-/// Makes the stop of an overflow, with the basic variables and the values of the board. It is out of memory where their lists
+/// Makes the stop of an overflow, with the basic variables and the values of the assignment. It is out of memory where their lists
 /// find none.
-fn strained(board: &Board, wide: Wide) -> Stop
-    ensures { StopsBy (λ s. (s.wide ≡ wide) × IsBasisOf board.now s.basis) (λ _. ⊥) result }
+fn overflowed(assignment: &RealAssignment, wide: Wide) -> Stop
+    ensures { StopsBy (λ s. (s.wide ≡ wide) × IsBasisOf assignment.now s.basis) (λ _. ⊥) result }
 {
-    match board.basis() {
+    match assignment.basis() {
         Ok(basis) => Stop::Strained(Strain { wide, basis }),
         Err(_) => Stop::Memory,
     }
@@ -33,42 +33,42 @@ fn strained(board: &Board, wide: Wide) -> Stop
 
 impl Simplex {
     /// Gives an atom of linear arithmetic its place.
-    fn place_term(&mut self, table: &TermTable, id: TermId) -> Result<(), Stop>
+    fn slack_term(&mut self, table: &TermTable, id: TermId) -> Result<(), Stop>
         requires term { IsIn table.now id }
         requires new { Contains self.old.theory.watched id → ⊥ }
         requires with { IsOf self.old table.now }
         ensures with { IsOf self.new table.now }
         ensures theory { self.new.theory ≡ self.old.theory }
-        ensures known { OnOk result (IsKnownIn table.now self.new.atoms.placed id) }
+        ensures known { OnOk result (IsKnownIn table.now self.new.atoms.slack_list id) }
         ensures came { (ts : List Term) (n : ℕ) (es : List (ℕ × ℕ)) → Contains ts (term_at table.now id)
             → CameBy table.now ts n es self.old → CameTo result
             (λ _. CameBy table.now ts (counted (term_at table.now id) n) es self.new)
             (StoppedBy table.now ts n es self.new) (Unit {0}) }
         ensures stops { IfErr result (StopsBy (λ s. (ts : List Term) → Contains ts (term_at table.now id)
-            → IsStrainAt table.now ts s self.new) (λ _. ⊥)) }
+            → IsOverflowAt table.now ts s self.new) (λ _. ⊥)) }
     {
         self.literals.are_of_watched_terms();
         self.literals.marks_are_prefixes();
         self.kept = 0;
         match self
             .atoms
-            .watch(table, id, &mut self.board, &mut self.bounds)
+            .watch(table, id, &mut self.assignment, &mut self.bounds)
         {
             Ok(()) => Ok(()),
-            Err(AtomStop::Wide(wide)) => Err(strained(&self.board, wide)),
+            Err(AtomStop::Wide(wide)) => Err(overflowed(&self.assignment, wide)),
             Err(AtomStop::Memory) => Err(Stop::Memory),
         }
     }
 
     /// Counts the watched terms that have a place, and a term more.
-    fn placed_with(&self, id: TermId) -> Result<u64, Stop>
-        ensures count { IfOk result (λ n. n ≡ placed_count self.now.atoms.placed (self.now.theory.watched ++ id ∷ [])) }
+    fn slacked_with(&self, id: TermId) -> Result<u64, Stop>
+        ensures count { IfOk result (λ n. n ≡ slack_count self.now.atoms.slack_list (self.now.theory.watched ++ id ∷ [])) }
         ensures stop { IfErr result (λ stop. stop ≡ stops.Memory) }
     {
-        if self.atoms.place(id).is_none() {
-            return Ok(self.placed);
+        if self.atoms.slack(id).is_none() {
+            return Ok(self.slack_list);
         }
-        match self.placed.checked_add(1) {
+        match self.slack_list.checked_add(1) {
             Some(n) => Ok(n),
             None => Err(Stop::Memory),
         }
@@ -90,19 +90,19 @@ impl Simplex {
             → CameBy table.now ts n es self.old → CameTo result
             (λ _. CameBy table.now ts (counted (term_at table.now id) n) es self.new)
             (StoppedBy table.now ts n es self.new) (Unit {0}) }
-        ensures stops { IfErr result (StopsBy (λ s. IsStrainAt table.now
+        ensures stops { IfErr result (StopsBy (λ s. IsOverflowAt table.now
             (terms_watched table.now (with_watched self.old.theory id)) s self.new) (λ _. ⊥)) }
     {
-        self.place_term(table, id)?;
-        let placed = self.placed_with(id)?;
-        let Some(room) = placed.checked_mul(4) else {
+        self.slack_term(table, id)?;
+        let slack_list = self.slacked_with(id)?;
+        let Some(room) = slack_list.checked_mul(4) else {
             return Err(Stop::Memory);
         };
         self.literals.are_of_watched_terms();
         self.literals.marks_are_prefixes();
         self.bounds.reserve(room)?;
         self.literals.watch(id)?;
-        self.placed = placed;
+        self.slack_list = slack_list;
         Ok(())
     }
 }

@@ -17,8 +17,8 @@ use Rattle.linear_form.specs.declared.stop.FormStop.{FormStop}
 use Rattle.linear_form.specs.declared.stop.FormStop.TheVariants as joins
 use Rattle.linear_form.specs.Meant.{FormView}
 use Rattle.linear_form.specs.Making.{Finds, FailsBy}
-use Rattle.simplex_atoms.specs.declared.place.Comparison.{Comparison}
-use Rattle.simplex_atoms.specs.declared.place.Comparison.TheVariants as kinds
+use Rattle.simplex_atoms.specs.declared.slack.Comparison.{Comparison}
+use Rattle.simplex_atoms.specs.declared.slack.Comparison.TheVariants as kinds
 use Rattle.simplex_atoms.specs.declared.stop.AtomStop.{AtomStop}
 use Rattle.simplex_atoms.specs.Stops.{of_fault, of_join}
 use Rattle.simplex_atoms.specs.Watching.{kind_by, constraint_meant, Forms}

@@ -1,4 +1,4 @@
--- Atoms that fit a table, a board and bounds fit them as these grow.
+-- Atoms that fit a table, an assignment and bounds fit them as these grow.
 use Rattle.std.proofs.Common.{◌≡◌, ℕ, ◌≤◌, Bool, true, false, List, [], ◌∷◌, ◌++◌, length, cond, Option, Some, None, nat_eq, refl, sym, ◌∙◌, ap, subst, arith}
 use Rattle.std.proofs.lemmas.List.{length-append}
 use Rattle.std.proofs.lemmas.List.Elements.{All-nil, All-weaker}
@@ -13,12 +13,12 @@ use Rattle.term_core.specs.declared.ids.TermId.{TermId}
 use Rattle.term_core.specs.Tables.{TableView, Extends}
 use Rattle.term_core.proofs.TermsExtend.{IsIn-kept, term_at-kept}
 use Rattle.simplex_bounds.specs.Held.{BoundsView}
-use Rattle.simplex_check.specs.Boards.{BoardView, empty_board}
-use Rattle.simplex_atoms.specs.declared.place.Slack.{Slack}
+use Rattle.simplex_check.specs.Assignments.{AssignmentView, empty_assignment}
+use Rattle.simplex_atoms.specs.declared.slack.Slack.{Slack}
 use Rattle.simplex_atoms.specs.Owners.{owner_at, AreOwned, AreOwnersIn}
-use Rattle.simplex_atoms.specs.Places.{AtomSetting, IsFormOf, IsPlaced, place_in}
+use Rattle.simplex_atoms.specs.Slacks.{AtomSetting, IsFormOf, HasSlackIn, slack_in}
 use Rattle.simplex_atoms.specs.Sums.{sign_by, Sum}
-use Rattle.simplex_atoms.specs.Atoms.{AtomsView, Ground, ground_of, setting_of, GroundGrows, IsMultiple, IsSum, AreSums, IsPlaceOf, ArePlaced, AtomsFit}
+use Rattle.simplex_atoms.specs.Atoms.{AtomsView, Ground, ground_of, setting_of, GroundGrows, IsMultiple, IsSum, AreSums, IsSlackOf, HaveSlacks, AtomsFit}
 use Rattle.simplex_atoms.proofs.Owning.{owner_kept, owner_first, owner_below}
 
 pub solves_first : {A V : Type 0} (s : Space A V) (v : ℕ → V) (rs more : List (Row A)) → Solves s v (rs ++ more) → Solves s v rs
@@ -31,26 +31,26 @@ multiple_on : (g h : Ground) (es : List (Entry Number)) (k : Number) (y : ℕ) �
 multiple_on g h es k y grows m = record {
   variable = omega (arith, m.variable, ap (λ (l : List (Option TermId)). length l) grows.owners, length-append g.owners grows.more_owners);
   sum = λ v s.
-      m.sum v (solves_first (as_space numbers) v g.board.tableau.listed grows.more_rows (subst (λ (l : List (Row Number)). Solves (as_space numbers) v l) grows.listed s));
+      m.sum v (solves_first (as_space numbers) v g.assignment.tableau.listed grows.more_rows (subst (λ (l : List (Row Number)). Solves (as_space numbers) v l) grows.listed s));
 }
 
 pub sums_on : (g h : Ground) (sums : List Sum) → GroundGrows g h → AreSums g sums → AreSums h sums
 sums_on g h sums grows all = All-weaker (IsSum g) (IsSum h) (λ s m. multiple_on g h s.entries (sign_by s.opposite) s.variable grows m) sums all
 
-form_on : (t : TableView) (g h : Ground) (place : Slack) (f : Form) → GroundGrows g h → IsFormOf (setting_of t g) place f → IsFormOf (setting_of t h) place f
-form_on t g h place f grows is = record {
+form_on : (t : TableView) (g h : Ground) (slack : Slack) (f : Form) → GroundGrows g h → IsFormOf (setting_of t g) slack f → IsFormOf (setting_of t h) slack f
+form_on t g h slack f grows is = record {
   factor = is.factor;
   bound = is.bound;
   variable = omega (arith, is.variable, ap (λ (l : List (Option TermId)). length l) grows.owners, length-append g.owners grows.more_owners);
-  unit = λ e. is.unit (owner_first g.owners grows.more_owners place.variable is.variable (subst (λ (l : List (Option TermId)). owner_at l place.variable ≡ None) grows.owners e));
+  unit = λ e. is.unit (owner_first g.owners grows.more_owners slack.variable is.variable (subst (λ (l : List (Option TermId)). owner_at l slack.variable ≡ None) grows.owners e));
   constant = is.constant;
   value = λ n v o s. is.value n v
       (λ y id e. o y id (subst (λ (l : List (Option TermId)). owner_at l y ≡ Some id) (sym grows.owners) (owner_kept g.owners grows.more_owners y id e)))
-      (solves_first (as_space numbers) v g.board.tableau.listed grows.more_rows (subst (λ (l : List (Row Number)). Solves (as_space numbers) v l) grows.listed s));
+      (solves_first (as_space numbers) v g.assignment.tableau.listed grows.more_rows (subst (λ (l : List (Row Number)). Solves (as_space numbers) v l) grows.listed s));
 }
 
-pub place_on : (t : TableView) (g h : Ground) (a b : ℕ) (id : TermId) (place : Slack) → GroundGrows g h → a ≤ b → IsPlaceOf (setting_of t g) a id place → IsPlaceOf (setting_of t h) b id place
-place_on t g h a b id place grows le p = record {
+pub slack_on : (t : TableView) (g h : Ground) (a b : ℕ) (id : TermId) (slack : Slack) → GroundGrows g h → a ≤ b → IsSlackOf (setting_of t g) a id slack → IsSlackOf (setting_of t h) b id slack
+slack_on t g h a b id slack grows le p = record {
   is_in = p.is_in;
   is = record {
     constraint = p.is.constraint;
@@ -58,25 +58,25 @@ place_on t g h a b id place grows le p = record {
     kind = p.is.kind;
     form = p.is.form;
     has = p.is.has;
-    is = form_on t g h place p.is.form grows p.is.is;
+    is = form_on t g h slack p.is.form grows p.is.is;
   };
   reached = omega (arith, p.reached, le);
 }
 
-pub placed_on : (t : TableView) (g h : Ground) (a b : ℕ) (placed : List (ℕ × Slack)) → GroundGrows g h → a ≤ b → ArePlaced (setting_of t g) a placed → ArePlaced (setting_of t h) b placed
-placed_on t g h a b placed grows le all id place e = place_on t g h a b id place grows le (all id place e)
+pub slacked_on : (t : TableView) (g h : Ground) (a b : ℕ) (slack_list : List (ℕ × Slack)) → GroundGrows g h → a ≤ b → HaveSlacks (setting_of t g) a slack_list → HaveSlacks (setting_of t h) b slack_list
+slacked_on t g h a b slack_list grows le all id slack e = slack_on t g h a b id slack grows le (all id slack e)
 
 -- one place more
-pub placed_more : (s : AtomSetting) (reach : ℕ) (old new : List (ℕ × Slack)) (id : TermId) (place : Slack) → ArePlaced s reach old → IsPlaceOf s reach id place
-    → ((q : ℕ) → place_in new (record { 0 = q }) ≡ cond (nat_eq id.0 q) (Some place) (place_in old (record { 0 = q }))) → ArePlaced s reach new
-placed_more s reach old new id place all one updates other p e = by (nat_eq id.0 other.0) refl
+pub slacked_more : (s : AtomSetting) (reach : ℕ) (old new : List (ℕ × Slack)) (id : TermId) (slack : Slack) → HaveSlacks s reach old → IsSlackOf s reach id slack
+    → ((q : ℕ) → slack_in new (record { 0 = q }) ≡ cond (nat_eq id.0 q) (Some slack) (slack_in old (record { 0 = q }))) → HaveSlacks s reach new
+slacked_more s reach old new id slack all one updates other p e = by (nat_eq id.0 other.0) refl
   where
-    by : (b : Bool) → nat_eq id.0 other.0 ≡ b → IsPlaceOf s reach other p
+    by : (b : Bool) → nat_eq id.0 other.0 ≡ b → IsSlackOf s reach other p
     by true h =
         let same : id ≡ other = λ i. record { 0 = eqb-true id.0 other.0 h i } in
-        let mine : place ≡ p = same_Some place p (sym (ap (λ b. cond b (Some place) (place_in old other)) h) ∙ sym (updates other.0) ∙ e) in
-        subst (λ (x : Slack). IsPlaceOf s reach other x) mine (subst (λ (x : TermId). IsPlaceOf s reach x place) same one)
-    by false h = all other p (sym (ap (λ b. cond b (Some place) (place_in old other)) h) ∙ sym (updates other.0) ∙ e)
+        let mine : slack ≡ p = same_Some slack p (sym (ap (λ b. cond b (Some slack) (slack_in old other)) h) ∙ sym (updates other.0) ∙ e) in
+        subst (λ (x : Slack). IsSlackOf s reach other x) mine (subst (λ (x : TermId). IsSlackOf s reach x slack) same one)
+    by false h = all other p (sym (ap (λ b. cond b (Some slack) (slack_in old other)) h) ∙ sym (updates other.0) ∙ e)
 
 -- over a table that has grown
 
@@ -84,8 +84,8 @@ module _ (old new : TableView) (x : Extends old new) (g : Ground) (owners : AreO
   owned_before : {V : Type 0} (n : Term → V) (v : ℕ → V) → AreOwned new g.owners n v → AreOwned old g.owners n v
   owned_before n v o y id e = o y id e ∙ ap n (term_at-kept old new x id (owners y id e))
 
-  form_after : (place : Slack) (f : Form) → IsFormOf (setting_of old g) place f → IsFormOf (setting_of new g) place f
-  form_after place f is = record {
+  form_after : (slack : Slack) (f : Form) → IsFormOf (setting_of old g) slack f → IsFormOf (setting_of new g) slack f
+  form_after slack f is = record {
     factor = is.factor;
     bound = is.bound;
     variable = is.variable;
@@ -94,22 +94,22 @@ module _ (old new : TableView) (x : Extends old new) (g : Ground) (owners : AreO
     value = λ n v o s. is.value n v (owned_before n v o) s;
   }
 
-  place_after : (reach : ℕ) (id : TermId) (place : Slack) → IsPlaceOf (setting_of old g) reach id place → IsPlaceOf (setting_of new g) reach id place
-  place_after reach id place p = record {
+  slack_after : (reach : ℕ) (id : TermId) (slack : Slack) → IsSlackOf (setting_of old g) reach id slack → IsSlackOf (setting_of new g) reach id slack
+  slack_after reach id slack p = record {
     is_in = IsIn-kept old new x id p.is_in;
-    is = subst (λ (u : Term). IsPlaced (setting_of new g) place u) (sym (term_at-kept old new x id p.is_in)) (record {
+    is = subst (λ (u : Term). HasSlackIn (setting_of new g) slack u) (sym (term_at-kept old new x id p.is_in)) (record {
       constraint = p.is.constraint;
       says = p.is.says;
       kind = p.is.kind;
       form = p.is.form;
       has = p.is.has;
-      is = form_after place p.is.form p.is.is;
+      is = form_after slack p.is.form p.is.is;
     });
     reached = p.reached;
   }
 
 -- the law
-pub right_after : (old new : TableView) → Extends old new → (a : AtomsView) (b : BoardView) (bounds : BoundsView) → AtomsFit old a b bounds → AtomsFit new a b bounds
+pub right_after : (old new : TableView) → Extends old new → (a : AtomsView) (b : AssignmentView) (bounds : BoundsView) → AtomsFit old a b bounds → AtomsFit new a b bounds
 right_after old new x a b bounds r = record {
   counted = r.counted;
   within = r.within;
@@ -117,30 +117,30 @@ right_after old new x a b bounds r = record {
   once = r.once;
   grounded = r.grounded;
   sums = r.sums;
-  are_placed = λ id place e. place_after old new x (ground_of a.owners b) r.owners_in bounds.variables id place (r.are_placed id place e);
+  are_slacked = λ id slack e. slack_after old new x (ground_of a.owners b) r.owners_in bounds.variables id slack (r.are_slacked id slack e);
 }
 
 -- at first
 
 abbrev pub no_atoms : AtomsView
-no_atoms = record { owners = []; sums = []; placed = [] }
+no_atoms = record { owners = []; sums = []; slack_list = [] }
 
 abbrev pub no_bounds : BoundsView
 no_bounds = record { variables = 0; held = []; room = 0 }
 
-pub right_first : (t : TableView) → AtomsFit t no_atoms empty_board no_bounds
+pub right_first : (t : TableView) → AtomsFit t no_atoms empty_assignment no_bounds
 right_first t = record {
   counted = refl;
   within = omega arith;
   owners_in = λ y id e. absurd (none_here y id e);
   once = λ x y id e h. absurd (none_here x id e);
   grounded = omega arith;
-  sums = All-nil (IsSum (ground_of [] empty_board));
-  are_placed = λ id place e. absurd (no_place place e);
+  sums = All-nil (IsSum (ground_of [] empty_assignment));
+  are_slacked = λ id slack e. absurd (no_place slack e);
 }
   where
     none_here : (y : ℕ) (id : TermId) → owner_at [] y ≡ Some id → ⊥
     none_here y id e = let lt = owner_below [] y id e in omega (arith, lt)
 
-    no_place : (place : Slack) → (let o : Option Slack = None in o) ≡ Some place → ⊥
-    no_place place e = cc
+    no_place : (slack : Slack) → (let o : Option Slack = None in o) ≡ Some slack → ⊥
+    no_place slack e = cc

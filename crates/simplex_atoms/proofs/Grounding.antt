@@ -5,7 +5,7 @@ use Rattle.spec_tableaux.specs.Rows.{Entry, Row}
 use Rattle.spec_tableaux.specs.SolvedForms.{AllVariables}
 use Rattle.spec_tableaux.specs.Numbers.{Number}
 use Rattle.term_core.specs.declared.ids.TermId.{TermId}
-use Rattle.simplex_check.specs.Boards.{BoardView, board_with_variable, board_with_sum}
+use Rattle.simplex_check.specs.Assignments.{AssignmentView, assignment_with_variable, assignment_with_sum}
 use Rattle.simplex_atoms.specs.Owners.{owner_at}
 use Rattle.simplex_atoms.specs.Grounded.{AreGrounded}
 use Rattle.simplex_atoms.specs.Atoms.{ground_of, AreCounted, IsGrounded}
@@ -33,17 +33,17 @@ row_more : (os : List (Option TermId)) (n from : ℕ) (rs : List (Row Number)) (
 row_more os n from [] es e over h = (h, ap (owner_at (os ++ None ∷ [])) (sym e) ∙ owner_last os None, over, omega arith)
 row_more os n from (r ∷ rs) es e over h = (h.0, stands os None n from r rs e h, h.2, row_more os n (suc r.basic) rs es e over h.3)
 
--- on boards
+-- on assignments
 
-pub grounded_same : (os us : List (Option TermId)) (b c : BoardView) → us ≡ os → c ≡ b → IsGrounded (ground_of os b) → IsGrounded (ground_of us c)
-grounded_same os us b c e f h = subst (λ (l : List (Option TermId)). IsGrounded (ground_of l c)) (sym e) (subst (λ (x : BoardView). IsGrounded (ground_of os x)) (sym f) h)
+pub grounded_same : (os us : List (Option TermId)) (b c : AssignmentView) → us ≡ os → c ≡ b → IsGrounded (ground_of os b) → IsGrounded (ground_of us c)
+grounded_same os us b c e f h = subst (λ (l : List (Option TermId)). IsGrounded (ground_of l c)) (sym e) (subst (λ (x : AssignmentView). IsGrounded (ground_of os x)) (sym f) h)
 
-pub grounded_variable : (os us : List (Option TermId)) (o : Option TermId) (b c : BoardView) → AreCounted (ground_of os b) → us ≡ os ++ o ∷ [] → c ≡ board_with_variable b → IsGrounded (ground_of os b)
+pub grounded_variable : (os us : List (Option TermId)) (o : Option TermId) (b c : AssignmentView) → AreCounted (ground_of os b) → us ≡ os ++ o ∷ [] → c ≡ assignment_with_variable b → IsGrounded (ground_of os b)
     → IsGrounded (ground_of us c)
 grounded_variable os us o b c count e f h =
-    grounded_same (os ++ o ∷ []) us (board_with_variable b) c e f (variable_more os o b.tableau.variables 0 b.tableau.listed count h)
+    grounded_same (os ++ o ∷ []) us (assignment_with_variable b) c e f (variable_more os o b.tableau.variables 0 b.tableau.listed count h)
 
-pub grounded_row : (os us : List (Option TermId)) (b c : BoardView) (es : List (Entry Number)) → AreCounted (ground_of os b) → AllVariables (λ y. y < b.tableau.variables) es → us ≡ os ++ None ∷ [] → c ≡ board_with_sum b es
+pub grounded_row : (os us : List (Option TermId)) (b c : AssignmentView) (es : List (Entry Number)) → AreCounted (ground_of os b) → AllVariables (λ y. y < b.tableau.variables) es → us ≡ os ++ None ∷ [] → c ≡ assignment_with_sum b es
     → IsGrounded (ground_of os b) → IsGrounded (ground_of us c)
 grounded_row os us b c es count over e f h =
-    grounded_same (os ++ None ∷ []) us (board_with_sum b es) c e f (row_more os b.tableau.variables 0 b.tableau.listed es count over h)
+    grounded_same (os ++ None ∷ []) us (assignment_with_sum b es) c e f (row_more os b.tableau.variables 0 b.tableau.listed es count over h)

@@ -21,11 +21,11 @@ use Rattle.simplex_bounds.specs.declared.bounds.Side.{Side}
 use Rattle.simplex_bounds.specs.declared.bounds.Side.TheVariants.{Lower, Upper}
 use Rattle.spec_strains.specs.Points.{deltas}
 use Rattle.simplex_check.proofs.Points.{deltas_are_space, deltas_are_ordered}
-use Rattle.simplex_atoms.specs.declared.place.Comparison.{Comparison}
-use Rattle.simplex_atoms.specs.declared.place.Comparison.TheVariants as kinds
-use Rattle.simplex_atoms.specs.declared.place.Slack.{Slack}
+use Rattle.simplex_atoms.specs.declared.slack.Comparison.{Comparison}
+use Rattle.simplex_atoms.specs.declared.slack.Comparison.TheVariants as kinds
+use Rattle.simplex_atoms.specs.declared.slack.Slack.{Slack}
 use Rattle.simplex_atoms.specs.Owners.{AreOwned}
-use Rattle.simplex_atoms.specs.Places.{AtomSetting, relation_meant, relation_by, IsPlaced}
+use Rattle.simplex_atoms.specs.Slacks.{AtomSetting, relation_meant, relation_by, HasSlackIn}
 use Rattle.simplex_atoms.specs.Limits.{Limit, limit_on, limits_where, limits_by, KeepsLimit, AreLimitsKept}
 use Rattle.simplex_atoms.proofs.Values.{base_comes, tilt_comes}
 
@@ -56,7 +56,7 @@ bound_nought k c q z e = pair_same _ _ base tilt
         let l = numbers_are_ordered_field in
         sum_zero_right numbers l _ ∙ l.product_commutative k numbers.zero ∙ zero_product numbers l k
 
--- it stands to 0 as the value stands to this bound, or the other way round
+-- it compares with 0 as the value stands to this bound, or the other way round
 module _ (k c q : Number) (x : Pair Number) (z : numbers.is_zero k ≡ false) (e : q ≡ numbers.times (numbers.opposite c) (numbers.inverse k)) where
   less_left : deltas.less (come k x c) deltas.origin ≡ cond (is_positive numbers k) (deltas.less x (flat q)) (deltas.less (flat q) x)
   less_left =
@@ -118,46 +118,46 @@ over_lower : (q : Number) (x : Pair Number) → deltas.less x (record { base = q
 over_lower q x h = less_from_right _ x (flat q) h (tilt_decides q numbers.zero numbers.one one_is_above)
 
 -- where the bounds of a relation are kept, the form stands so
-module _ (place : Slack) (l : Lit) (v : ℕ → Pair Number) (z : numbers.is_zero (number_of place.factor) ≡ false)
-    (e : number_of place.bound ≡ numbers.times (numbers.opposite (number_of place.constant)) (numbers.inverse (number_of place.factor))) where
+module _ (slack : Slack) (l : Lit) (v : ℕ → Pair Number) (z : numbers.is_zero (number_of slack.factor) ≡ false)
+    (e : number_of slack.bound ≡ numbers.times (numbers.opposite (number_of slack.constant)) (numbers.inverse (number_of slack.factor))) where
   abbrev value : Pair Number
-  value = come (number_of place.factor) (v place.variable) (number_of place.constant)
+  value = come (number_of slack.factor) (v slack.variable) (number_of slack.constant)
 
   abbrev x : Pair Number
-  x = v place.variable
+  x = v slack.variable
 
   abbrev goal : Pair Number
-  goal = flat (number_of place.bound)
+  goal = flat (number_of slack.bound)
 
-  stands_left : (up : Bool) → is_positive numbers (number_of place.factor) ≡ up → deltas.less value deltas.origin ≡ cond up (deltas.less x goal) (deltas.less goal x)
+  stands_left : (up : Bool) → is_positive numbers (number_of slack.factor) ≡ up → deltas.less value deltas.origin ≡ cond up (deltas.less x goal) (deltas.less goal x)
   stands_left up p =
-      less_left (number_of place.factor) (number_of place.constant) (number_of place.bound) x z e ∙ ap (λ b. cond b (deltas.less x goal) (deltas.less goal x)) p
+      less_left (number_of slack.factor) (number_of slack.constant) (number_of slack.bound) x z e ∙ ap (λ b. cond b (deltas.less x goal) (deltas.less goal x)) p
 
-  stands_right : (up : Bool) → is_positive numbers (number_of place.factor) ≡ up → deltas.less deltas.origin value ≡ cond up (deltas.less goal x) (deltas.less x goal)
+  stands_right : (up : Bool) → is_positive numbers (number_of slack.factor) ≡ up → deltas.less deltas.origin value ≡ cond up (deltas.less goal x) (deltas.less x goal)
   stands_right up p =
-      less_right (number_of place.factor) (number_of place.constant) (number_of place.bound) x z e ∙ ap (λ b. cond b (deltas.less goal x) (deltas.less x goal)) p
+      less_right (number_of slack.factor) (number_of slack.constant) (number_of slack.bound) x z e ∙ ap (λ b. cond b (deltas.less goal x) (deltas.less x goal)) p
 
   -- the first of the bounds is kept
-  head : (side : Side) (strict : Bool) (bs : List Limit) → AreLimitsKept v (limit_on place l side strict ∷ bs) → KeepsLimit v (limit_on place l side strict)
-  head side strict bs h = All-head (KeepsLimit v) (limit_on place l side strict) bs h
+  head : (side : Side) (strict : Bool) (bs : List Limit) → AreLimitsKept v (limit_on slack l side strict ∷ bs) → KeepsLimit v (limit_on slack l side strict)
+  head side strict bs h = All-head (KeepsLimit v) (limit_on slack l side strict) bs h
 
-  kept_stands : (r : Relation) (up : Bool) → is_positive numbers (number_of place.factor) ≡ up → AreLimitsKept v (limits_where (Some r) up place l)
+  kept_stands : (r : Relation) (up : Bool) → is_positive numbers (number_of slack.factor) ≡ up → AreLimitsKept v (limits_where (Some r) up slack l)
       → stands r value.base.fraction value.tilt.fraction ≡ true
-  kept_stands below true p h = stands_below value ∙ stands_left true p ∙ under_upper (number_of place.bound) x (head Upper true [] h)
-  kept_stands below false p h = stands_below value ∙ stands_left false p ∙ over_lower (number_of place.bound) x (head Lower true [] h)
-  kept_stands above true p h = stands_above value ∙ stands_right true p ∙ over_lower (number_of place.bound) x (head Lower true [] h)
-  kept_stands above false p h = stands_above value ∙ stands_right false p ∙ under_upper (number_of place.bound) x (head Upper true [] h)
+  kept_stands below true p h = stands_below value ∙ stands_left true p ∙ under_upper (number_of slack.bound) x (head Upper true [] h)
+  kept_stands below false p h = stands_below value ∙ stands_left false p ∙ over_lower (number_of slack.bound) x (head Lower true [] h)
+  kept_stands above true p h = stands_above value ∙ stands_right true p ∙ over_lower (number_of slack.bound) x (head Lower true [] h)
+  kept_stands above false p h = stands_above value ∙ stands_right false p ∙ under_upper (number_of slack.bound) x (head Upper true [] h)
   kept_stands at_most true p h = ap not (stands_above value ∙ stands_right true p ∙ head Upper false [] h)
   kept_stands at_most false p h = ap not (stands_above value ∙ stands_right false p ∙ head Lower false [] h)
   kept_stands at_least true p h = ap not (stands_below value ∙ stands_left true p ∙ head Lower false [] h)
   kept_stands at_least false p h = ap not (stands_below value ∙ stands_left false p ∙ head Upper false [] h)
   kept_stands equals up p h =
-      let upper = limit_on place l Upper false in
+      let upper = limit_on slack l Upper false in
       let same : x ≡ goal =
-      deltas_are_ordered.less_total x goal (head Lower false (upper ∷ []) h) (All-head (KeepsLimit v) upper [] (All-tail (KeepsLimit v) (limit_on place l Lower false) (upper ∷ []) h)) in
+      deltas_are_ordered.less_total x goal (head Lower false (upper ∷ []) h) (All-head (KeepsLimit v) upper [] (All-tail (KeepsLimit v) (limit_on slack l Lower false) (upper ∷ []) h)) in
       (stands_equals value).1
-      (ap (λ (y : Pair Number). come (number_of place.factor) y (number_of place.constant)) same
-      ∙ bound_nought (number_of place.factor) (number_of place.constant) (number_of place.bound) z e)
+      (ap (λ (y : Pair Number). come (number_of slack.factor) y (number_of slack.constant)) same
+      ∙ bound_nought (number_of slack.factor) (number_of slack.constant) (number_of slack.bound) z e)
 
 -- what a literal says of the form of its atom
 
@@ -210,13 +210,13 @@ agree t true c d k p r q =
 agree t false c d k p r q = negatively t c d k p r q
 
 -- the law
-pub kept : (s : AtomSetting) (place : Slack) (atom : Term) → IsPlaced s place atom → (p : Point) (v : ℕ → Pair Number) → AreOwned s.table s.owners p v → Solves deltas v s.listed
-    → (l : Lit) → AreLimitsKept v (limits_by place l) → KeepsLiteral p (record { atom = atom; positive = l.positive })
-kept s place atom is p v o h l bounds d says f has =
-    let both = agree atom l.positive is.constraint d place.kind is.says is.kind says in
+pub kept : (s : AtomSetting) (slack : Slack) (atom : Term) → HasSlackIn s slack atom → (p : Point) (v : ℕ → Pair Number) → AreOwned s.table s.owners p v → Solves deltas v s.listed
+    → (l : Lit) → AreLimitsKept v (limits_by slack l) → KeepsLiteral p (record { atom = atom; positive = l.positive })
+kept s slack atom is p v o h l bounds d says f has =
+    let both = agree atom l.positive is.constraint d slack.kind is.says is.kind says in
     let form : f ≡ is.form = same_ok f is.form (sym has ∙ both.1 ∙ is.has) in
-    let Bounds : Option Relation → Type 0 = λ r. AreLimitsKept v (limits_where r (is_positive numbers (number_of place.factor)) place l) in
-    let there = kept_stands place l v is.is.factor is.is.bound d.relation _ refl (subst Bounds both.0 bounds) in
-    let base = ap (base_at p) form ∙ base_comes s place is.form is.is p v o h in
-    let tilt = ap (tilt_at p) form ∙ tilt_comes s place is.form is.is p v o h ∙ ap (λ (n : Number). n.fraction) (sym (sum_zero_right numbers numbers_are_ordered_field (numbers.times (number_of place.factor) (v place.variable).tilt))) in
+    let Bounds : Option Relation → Type 0 = λ r. AreLimitsKept v (limits_where r (is_positive numbers (number_of slack.factor)) slack l) in
+    let there = kept_stands slack l v is.is.factor is.is.bound d.relation _ refl (subst Bounds both.0 bounds) in
+    let base = ap (base_at p) form ∙ base_comes s slack is.form is.is p v o h in
+    let tilt = ap (tilt_at p) form ∙ tilt_comes s slack is.form is.is p v o h ∙ ap (λ (n : Number). n.fraction) (sym (sum_zero_right numbers numbers_are_ordered_field (numbers.times (number_of slack.factor) (v slack.variable).tilt))) in
     (λ i. stands d.relation (base i) (tilt i)) ∙ there

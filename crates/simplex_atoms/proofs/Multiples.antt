@@ -11,9 +11,9 @@ use Rattle.tableau.specs.declared.entries.Entry.{Entry as CodeEntry}
 use Rattle.tableau.specs.Numbers.{number_of}
 use Rattle.tableau.specs.Entries.{entries_of}
 use Rattle.simplex_atoms.specs.declared.keys.Key.{Key}
-use Rattle.simplex_atoms.specs.declared.place.Slack.{Slack}
+use Rattle.simplex_atoms.specs.declared.slack.Slack.{Slack}
 use Rattle.simplex_atoms.specs.declared.sums.Multiple.{Multiple}
-use Rattle.simplex_atoms.specs.Places.{IsSign}
+use Rattle.simplex_atoms.specs.Slacks.{IsSign}
 use Rattle.simplex_atoms.specs.Sums.{sign_by, key_meant, IsKeyOf, Sum, sum_by}
 use Rattle.simplex_atoms.specs.Atoms.{Ground, IsMultiple, IsSum, AreSums}
 use Rattle.simplex_atoms.specs.Made.{Covers}

@@ -11,7 +11,7 @@ use Rattle.spec_tableaux.specs.Spaces.{as_space}
 use Rattle.spec_tableaux.specs.Rows.{sum_of}
 use Rattle.spec_tableaux.specs.SolvedForms.{AllVariables}
 use Rattle.spec_tableaux.specs.Numbers.{Number, numbers, fractions}
-use Rattle.spec_causes.specs.Standing.{owner_in, AreEntriesOf}
+use Rattle.spec_causes.specs.TermTableau.{owner_in, AreEntriesOf}
 use Rattle.ratio128.specs.declared.ratio.Ratio.{Ratio}
 use Rattle.ratio128.specs.Meant.{fraction}
 use Rattle.term_core.specs.declared.ids.TermId.{TermId}
@@ -22,7 +22,7 @@ use Rattle.tableau.specs.declared.entries.Entry.{Entry}
 use Rattle.tableau.specs.Entries.{entries_of}
 use Rattle.simplex_atoms.specs.Owners.{owner_at, AreOwned}
 use Rattle.simplex_atoms.specs.Watching.{IsNumbered, EntriesAreNumbered}
-use Rattle.simplex_atoms.specs.Standings.{owner_meant}
+use Rattle.simplex_atoms.specs.TermTableauViews.{owner_meant}
 use Rattle.simplex_atoms.proofs.Owning.{owner_kept, owner_below}
 
 pub numbered_kept : (os more : List (Option TermId)) (es : List Entry) (xs : List (TermId × Ratio)) → EntriesAreNumbered os es xs → EntriesAreNumbered (os ++ more) es xs

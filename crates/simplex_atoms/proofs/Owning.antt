@@ -14,7 +14,7 @@ owner_kept [] more y id h = absurd (none-some id h)
 owner_kept (o ∷ os) more zero id h = h
 owner_kept (o ∷ os) more (suc y) id h = owner_kept os more y id h
 
--- what stands for a term stood for it when it was there
+-- what means a term stood for it when it was there
 pub owner_first : (os more : List (Option TermId)) (y : ℕ) → y < length os → owner_at (os ++ more) y ≡ None → owner_at os y ≡ None
 owner_first os more y lt h = sym (get_or-append os more None y lt) ∙ h
 
@@ -26,7 +26,7 @@ owner_below [] y id h = absurd (none-some id h)
 owner_below (o ∷ os) zero id h = omega arith
 owner_below (o ∷ os) (suc y) id h = let r = owner_below os y id h in omega (arith, r)
 
--- what stands for a term was there before, or is the last one
+-- what means a term was there before, or is the last one
 pub owner_came : (os : List (Option TermId)) (o : Option TermId) (y : ℕ) (id : TermId) → owner_at (os ++ o ∷ []) y ≡ Some id
     → (owner_at os y ≡ Some id) ⊎ ((y ≡ length os) × (o ≡ Some id))
 owner_came [] o zero id h = inr (refl, h)

@@ -11,21 +11,21 @@ use Rattle.spec_tableaux.proofs.PairSolutions.{pair_parts}
 use Rattle.spec_simplex.specs.Points.{Point, base_at, tilt_at}
 use Rattle.tableau.specs.Numbers.{number_of}
 use Rattle.spec_strains.specs.Points.{deltas}
-use Rattle.simplex_atoms.specs.declared.place.Slack.{Slack}
+use Rattle.simplex_atoms.specs.declared.slack.Slack.{Slack}
 use Rattle.simplex_atoms.specs.Owners.{AreOwned}
-use Rattle.simplex_atoms.specs.Places.{AtomSetting, IsFormOf}
+use Rattle.simplex_atoms.specs.Slacks.{AtomSetting, IsFormOf}
 
-module _ (s : AtomSetting) (place : Slack) (f : Form) (is : IsFormOf s place f) where
+module _ (s : AtomSetting) (slack : Slack) (f : Form) (is : IsFormOf s slack f) where
   -- over numbers
   pub form_comes : (n : Term → Number) (v : ℕ → Number) → AreOwned s.table s.owners n v → Solves (as_space numbers) v s.listed
-      → form_value (λ u. (n u).fraction) f ≡ (numbers.plus (numbers.times (number_of place.factor) (v place.variable)) (number_of place.constant)).fraction
+      → form_value (λ u. (n u).fraction) f ≡ (numbers.plus (numbers.times (number_of slack.factor) (v slack.variable)) (number_of slack.constant)).fraction
   unfolding numbers fractions form_value
   form_comes n v o h = (λ i. plus (is.constant i) (is.value n v o h i)) ∙ plus-comm _ _
 
   module _ (p : Point) (v : ℕ → Pair Number) (o : AreOwned s.table s.owners p v) (h : Solves deltas v s.listed) where
     -- at points
-    pub base_comes : base_at p f ≡ (numbers.plus (numbers.times (number_of place.factor) (v place.variable).base) (number_of place.constant)).fraction
+    pub base_comes : base_at p f ≡ (numbers.plus (numbers.times (number_of slack.factor) (v slack.variable).base) (number_of slack.constant)).fraction
     base_comes = form_comes (λ u. (p u).base) (λ y. (v y).base) (λ y id e. ap (λ (q : Pair Number). q.base) (o y id e)) (pair_parts numbers v s.listed h).0
 
-    pub tilt_comes : tilt_at p f ≡ (numbers.times (number_of place.factor) (v place.variable).tilt).fraction
+    pub tilt_comes : tilt_at p f ≡ (numbers.times (number_of slack.factor) (v slack.variable).tilt).fraction
     tilt_comes = is.value (λ u. (p u).tilt) (λ y. (v y).tilt) (λ y id e. ap (λ (q : Pair Number). q.tilt) (o y id e)) (pair_parts numbers v s.listed h).1

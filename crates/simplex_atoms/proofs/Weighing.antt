@@ -17,8 +17,8 @@ use Rattle.ratio128.specs.Meant.{fraction}
 use Rattle.term_core.specs.declared.ids.Lit.{Lit}
 use Rattle.tableau.specs.Numbers.{number_of}
 use Rattle.simplex_bounds.specs.declared.bounds.Side.TheVariants.{Lower, Upper}
-use Rattle.simplex_atoms.specs.declared.place.Slack.{Slack}
-use Rattle.simplex_atoms.specs.Places.{relation_by}
+use Rattle.simplex_atoms.specs.declared.slack.Slack.{Slack}
+use Rattle.simplex_atoms.specs.Slacks.{relation_by}
 use Rattle.simplex_atoms.specs.Limits.{Limit, limit_on, limits_where, limits_by, side_by, signed_by, weight_of}
 
 -- sizes
@@ -90,9 +90,9 @@ unfolding numbers fractions
 product_fraction y k s e = ap (λ (n : Number). n.fraction) e
 
 -- an upper weight and a lower one
-module _ (place : Slack) (m : Number) (z : numbers.is_zero (number_of place.factor) ≡ false) (h : numbers.is_negative m ≡ false) where
+module _ (slack : Slack) (m : Number) (z : numbers.is_zero (number_of slack.factor) ≡ false) (h : numbers.is_negative m ≡ false) where
   abbrev factor : Number
-  factor = number_of place.factor
+  factor = number_of slack.factor
 
   abbrev quotient : Number → Number
   quotient s = numbers.times s (numbers.inverse factor)
@@ -123,32 +123,32 @@ module _ (place : Slack) (m : Number) (z : numbers.is_zero (number_of place.fact
       sign_up (numbers.opposite factor) (numbers.opposite (quotient m)) m (both_turned factor (quotient m) m (quotient_times m factor z)) (not_negative_opposite factor z p) h
 
   abbrev Weighs : Relation → Limit → Type 0
-  Weighs r b = times (signed_weight r (weight_of r place (signed_by b.side m))) (fraction place.factor) ≡ (signed_by b.side m).fraction
+  Weighs r b = times (signed_weight r (weight_of r slack (signed_by b.side m))) (fraction slack.factor) ≡ (signed_by b.side m).fraction
 
-  each : (r : Relation) (up : Bool) (l : Lit) → is_positive numbers factor ≡ up → All (Weighs r) (limits_where (Some r) up place l)
-  each below up l p = All-cons (Weighs below) (limit_on place l (side_by up) true) [] (risen (signed_by (side_by up) m) (upper_rises up p)) (All-nil (Weighs below))
-  each at_most up l p = All-cons (Weighs at_most) (limit_on place l (side_by up) false) [] (risen (signed_by (side_by up) m) (upper_rises up p)) (All-nil (Weighs at_most))
+  each : (r : Relation) (up : Bool) (l : Lit) → is_positive numbers factor ≡ up → All (Weighs r) (limits_where (Some r) up slack l)
+  each below up l p = All-cons (Weighs below) (limit_on slack l (side_by up) true) [] (risen (signed_by (side_by up) m) (upper_rises up p)) (All-nil (Weighs below))
+  each at_most up l p = All-cons (Weighs at_most) (limit_on slack l (side_by up) false) [] (risen (signed_by (side_by up) m) (upper_rises up p)) (All-nil (Weighs at_most))
   each at_least up l p =
-      All-cons (Weighs at_least) (limit_on place l (side_by (not up)) false) [] (fallen (signed_by (side_by (not up)) m) (lower_falls up p)) (All-nil (Weighs at_least))
+      All-cons (Weighs at_least) (limit_on slack l (side_by (not up)) false) [] (fallen (signed_by (side_by (not up)) m) (lower_falls up p)) (All-nil (Weighs at_least))
   each above up l p =
-      All-cons (Weighs above) (limit_on place l (side_by (not up)) true) [] (fallen (signed_by (side_by (not up)) m) (lower_falls up p)) (All-nil (Weighs above))
+      All-cons (Weighs above) (limit_on slack l (side_by (not up)) true) [] (fallen (signed_by (side_by (not up)) m) (lower_falls up p)) (All-nil (Weighs above))
   each equals up l p =
       let lower = numbers.opposite m in
-      All-cons (Weighs equals) (limit_on place l Lower false) (limit_on place l Upper false ∷ []) (product_fraction (quotient lower) factor lower (quotient_times lower factor z))
-      (All-cons (Weighs equals) (limit_on place l Upper false) [] (product_fraction (quotient m) factor m (quotient_times m factor z)) (All-nil (Weighs equals)))
+      All-cons (Weighs equals) (limit_on slack l Lower false) (limit_on slack l Upper false ∷ []) (product_fraction (quotient lower) factor lower (quotient_times lower factor z))
+      (All-cons (Weighs equals) (limit_on slack l Upper false) [] (product_fraction (quotient m) factor m (quotient_times m factor z)) (All-nil (Weighs equals)))
 
 -- the laws
 
-pub weighs : (place : Slack) (l : Lit) (r : Relation) → relation_by place.kind l.positive ≡ Some r → numbers.is_zero (number_of place.factor) ≡ false → (b : Limit) → Contains (limits_by place l) b
-    → (m : Number) → numbers.is_negative m ≡ false → times (signed_weight r (weight_of r place (signed_by b.side m))) (fraction place.factor) ≡ (signed_by b.side m).fraction
-weighs place l r e z b inside m h =
-    let In : Option Relation → Type 0 = λ o. Contains (limits_where o (is_positive numbers (number_of place.factor)) place l) b in
-    let up = is_positive numbers (number_of place.factor) in
-    All-contains (Weighs place m z h r) (limits_where (Some r) up place l) b (each place m z h r up l refl) (subst In e inside)
+pub weighs : (slack : Slack) (l : Lit) (r : Relation) → relation_by slack.kind l.positive ≡ Some r → numbers.is_zero (number_of slack.factor) ≡ false → (b : Limit) → Contains (limits_by slack l) b
+    → (m : Number) → numbers.is_negative m ≡ false → times (signed_weight r (weight_of r slack (signed_by b.side m))) (fraction slack.factor) ≡ (signed_by b.side m).fraction
+weighs slack l r e z b inside m h =
+    let In : Option Relation → Type 0 = λ o. Contains (limits_where o (is_positive numbers (number_of slack.factor)) slack l) b in
+    let up = is_positive numbers (number_of slack.factor) in
+    All-contains (Weighs slack m z h r) (limits_where (Some r) up slack l) b (each slack m z h r up l refl) (subst In e inside)
 
-pub weight_reduced : (place : Slack) (r : Relation) (s : Number) → IsReduced (weight_of r place s)
-weight_reduced place below s = size_reduced _ (numbers.times s (numbers.inverse (number_of place.factor))).reduced
-weight_reduced place at_most s = size_reduced _ (numbers.times s (numbers.inverse (number_of place.factor))).reduced
-weight_reduced place equals s = (numbers.times s (numbers.inverse (number_of place.factor))).reduced
-weight_reduced place at_least s = size_reduced _ (numbers.times s (numbers.inverse (number_of place.factor))).reduced
-weight_reduced place above s = size_reduced _ (numbers.times s (numbers.inverse (number_of place.factor))).reduced
+pub weight_reduced : (slack : Slack) (r : Relation) (s : Number) → IsReduced (weight_of r slack s)
+weight_reduced slack below s = size_reduced _ (numbers.times s (numbers.inverse (number_of slack.factor))).reduced
+weight_reduced slack at_most s = size_reduced _ (numbers.times s (numbers.inverse (number_of slack.factor))).reduced
+weight_reduced slack equals s = (numbers.times s (numbers.inverse (number_of slack.factor))).reduced
+weight_reduced slack at_least s = size_reduced _ (numbers.times s (numbers.inverse (number_of slack.factor))).reduced
+weight_reduced slack above s = size_reduced _ (numbers.times s (numbers.inverse (number_of slack.factor))).reduced

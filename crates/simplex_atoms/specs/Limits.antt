@@ -14,8 +14,8 @@ use Rattle.spec_strains.specs.Points.{deltas}
 use Rattle.simplex_bounds.specs.declared.bounds.Bound.{Bound}
 use Rattle.simplex_bounds.specs.declared.bounds.Side.{Side}
 use Rattle.simplex_bounds.specs.declared.bounds.Side.TheVariants.{Lower, Upper}
-use Rattle.simplex_atoms.specs.declared.place.Slack.{Slack}
-use Rattle.simplex_atoms.specs.Places.{relation_by}
+use Rattle.simplex_atoms.specs.declared.slack.Slack.{Slack}
+use Rattle.simplex_atoms.specs.Slacks.{relation_by}
 
 -- A bound, with its value as a pair of numbers.
 pub record Limit : Type 0 where
@@ -54,26 +54,26 @@ tilt_by side false = numbers.zero
 
 -- the bound of a place on a side, which the variable may not reach where it is strict
 abbrev pub limit_on : Slack → Lit → Side → Bool → Limit
-limit_on place l side strict = record {
-  variable = place.variable;
+limit_on slack l side strict = record {
+  variable = slack.variable;
   side = side;
-  value = record { base = number_of place.bound; tilt = tilt_by side strict };
+  value = record { base = number_of slack.bound; tilt = tilt_by side strict };
   literal = l;
 }
 
 -- the bounds of the variable where the form stands so to 0, by whether the factor is above 0
 abbrev pub limits_where : Option Relation → Bool → Slack → Lit → List Limit
-limits_where (Some below) up place l = limit_on place l (side_by up) true ∷ []
-limits_where (Some at_most) up place l = limit_on place l (side_by up) false ∷ []
-limits_where (Some equals) up place l = limit_on place l Lower false ∷ limit_on place l Upper false ∷ []
-limits_where (Some at_least) up place l = limit_on place l (side_by (not up)) false ∷ []
-limits_where (Some above) up place l = limit_on place l (side_by (not up)) true ∷ []
-limits_where None up place l = []
+limits_where (Some below) up slack l = limit_on slack l (side_by up) true ∷ []
+limits_where (Some at_most) up slack l = limit_on slack l (side_by up) false ∷ []
+limits_where (Some equals) up slack l = limit_on slack l Lower false ∷ limit_on slack l Upper false ∷ []
+limits_where (Some at_least) up slack l = limit_on slack l (side_by (not up)) false ∷ []
+limits_where (Some above) up slack l = limit_on slack l (side_by (not up)) true ∷ []
+limits_where None up slack l = []
 
 -- the bounds that a literal states of the variable on which its atom is placed
 abbrev pub limits_by : Slack → Lit → List Limit
-limits_by place l =
-    limits_where (relation_by place.kind l.positive) (is_positive numbers (number_of place.factor)) place l
+limits_by slack l =
+    limits_where (relation_by slack.kind l.positive) (is_positive numbers (number_of slack.factor)) slack l
 
 -- a value violates a bound on a side
 abbrev pub violates : Side → Pair Number → Pair Number → Bool
@@ -96,8 +96,8 @@ signed_by Lower m = numbers.opposite m
 -- the weight of a constraint whose form is a multiple of a variable, where the variable is to have the weight s: of an
 -- equality s over the factor, of an order the size of this
 abbrev pub weight_of : Relation → Slack → Number → Fraction
-weight_of equals place s = (numbers.times s (numbers.inverse (number_of place.factor))).fraction
-weight_of r place s = size (numbers.times s (numbers.inverse (number_of place.factor))).fraction
+weight_of equals slack s = (numbers.times s (numbers.inverse (number_of slack.factor))).fraction
+weight_of r slack s = size (numbers.times s (numbers.inverse (number_of slack.factor))).fraction
 
 -- 0 itself does not stand so to 0
 abbrev pub is_strict : Relation → Bool

@@ -8,7 +8,7 @@ use Rattle.term_core.specs.Tables.{TableView, term_at, IsIn}
 abbrev pub owner_at : List (Option TermId) → ℕ → Option TermId
 owner_at owners y = get_or owners y None
 
--- y is the variable that stands for a term, or none does
+-- y is the variable that means a term, or none does
 abbrev pub IsNumberOf : List (Option TermId) → TermId → Option ℕ → Type 0
 IsNumberOf owners id (Some y) = owner_at owners y ≡ Some id
 IsNumberOf owners id None = (y : ℕ) → owner_at owners y ≡ Some id → ⊥
@@ -25,9 +25,9 @@ AreOwnersIn t owners = (y : ℕ) (id : TermId) → owner_at owners y ≡ Some id
 abbrev pub AreOwned : {V : Type 0} → TableView → List (Option TermId) → (Term → V) → (ℕ → V) → Type 0
 AreOwned t owners n v = (y : ℕ) (id : TermId) → owner_at owners y ≡ Some id → v y ≡ n (term_at t id)
 
--- Each variable that stands for a term by its number, for all such variables.
+-- Each variable that means a term by its number, for all such variables.
 pub record IsInverse (numbers : ℕ → Option ℕ) (owners : List (Option TermId)) : Type 0 where
-  -- what is given stands for the term
+  -- what is given means the term
   pub tells : (q y : ℕ) → numbers q ≡ Some y → owner_at owners y ≡ Some (record { 0 = q })
   -- all are given
   pub tells_all : (y : ℕ) (id : TermId) → owner_at owners y ≡ Some id → numbers id.0 ≡ Some y

@@ -7,26 +7,26 @@ use Rattle.spec_arithmetic.specs.Forms.{Form, Fault}
 use Rattle.spec_tableaux.specs.Rows.{Entry}
 use Rattle.spec_tableaux.specs.Numbers.{Number}
 use Rattle.spec_simplex.specs.Constraints.{Constraint, constraint_of, form_of}
-use Rattle.spec_causes.specs.Standing.{AreEntriesOf}
+use Rattle.spec_causes.specs.TermTableau.{AreEntriesOf}
 use Rattle.ratio128.specs.declared.ratio.Ratio.{Ratio}
 use Rattle.ratio128.specs.Meant.{overflow}
 use Rattle.term_core.specs.declared.ids.TermId.{TermId}
 use Rattle.term_core.specs.Tables.{TableView, term_at, IsIn, positive_literal}
 use Rattle.linear_form.specs.Meant.{FormView, form_meant}
-use Rattle.simplex_check.specs.Boards.{BoardView, state_of}
-use Rattle.spec_strains.specs.Strains.{StrainsNew}
+use Rattle.simplex_check.specs.Assignments.{AssignmentView, state_of}
+use Rattle.spec_strains.specs.CheckOverflows.{OverflowsNew}
 use Rattle.tableau.specs.declared.entries.Entry.{Entry as CodeEntry}
 use Rattle.term_core.specs.declared.nodes.Head.{Head}
 use Rattle.term_core.specs.declared.nodes.Head.TheVariants as heads
-use Rattle.simplex_atoms.specs.declared.place.Comparison.{Comparison}
-use Rattle.simplex_atoms.specs.declared.place.Comparison.TheVariants as kinds
+use Rattle.simplex_atoms.specs.declared.slack.Comparison.{Comparison}
+use Rattle.simplex_atoms.specs.declared.slack.Comparison.TheVariants as kinds
 use Rattle.simplex_atoms.specs.declared.reading.AtomSides.{AtomSides}
-use Rattle.simplex_atoms.specs.declared.place.Slack.{Slack}
+use Rattle.simplex_atoms.specs.declared.slack.Slack.{Slack}
 use Rattle.simplex_atoms.specs.declared.stop.AtomStop.{AtomStop}
 use Rattle.simplex_atoms.specs.declared.stop.AtomStop.TheVariants as stops
 use Rattle.simplex_atoms.specs.Owners.{owner_at}
-use Rattle.simplex_atoms.specs.Places.{relation_meant}
-use Rattle.simplex_atoms.specs.Standings.{owner_meant}
+use Rattle.simplex_atoms.specs.Slacks.{relation_meant}
+use Rattle.simplex_atoms.specs.TermTableauViews.{owner_meant}
 
 -- how atoms with a head compare numbers, where they do
 abbrev pub kind_by : Head → Option Comparison
@@ -81,23 +81,23 @@ Forms t a (Err stops.Memory) = Unit {0}
 abbrev pub Owned : Type 0
 Owned = List (Option TermId)
 
--- The place of a form, with these variables on a board, comes to the overflow o.
-pub data StrainsForm (t : TableView) (owners : Owned) (b : BoardView) (f : Form) (o : Overflow) : Type 0 where
+-- The place of a form, with these variables on an assignment, comes to the overflow o.
+pub data OverflowsForm (t : TableView) (owners : Owned) (b : AssignmentView) (f : Form) (o : Overflow) : Type 0 where
   -- minus the constant, over the coefficient of the one variable
   bound : (u : Term) (k : Fraction) → f.variables ≡ (u, k) ∷ [] → divided (opposite f.constant) k ≡ Err o
-      → StrainsForm t owners b f o
+      → OverflowsForm t owners b f o
   -- the row of the variables
   row : (es : List (Entry Number)) → AreEntriesOf (map (owner_meant t) owners) es f.variables
-      → StrainsNew (state_of b) es o → StrainsForm t owners b f o
+      → OverflowsNew (state_of b) es o → OverflowsForm t owners b f o
 
--- The place of an atom comes to the overflow o: its form does, or the place of this.
-pub data StrainsAtom (t : TableView) (owners : Owned) (b : BoardView) (id : TermId) (o : Overflow) : Type 0 where
+-- The slack variable of an atom comes to the overflow o: its form does, or the place of this.
+pub data OverflowsAtom (t : TableView) (owners : Owned) (b : AssignmentView) (id : TermId) (o : Overflow) : Type 0 where
   in_form : (c : Constraint) → constraint_of (positive_literal (term_at t id)) ≡ Some c
-      → (e : Fault) → form_of c ≡ Err e → e.overflow ≡ o → StrainsAtom t owners b id o
+      → (e : Fault) → form_of c ≡ Err e → e.overflow ≡ o → OverflowsAtom t owners b id o
   in_place : (c : Constraint) → constraint_of (positive_literal (term_at t id)) ≡ Some c
-      → (f : Form) → form_of c ≡ Ok f → StrainsForm t owners b f o → StrainsAtom t owners b id o
+      → (f : Form) → form_of c ≡ Ok f → OverflowsForm t owners b f o → OverflowsAtom t owners b id o
 
 -- an atom has a place exactly where it says something of linear arithmetic
 abbrev pub IsWatched : Option Slack → Option Constraint → Type 0
-IsWatched (Some place) c = IsSome c
+IsWatched (Some slack) c = IsSome c
 IsWatched None c = c ≡ None

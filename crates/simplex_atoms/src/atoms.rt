@@ -1,4 +1,4 @@
-//! Atoms on the variables of a board.
+//! Atoms on the variables of an assignment.
 
 ghost use Rattle.std.specs.Prelude.{◌≡◌, ℕ, ◌≤◌, List, [], Contains, OnOk, OnErr, IfErr};
 ghost use Rattle.spec_sorts.specs.Terms.{Term};
@@ -7,26 +7,26 @@ ghost use Rattle.spec_causes.specs.Reached.{IsReached};
 ghost use Rattle.term_core.specs.Tables.{IsIn, term_at, positive_literal};
 ghost use Rattle.term_core.specs.declared.ids.TermId.{TermId as Number};
 ghost use Rattle.simplex_atoms.specs.Owners.{owner_at, IsNumberOf};
-ghost use Rattle.simplex_atoms.specs.Places.{place_in};
+ghost use Rattle.simplex_atoms.specs.Slacks.{slack_in};
 ghost use Rattle.simplex_atoms.specs.Atoms.{ground_of, GroundGrows, KeepBounds, AtomsFit};
-ghost use Rattle.simplex_atoms.specs.Watching.{OnAtomOverflow, StrainsAtom, IsWatched};
-ghost use Rattle.simplex_atoms.specs.Standings.{standing_in, ButForMemory};
+ghost use Rattle.simplex_atoms.specs.Watching.{OnAtomOverflow, OverflowsAtom, IsWatched};
+ghost use Rattle.simplex_atoms.specs.TermTableauViews.{term_tableau_in, ButForMemory};
 
 use crate::owners::Owners;
-use crate::place::Slack;
-use crate::placing::place_of;
+use crate::placing::slack_of;
 use crate::reading::{difference_of, sides_of};
+use crate::slack::Slack;
 use crate::stop::AtomStop;
 use crate::sums::Sums;
 use simplex_bounds::Bounds;
-use simplex_check::Board;
+use simplex_check::RealAssignment;
 use std::alloc::Global;
 use std::collections::HashMap;
 use std::marker::Model;
 use term_core::{TermId, TermTable};
 use world_io::NoMemory;
 
-/// Holds which terms and sums the variables of a board stand for, and the places of the atoms that are watched.
+/// Holds which terms and sums the variables of an assignment stand for, and the slack variables of the atoms that are watched.
 ///
 /// A term's variable and an atom's place are looked up by a hash of its number, and a sum's variable by a hash of its
 /// entries. Contracts see for each variable the term that it stands for, the sums, and the places by the numbers of
@@ -37,7 +37,7 @@ pub struct Atoms {
     alloc: Global,
     owners: Owners,
     sums: Sums,
-    places: HashMap<u64, Slack>,
+    slacks: HashMap<u64, Slack>,
 }
 
 impl Model for Atoms {
@@ -45,7 +45,7 @@ impl Model for Atoms {
 
     ghost Value = { AtomsView };
 
-    ghost view = { λ a. record { owners = a.owners.list; sums = a.sums; placed = a.places.entries } };
+    ghost view = { λ a. record { owners = a.owners.list; sums = a.sums; slack_list = a.slacks.entries } };
 }
 
 /// Lets bounds be held of n variables.
@@ -66,17 +66,17 @@ fn reach(bounds: &mut Bounds, n: u64) -> Result<(), NoMemory>
 impl Atoms {
     /// Makes atoms of which none is watched, and no variable. It takes no memory.
     pub fn new(alloc: Global) -> Atoms
-        ensures { result ≡ record { owners = []; sums = []; placed = [] } }
+        ensures { result ≡ record { owners = []; sums = []; slack_list = [] } }
     {
         Atoms {
             alloc,
             owners: Owners::new(alloc),
             sums: Sums::new(alloc),
-            places: HashMap::new(alloc),
+            slacks: HashMap::new(alloc),
         }
     }
 
-    /// Gives the variable that stands for a term; `None` where none does. It takes no memory.
+    /// Gives the variable that means a term; `None` where none does. It takes no memory.
     pub fn var(&self, id: TermId) -> Option<u64>
         ensures { IsNumberOf self.now.owners id result }
     {
@@ -91,18 +91,18 @@ impl Atoms {
         self.owners.owner(y)
     }
 
-    /// Gives the place of an atom; `None` where it has none. It takes no memory.
-    pub fn place(&self, id: TermId) -> Option<Slack>
-        ensures { result ≡ place_in self.now.placed id }
+    /// Gives the slack variable of an atom; `None` where it has none. It takes no memory.
+    pub fn slack(&self, id: TermId) -> Option<Slack>
+        ensures { result ≡ slack_in self.now.slack_list id }
     {
-        match self.places.get(&id.0) {
+        match self.slacks.get(&id.0) {
             None => None,
-            Some(place) => Some(*place),
+            Some(slack) => Some(*slack),
         }
     }
 
     /// Watches a term: gives it a place, if it is an atom of linear arithmetic without one. The variables of its
-    /// form get variables of the board where they have none, of which bounds can be held then. So does their sum,
+    /// form get variables of the assignment where they have none, of which bounds can be held then. So does their sum,
     /// unless it has one variable, where neither it nor its opposite has one. Room for the atom's bounds is left to
     /// the caller.
     ///
@@ -113,46 +113,46 @@ impl Atoms {
         &mut self,
         table: &TermTable,
         id: TermId,
-        board: &mut Board,
+        assignment: &mut RealAssignment,
         bounds: &mut Bounds,
     ) -> Result<(), AtomStop>
         requires there { IsIn table.now id }
-        requires right { AtomsFit table.now self.old board.old bounds.old }
-        ensures right { AtomsFit table.now self.new board.new bounds.new }
-        ensures grows { GroundGrows (ground_of self.old.owners board.old) (ground_of self.new.owners board.new) }
+        requires right { AtomsFit table.now self.old assignment.old bounds.old }
+        ensures right { AtomsFit table.now self.new assignment.new bounds.new }
+        ensures grows { GroundGrows (ground_of self.old.owners assignment.old) (ground_of self.new.owners assignment.new) }
         ensures bounds { KeepBounds bounds.old bounds.new }
-        ensures watched { OnOk result (IsWatched (place_in self.new.placed id)
+        ensures watched { OnOk result (IsWatched (slack_in self.new.slack_list id)
             (constraint_of (positive_literal (term_at table.now id)))) }
         ensures others { (other : Number) → (id.0 ≡ other.0 → ⊥)
-            → place_in self.new.placed other ≡ place_in self.old.placed other }
+            → slack_in self.new.slack_list other ≡ slack_in self.old.slack_list other }
         ensures same { OnErr result ((other : Number)
-            → place_in self.new.placed other ≡ place_in self.old.placed other) }
-        ensures wide { IfErr result (OnAtomOverflow (StrainsAtom table.now self.new.owners board.new id)) }
-        ensures plain { constraint_of (positive_literal (term_at table.now id)) ≡ None → board.new ≡ board.old }
+            → slack_in self.new.slack_list other ≡ slack_in self.old.slack_list other) }
+        ensures wide { IfErr result (OnAtomOverflow (OverflowsAtom table.now self.new.owners assignment.new id)) }
+        ensures plain { constraint_of (positive_literal (term_at table.now id)) ≡ None → assignment.new ≡ assignment.old }
         ensures came { (ts : List Term) (n : ℕ) (es : List (ℕ × ℕ)) → Contains ts (term_at table.now id)
-            → IsReached ts n es (standing_in table.now self.old.owners board.old)
-            → ButForMemory (IsReached ts n es (standing_in table.now self.new.owners board.new)) result }
+            → IsReached ts n es (term_tableau_in table.now self.old.owners assignment.old)
+            → ButForMemory (IsReached ts n es (term_tableau_in table.now self.new.owners assignment.new)) result }
     {
-        if self.place(id).is_some() {
+        if self.slack(id).is_some() {
             return Ok(());
         }
         let Some(sides) = sides_of(table, id) else {
             return Ok(());
         };
         let form = difference_of(self.alloc, table, sides)?;
-        let made = place_of(
+        let made = slack_of(
             self.alloc,
             &mut self.owners,
             &mut self.sums,
-            board,
+            assignment,
             sides.kind,
             &form,
         );
         self.owners.are_once();
         table.ids_are_unique();
-        let place = made?;
+        let slack = made?;
         reach(bounds, self.owners.len())?;
-        self.places.insert(id.0, place)?;
+        self.slacks.insert(id.0, slack)?;
         Ok(())
     }
 }

@@ -12,14 +12,14 @@ pub mod laws;
 mod limits;
 mod numbering;
 mod owners;
-mod place;
 mod placing;
 mod reading;
+mod slack;
 mod stop;
 mod sums;
 
 pub use atoms::Atoms;
 pub use limits::bounds_by;
-pub use place::{Comparison, Slack};
 pub use reading::{AtomSides, difference_of, sides_of};
+pub use slack::{Comparison, Slack};
 pub use stop::AtomStop;

@@ -4,7 +4,7 @@ ghost use Rattle.std.specs.Prelude.{◌≡◌};
 ghost use Rattle.tableau.specs.Numbers.{number_of};
 ghost use Rattle.simplex_atoms.specs.Limits.{side_by, tilt_by, limit_of, limit_on, limits_meant, limits_by};
 
-use crate::place::{Comparison, Slack};
+use crate::slack::{Comparison, Slack};
 use delta_num::Delta;
 use ratio128::Ratio;
 use simplex_bounds::{Bound, Side};
@@ -33,14 +33,14 @@ fn tilt_by(side: Side, strict: bool) -> Ratio
 }
 
 /// Makes the bound of a place on a side, which the variable may not reach where it is strict.
-fn bound_on(place: Slack, literal: Lit, side: Side, strict: bool) -> Bound
-    ensures { limit_of result ≡ limit_on place literal side strict }
+fn bound_on(slack: Slack, literal: Lit, side: Side, strict: bool) -> Bound
+    ensures { limit_of result ≡ limit_on slack literal side strict }
 {
     Bound {
-        variable: place.variable,
+        variable: slack.variable,
         side,
         value: Delta {
-            base: place.bound,
+            base: slack.bound,
             tilt: tilt_by(side, strict),
         },
         literal,
@@ -51,21 +51,21 @@ fn bound_on(place: Slack, literal: Lit, side: Side, strict: bool) -> Bound
 /// the upper one. A bound that the variable may not reach has a tilt. It takes no memory.
 ///
 /// Source: Dutertre and de Moura, A Fast Linear-Arithmetic Solver for DPLL(T), CAV 2006.
-pub fn bounds_by(place: Slack, literal: Lit) -> (Option<Bound>, Option<Bound>)
-    ensures { limits_meant result ≡ limits_by place literal }
+pub fn bounds_by(slack: Slack, literal: Lit) -> (Option<Bound>, Option<Bound>)
+    ensures { limits_meant result ≡ limits_by slack literal }
 {
-    let up = is_negative(negative(place.factor));
-    let (side, strict) = match (place.kind, literal.positive) {
+    let up = is_negative(negative(slack.factor));
+    let (side, strict) = match (slack.kind, literal.positive) {
         (Comparison::Less, true) => (side_by(up), true),
         (Comparison::AtMost, true) => (side_by(up), false),
         (Comparison::Less, false) => (side_by(!up), false),
         (Comparison::AtMost, false) => (side_by(!up), true),
         (Comparison::Equal, true) => {
-            let lower = bound_on(place, literal, Side::Lower, false);
-            let upper = bound_on(place, literal, Side::Upper, false);
+            let lower = bound_on(slack, literal, Side::Lower, false);
+            let upper = bound_on(slack, literal, Side::Upper, false);
             return (Some(lower), Some(upper));
         }
         (Comparison::Equal, false) => return (None, None),
     };
-    (Some(bound_on(place, literal, side, strict)), None)
+    (Some(bound_on(slack, literal, side, strict)), None)
 }

@@ -66,7 +66,7 @@ impl Owners {
         }
     }
 
-    /// Gives the variable that stands for a term, if one does.
+    /// Gives the variable that means a term, if one does.
     pub(crate) fn var(&self, id: TermId) -> Option<u64>
         ensures { IsNumberOf self.now.list id result }
     {
@@ -95,7 +95,7 @@ impl Owners {
         self.list.push_reserved(None);
     }
 
-    /// Adds a variable that stands for a term for which none stands yet.
+    /// Adds a variable that means a term for which none stands yet.
     ///
     /// `NoMemory` comes where there is no memory; the variable then stands for no term.
     pub(crate) fn add_term(&mut self, id: TermId) -> Result<(), NoMemory>

@@ -8,27 +8,27 @@ ghost use Rattle.spec_tableaux.specs.SolvedForms.{AllVariables};
 ghost use Rattle.spec_tableaux.specs.Numbers.{numbers};
 ghost use Rattle.ratio128.specs.Meant.{fraction, overflow};
 ghost use Rattle.term_core.specs.Tables.{TableView};
-ghost use Rattle.spec_causes.specs.Standing.{AreEntriesOf};
+ghost use Rattle.spec_causes.specs.TermTableau.{AreEntriesOf};
 ghost use Rattle.spec_causes.specs.Reached.{IsLonger};
 ghost use Rattle.linear_form.specs.Meant.{form_meant, AreVariablesOf};
 ghost use Rattle.tableau.specs.Numbers.{number_of};
 ghost use Rattle.tableau.specs.Entries.{entries_of};
 ghost use Rattle.simplex_atoms.specs.Owners.{AreOwnersIn};
 ghost use Rattle.simplex_atoms.specs.Sums.{sign_by};
-ghost use Rattle.simplex_atoms.specs.Places.{IsSign, IsFormOf};
+ghost use Rattle.simplex_atoms.specs.Slacks.{IsSign, IsFormOf};
 ghost use Rattle.simplex_atoms.specs.Atoms.{ground_of, setting_of, AreCounted, IsGrounded, GroundGrows, IsMultiple, AreSums};
-ghost use Rattle.simplex_atoms.specs.Watching.{OnAtomOverflow, StrainsForm};
-ghost use Rattle.simplex_atoms.specs.Made.{IsMade, Covers, IsOnEntry, IsSingle, StrainsEntries};
-ghost use Rattle.simplex_atoms.specs.Standings.{owner_meant, ButForMemory, GroundLeads, TellsOwners};
+ghost use Rattle.simplex_atoms.specs.Watching.{OnAtomOverflow, OverflowsForm};
+ghost use Rattle.simplex_atoms.specs.Made.{IsMade, Covers, IsOnEntry, IsSingle, OverflowsEntries};
+ghost use Rattle.simplex_atoms.specs.TermTableauViews.{owner_meant, ButForMemory, GroundLeads, TellsOwners};
 
 use crate::numbering::entries_of;
 use crate::owners::Owners;
-use crate::place::{Comparison, Slack};
+use crate::slack::{Comparison, Slack};
 use crate::stop::AtomStop;
 use crate::sums::{Multiple, Sums};
 use linear_form::Form;
 use ratio128::{Ratio, Wide};
-use simplex_check::Board;
+use simplex_check::RealAssignment;
 use std::alloc::Global;
 use tableau::Entry;
 use tableau::numbers::{is_zero, negative, one, quotient};
@@ -100,23 +100,27 @@ fn on_multiple(kind: Comparison, constant: Ratio, multiple: Multiple) -> Slack
 }
 
 /// Adds a variable that is the sum of the entries, and gives its number.
-fn add_row(owners: &mut Owners, board: &mut Board, entries: &[Entry]) -> Result<u64, AtomStop>
-    requires counted { AreCounted (ground_of owners.old.list board.old) }
-    requires over { AllVariables (λ y. y < board.old.tableau.variables) (entries_of entries.now) }
+fn add_row(
+    owners: &mut Owners,
+    assignment: &mut RealAssignment,
+    entries: &[Entry],
+) -> Result<u64, AtomStop>
+    requires counted { AreCounted (ground_of owners.old.list assignment.old) }
+    requires over { AllVariables (λ y. y < assignment.old.tableau.variables) (entries_of entries.now) }
     requires longer { IsLonger (entries_of entries.now) }
-    ensures counted { AreCounted (ground_of owners.new.list board.new) }
-    ensures grows { GroundGrows (ground_of owners.old.list board.old) (ground_of owners.new.list board.new) }
-    ensures grounded { IsGrounded (ground_of owners.old.list board.old)
-        → IsGrounded (ground_of owners.new.list board.new) }
+    ensures counted { AreCounted (ground_of owners.new.list assignment.new) }
+    ensures grows { GroundGrows (ground_of owners.old.list assignment.old) (ground_of owners.new.list assignment.new) }
+    ensures grounded { IsGrounded (ground_of owners.old.list assignment.old)
+        → IsGrounded (ground_of owners.new.list assignment.new) }
     ensures there { (t : TableView) → AreOwnersIn t owners.old.list → AreOwnersIn t owners.new.list }
-    ensures is { IfOk result (IsMultiple (ground_of owners.new.list board.new) (entries_of entries.now) numbers.one) }
-    ensures wide { (constant : Ratio) → IfErr result (OnAtomOverflow (StrainsEntries board.new constant entries.now)) }
+    ensures is { IfOk result (IsMultiple (ground_of owners.new.list assignment.new) (entries_of entries.now) numbers.one) }
+    ensures wide { (constant : Ratio) → IfErr result (OnAtomOverflow (OverflowsEntries assignment.new constant entries.now)) }
     ensures came { ButForMemory ((t : TableView) (f : Meant)
         → AreEntriesOf (map (owner_meant t) owners.old.list) (entries_of entries.now) f.variables
-        → GroundLeads t f (ground_of owners.old.list board.old) (ground_of owners.new.list board.new)) result }
+        → GroundLeads t f (ground_of owners.old.list assignment.old) (ground_of owners.new.list assignment.new)) result }
 {
     owners.reserve()?;
-    let variable = board.add_row(entries)?;
+    let variable = assignment.add_row(entries)?;
     owners.add_none();
     Ok(variable)
 }
@@ -125,28 +129,28 @@ fn add_row(owners: &mut Owners, board: &mut Board, entries: &[Entry]) -> Result<
 fn on_row(
     owners: &mut Owners,
     sums: &mut Sums,
-    board: &mut Board,
+    assignment: &mut RealAssignment,
     kind: Comparison,
     constant: Ratio,
     entries: &[Entry],
 ) -> Result<Slack, AtomStop>
-    requires counted { AreCounted (ground_of owners.old.list board.old) }
-    requires sums { AreSums (ground_of owners.old.list board.old) sums.old }
-    requires over { AllVariables (λ y. y < board.old.tableau.variables) (entries_of entries.now) }
+    requires counted { AreCounted (ground_of owners.old.list assignment.old) }
+    requires sums { AreSums (ground_of owners.old.list assignment.old) sums.old }
+    requires over { AllVariables (λ y. y < assignment.old.tableau.variables) (entries_of entries.now) }
     requires longer { IsLonger (entries_of entries.now) }
-    ensures counted { AreCounted (ground_of owners.new.list board.new) }
-    ensures sums { AreSums (ground_of owners.new.list board.new) sums.new }
-    ensures grows { GroundGrows (ground_of owners.old.list board.old) (ground_of owners.new.list board.new) }
-    ensures grounded { IsGrounded (ground_of owners.old.list board.old)
-        → IsGrounded (ground_of owners.new.list board.new) }
+    ensures counted { AreCounted (ground_of owners.new.list assignment.new) }
+    ensures sums { AreSums (ground_of owners.new.list assignment.new) sums.new }
+    ensures grows { GroundGrows (ground_of owners.old.list assignment.old) (ground_of owners.new.list assignment.new) }
+    ensures grounded { IsGrounded (ground_of owners.old.list assignment.old)
+        → IsGrounded (ground_of owners.new.list assignment.new) }
     ensures there { (t : TableView) → AreOwnersIn t owners.old.list → AreOwnersIn t owners.new.list }
     ensures made { IfOk result (IsMade kind constant) }
-    ensures covers { IfOk result (Covers (ground_of owners.new.list board.new) entries.now) }
+    ensures covers { IfOk result (Covers (ground_of owners.new.list assignment.new) entries.now) }
     ensures unit { IfOk result (λ p. IsSign (number_of p.factor)) }
-    ensures wide { IfErr result (OnAtomOverflow (StrainsEntries board.new constant entries.now)) }
+    ensures wide { IfErr result (OnAtomOverflow (OverflowsEntries assignment.new constant entries.now)) }
     ensures came { ButForMemory ((t : TableView) (f : Meant)
         → AreEntriesOf (map (owner_meant t) owners.old.list) (entries_of entries.now) f.variables
-        → GroundLeads t f (ground_of owners.old.list board.old) (ground_of owners.new.list board.new)) result }
+        → GroundLeads t f (ground_of owners.old.list assignment.old) (ground_of owners.new.list assignment.new)) result }
 {
     let key = sums.key(entries)?;
     if let Some(known) = sums.find(&key) {
@@ -156,7 +160,7 @@ fn on_row(
         };
         return Ok(on_multiple(kind, constant, multiple));
     }
-    let variable = add_row(owners, board, entries)?;
+    let variable = add_row(owners, assignment, entries)?;
     sums.add(key, variable)?;
     let multiple = Multiple {
         variable,
@@ -167,37 +171,37 @@ fn on_row(
 
 /// Makes the place of the form that has this constant, and the sum of the entries: on the variable of the one entry,
 /// else on that of a row.
-fn place_by(
+fn slack_by(
     owners: &mut Owners,
     sums: &mut Sums,
-    board: &mut Board,
+    assignment: &mut RealAssignment,
     kind: Comparison,
     constant: Ratio,
     entries: &[Entry],
 ) -> Result<Slack, AtomStop>
-    requires counted { AreCounted (ground_of owners.old.list board.old) }
-    requires sums { AreSums (ground_of owners.old.list board.old) sums.old }
-    requires over { AllVariables (λ y. y < board.old.tableau.variables) (entries_of entries.now) }
-    ensures counted { AreCounted (ground_of owners.new.list board.new) }
-    ensures sums { AreSums (ground_of owners.new.list board.new) sums.new }
-    ensures grows { GroundGrows (ground_of owners.old.list board.old) (ground_of owners.new.list board.new) }
-    ensures grounded { IsGrounded (ground_of owners.old.list board.old)
-        → IsGrounded (ground_of owners.new.list board.new) }
+    requires counted { AreCounted (ground_of owners.old.list assignment.old) }
+    requires sums { AreSums (ground_of owners.old.list assignment.old) sums.old }
+    requires over { AllVariables (λ y. y < assignment.old.tableau.variables) (entries_of entries.now) }
+    ensures counted { AreCounted (ground_of owners.new.list assignment.new) }
+    ensures sums { AreSums (ground_of owners.new.list assignment.new) sums.new }
+    ensures grows { GroundGrows (ground_of owners.old.list assignment.old) (ground_of owners.new.list assignment.new) }
+    ensures grounded { IsGrounded (ground_of owners.old.list assignment.old)
+        → IsGrounded (ground_of owners.new.list assignment.new) }
     ensures there { (t : TableView) → AreOwnersIn t owners.old.list → AreOwnersIn t owners.new.list }
     ensures made { IfOk result (IsMade kind constant) }
-    ensures covers { IfOk result (Covers (ground_of owners.new.list board.new) entries.now) }
+    ensures covers { IfOk result (Covers (ground_of owners.new.list assignment.new) entries.now) }
     ensures on { IfOk result (IsOnEntry entries.now) }
-    ensures wide { IfErr result (OnAtomOverflow (StrainsEntries board.new constant entries.now)) }
+    ensures wide { IfErr result (OnAtomOverflow (OverflowsEntries assignment.new constant entries.now)) }
     ensures came { ButForMemory ((t : TableView) (f : Meant)
         → AreEntriesOf (map (owner_meant t) owners.old.list) (entries_of entries.now) f.variables
-        → GroundLeads t f (ground_of owners.old.list board.old) (ground_of owners.new.list board.new)) result }
+        → GroundLeads t f (ground_of owners.old.list assignment.old) (ground_of owners.new.list assignment.new)) result }
 {
     match single(entries) {
         Some(entry) => {
-            let place = on_variable(kind, constant, entry)?;
-            Ok(place)
+            let slack = on_variable(kind, constant, entry)?;
+            Ok(slack)
         }
-        None => on_row(owners, sums, board, kind, constant, entries),
+        None => on_row(owners, sums, assignment, kind, constant, entries),
     }
 }
 
@@ -206,33 +210,33 @@ fn place_by(
 ///
 /// `Wide` comes where an operation leaves the bound on fractions, and `Memory` where there is no memory. There may
 /// then be more variables and rows.
-pub(crate) fn place_of(
+pub(crate) fn slack_of(
     alloc: Global,
     owners: &mut Owners,
     sums: &mut Sums,
-    board: &mut Board,
+    assignment: &mut RealAssignment,
     kind: Comparison,
     form: &Form,
 ) -> Result<Slack, AtomStop>
-    requires counted { AreCounted (ground_of owners.old.list board.old) }
-    requires sums { AreSums (ground_of owners.old.list board.old) sums.old }
-    ensures counted { AreCounted (ground_of owners.new.list board.new) }
-    ensures sums { AreSums (ground_of owners.new.list board.new) sums.new }
-    ensures grows { GroundGrows (ground_of owners.old.list board.old) (ground_of owners.new.list board.new) }
-    ensures grounded { IsGrounded (ground_of owners.old.list board.old)
-        → IsGrounded (ground_of owners.new.list board.new) }
+    requires counted { AreCounted (ground_of owners.old.list assignment.old) }
+    requires sums { AreSums (ground_of owners.old.list assignment.old) sums.old }
+    ensures counted { AreCounted (ground_of owners.new.list assignment.new) }
+    ensures sums { AreSums (ground_of owners.new.list assignment.new) sums.new }
+    ensures grows { GroundGrows (ground_of owners.old.list assignment.old) (ground_of owners.new.list assignment.new) }
+    ensures grounded { IsGrounded (ground_of owners.old.list assignment.old)
+        → IsGrounded (ground_of owners.new.list assignment.new) }
     ensures there { (t : TableView) → AreVariablesOf t form.now → AreOwnersIn t owners.old.list
         → AreOwnersIn t owners.new.list }
     ensures kind { IfOk result (λ p. p.kind ≡ kind) }
     ensures is { IfOk result (λ p. (t : TableView)
-        → IsFormOf (setting_of t (ground_of owners.new.list board.new)) p (form_meant t form.now)) }
+        → IsFormOf (setting_of t (ground_of owners.new.list assignment.new)) p (form_meant t form.now)) }
     ensures wide { IfErr result (OnAtomOverflow (λ o. (t : TableView)
-        → StrainsForm t owners.new.list board.new (form_meant t form.now) o)) }
+        → OverflowsForm t owners.new.list assignment.new (form_meant t form.now) o)) }
     ensures came { ButForMemory ((t : TableView) → AreVariablesOf t form.now → TellsOwners t owners.old.list
-        → GroundLeads t (form_meant t form.now) (ground_of owners.old.list board.old)
-        (ground_of owners.new.list board.new)) result }
+        → GroundLeads t (form_meant t form.now) (ground_of owners.old.list assignment.old)
+        (ground_of owners.new.list assignment.new)) result }
 {
     let variables = form.variables(alloc)?;
-    let entries = entries_of(alloc, owners, board, &variables)?;
-    place_by(owners, sums, board, kind, form.constant(), &entries)
+    let entries = entries_of(alloc, owners, assignment, &variables)?;
+    slack_by(owners, sums, assignment, kind, form.constant(), &entries)
 }

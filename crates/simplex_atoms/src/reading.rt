@@ -7,16 +7,16 @@ ghost use Rattle.term_core.specs.Tables.{IsIn, term_at, positive_literal};
 ghost use Rattle.linear_form.specs.Meant.{AreVariablesOf};
 ghost use Rattle.simplex_atoms.specs.Watching.{kind_by, sides_meant, constraint_meant, HasSidesIn, Forms};
 
-use crate::place::Comparison;
+use crate::slack::Comparison;
 use crate::stop::AtomStop;
 use linear_form::{Form, FormJoin, combine, form_of};
 use std::alloc::Global;
 use term_core::{Head, Sort, TermId, TermTable};
 
-/// Says what an atom does: how the difference of its two sides stands to 0.
+/// Says what an atom does: how the difference of its two sides compares with 0.
 #[derive(Clone, Copy, Debug, PartialEq, Eq)]
 pub struct AtomSides {
-    /// How it stands to 0.
+    /// How it compares with 0.
     pub kind: Comparison,
     /// The atom.
     pub atom: TermId,

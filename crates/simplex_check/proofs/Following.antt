@@ -14,7 +14,7 @@ use Rattle.spec_tableaux.proofs.Sums.{plus_origin_right}
 use Rattle.tableau.specs.Views.{IsColumn, row_at}
 use Rattle.spec_strains.specs.Points.{deltas, point_in, state_at, delta_in}
 use Rattle.simplex_check.specs.Changes.{is_changed}
-use Rattle.spec_strains.specs.Strains.{StrainsMove, coefficient_in, product, sum_of_product}
+use Rattle.spec_strains.specs.CheckOverflows.{OverflowsMove, coefficient_in, product, sum_of_product}
 use Rattle.simplex_check.specs.declared.changes.ValueChange.{ValueChange}
 use Rattle.simplex_check.proofs.Points.{deltas_are_space}
 use Rattle.simplex_check.proofs.RowPlaces.{HasPlace, has_place}
@@ -27,11 +27,11 @@ follower_value rs x d v b c old step value m g s o e =
     ∙ sym (ap (λ q. cond q (deltas.plus (v b) (deltas.scale (coefficient_in rs b x) d)) (cond (b == x) (deltas.plus (v b) d) (v b))) m)
 
 pub follower_product : (rs : List (Row Number)) (vs : List (Pair Number)) (x : ℕ) (d : Pair Number) (b : ℕ) (c : Number) (o : Overflow) → is_basic b rs ≡ true → c ≡ coefficient_in rs b x
-    → delta_scaled c.fraction (delta_in d) ≡ Err o → StrainsMove (state_at rs vs) x d o
+    → delta_scaled c.fraction (delta_in d) ≡ Err o → OverflowsMove (state_at rs vs) x d o
 follower_product rs vs x d b c o m g h = product b m (ap (λ (n : Number). delta_scaled n.fraction (delta_in d)) (sym g) ∙ h)
 
 pub follower_sum : (rs : List (Row Number)) (vs : List (Pair Number)) (x : ℕ) (d : Pair Number) (b : ℕ) (c : Number) (old step : Pair Number) (o : Overflow) → is_basic b rs ≡ true → c ≡ coefficient_in rs b x
-    → step ≡ deltas.scale c d → old ≡ point_in vs b → delta_added (delta_in old) (delta_in step) ≡ Err o → StrainsMove (state_at rs vs) x d o
+    → step ≡ deltas.scale c d → old ≡ point_in vs b → delta_added (delta_in old) (delta_in step) ≡ Err o → OverflowsMove (state_at rs vs) x d o
 follower_sum rs vs x d b c old step o m g s e h =
     sum_of_product b m ((λ i. delta_added (delta_in (sym e i)) (delta_in (sym (s ∙ ap (λ k. deltas.scale k d) g) i))) ∙ h)
 

@@ -8,5 +8,5 @@ pub mod Summing
 pub mod Shifts
 pub mod Suspecting
 pub mod KeptFirst
-pub mod Settling
+pub mod UpdatingNonbasic
 pub mod Runs

@@ -11,10 +11,10 @@ use Rattle.spec_tableaux.specs.Rows.{Entry, Row, Solves, coefficient_of, row_of,
 use Rattle.spec_tableaux.specs.SolvedForms.{IsNonbasic, AllVariables, IsSolved, IsPivot}
 use Rattle.spec_tableaux.specs.Ranges.{Range, below}
 use Rattle.spec_tableaux.specs.LeastVariable.{State, RuleSays, Exchanges, Moves, exchange, is_out, goal_of, distance, moved}
-use Rattle.spec_tableaux.specs.Strains.{StrainsExchange}
+use Rattle.spec_tableaux.specs.CheckOverflows.{OverflowsExchange}
 use Rattle.spec_tableaux.specs.Numbers.{Number, numbers}
 use Rattle.spec_tableaux.proofs.Numbers.{numbers_are_ordered_field}
-use Rattle.spec_tableaux.proofs.Settling.{moved_moves}
+use Rattle.spec_tableaux.proofs.UpdatingNonbasic.{moved_moves}
 use Rattle.spec_tableaux.proofs.SolvedForms.{over_row}
 use Rattle.spec_tableaux.proofs.Steps.{moves_solve, exchange_made}
 use Rattle.spec_tableaux.proofs.Returns.{says_pivot}
@@ -22,10 +22,10 @@ use Rattle.spec_tableaux.proofs.Sums.{three, plus_origin_right}
 use Rattle.tableau.specs.Views.{TableauView, IsTableau, with_exchange}
 use Rattle.simplex_bounds.specs.Deltas.{pair_of}
 use Rattle.spec_strains.specs.Points.{deltas, point_in, Ranges, delta_in}
-use Rattle.simplex_check.specs.Boards.{BoardView, state_of}
+use Rattle.simplex_check.specs.Assignments.{AssignmentView, state_of}
 use Rattle.simplex_check.specs.Changes.{Lead, written}
 use Rattle.simplex_check.specs.Moves.{keeps}
-use Rattle.spec_strains.specs.Strains.{coefficient_in, Violates, goal, gap, StrainsMove, enters, settles, Strains, difference, quotient, move, rows}
+use Rattle.spec_strains.specs.CheckOverflows.{coefficient_in, Violates, goal, gap, OverflowsMove, enters, updates_nonbasic, CheckOverflows, difference, quotient, move, rows}
 use Rattle.simplex_check.specs.declared.changes.ValueChange.{ValueChange}
 use Rattle.simplex_check.proofs.Points.{deltas_are_space, same_point}
 use Rattle.simplex_check.proofs.Writing.{written_leads}
@@ -45,7 +45,7 @@ pub moved_solve : (rs : List (Row Number)) (x : ℕ) (d : Pair Number) (v w : �
 moved_solve rs x d v w i n h s = moves_solve deltas deltas_are_space rs x d v w i (moves_to rs x d v w n h) s
 
 -- an exchange that the rule says is made by such a move
-pub exchange_is_made : (ranges : Ranges) (b : BoardView) (u : TableauView) (ws : List (Pair Number)) (r x : ℕ) → IsSolved numbers b.tableau.rows → Solves deltas (point_in b.values) b.tableau.rows
+pub exchange_is_made : (ranges : Ranges) (b : AssignmentView) (u : TableauView) (ws : List (Pair Number)) (r x : ℕ) → IsSolved numbers b.tableau.rows → Solves deltas (point_in b.values) b.tableau.rows
     → IsPivot numbers b.tableau.rows r x → u ≡ with_exchange b.tableau r x → ((y : ℕ) → point_in ws y ≡ moved deltas b.tableau.rows x (distance deltas ranges (state_of b) r x) (point_in b.values) y)
     → Exchanges deltas ranges (state_of b) r x (state_of (record { tableau = u; values = ws }))
 exchange_is_made ranges b u ws r x i s p e h =
@@ -53,8 +53,8 @@ exchange_is_made ranges b u ws r x i s p e h =
     (exchange_made deltas deltas_are_space ranges (state_of b) r x (point_in ws) i s p.basic p.entry
     (moves_to b.tableau.rows x (distance deltas ranges (state_of b) r x) (point_in b.values) (point_in ws) p.nonbasic h))
 
-pub pivot_said : (ranges : Ranges) (t : State Number (Pair Number)) (b x : ℕ) → IsSolved numbers t.rows → RuleSays deltas ranges t (exchange b x) → IsPivot numbers t.rows b x
-pivot_said ranges t b x i says = says_pivot deltas deltas_are_space ranges t b x i says
+pub pivot_by_rule : (ranges : Ranges) (t : State Number (Pair Number)) (b x : ℕ) → IsSolved numbers t.rows → RuleSays deltas ranges t (exchange b x) → IsPivot numbers t.rows b x
+pivot_by_rule ranges t b x i says = says_pivot deltas deltas_are_space ranges t b x i says
 
 -- the variable of an entry is known
 entry_known : (n x : ℕ) (es : List (Entry Number)) → AllVariables (λ y. y < n) es → numbers.is_zero (coefficient_of numbers x es) ≡ false → x < n
@@ -85,23 +85,23 @@ pub gap_at : (ranges : Ranges) (t : State Number (Pair Number)) (y : ℕ) (g v d
 gap_at ranges t y g v d a b e = e ∙ (λ i. space_difference deltas (a i) (b i))
 
 -- overflows of the distance
-pub strains_difference : (ranges : Ranges) (t : State Number (Pair Number)) (y : ℕ) (g v : Pair Number) (o : Overflow) → Violates ranges t y → g ≡ goal ranges t y → v ≡ t.point y
-    → delta_subtracted (delta_in g) (delta_in v) ≡ Err o → Strains ranges t o
-strains_difference ranges t y g v o w a b e = difference y w ((λ i. delta_subtracted (delta_in (sym a i)) (delta_in (sym b i))) ∙ e)
+pub overflows_difference : (ranges : Ranges) (t : State Number (Pair Number)) (y : ℕ) (g v : Pair Number) (o : Overflow) → Violates ranges t y → g ≡ goal ranges t y → v ≡ t.point y
+    → delta_subtracted (delta_in g) (delta_in v) ≡ Err o → CheckOverflows ranges t o
+overflows_difference ranges t y g v o w a b e = difference y w ((λ i. delta_subtracted (delta_in (sym a i)) (delta_in (sym b i))) ∙ e)
 
-pub strains_quotient : (ranges : Ranges) (t : State Number (Pair Number)) (b x : ℕ) (d : Pair Number) (c : Number) (o : Overflow) → IsPivot numbers t.rows b x → Violates ranges t b → d ≡ gap ranges t b
-    → c ≡ coefficient_in t.rows b x → delta_divided (delta_in d) c.fraction ≡ Err o → Strains ranges t o
-strains_quotient ranges t b x d c o p w a e h = quotient b x p w ((λ i. delta_divided (delta_in (sym a i)) (sym e i).fraction) ∙ h)
+pub overflows_quotient : (ranges : Ranges) (t : State Number (Pair Number)) (b x : ℕ) (d : Pair Number) (c : Number) (o : Overflow) → IsPivot numbers t.rows b x → Violates ranges t b → d ≡ gap ranges t b
+    → c ≡ coefficient_in t.rows b x → delta_divided (delta_in d) c.fraction ≡ Err o → CheckOverflows ranges t o
+overflows_quotient ranges t b x d c o p w a e h = quotient b x p w ((λ i. delta_divided (delta_in (sym a i)) (sym e i).fraction) ∙ h)
 
 -- overflows of a move
-pub strains_settling : (ranges : Ranges) (t : State Number (Pair Number)) (y : ℕ) (d : Pair Number) → IsNonbasic t.rows y → Violates ranges t y → d ≡ gap ranges t y → (o : Overflow) → StrainsMove t y d o → Strains ranges t o
-strains_settling ranges t y d n w e o h = move y d (settles n w e) h
+pub overflows_settling : (ranges : Ranges) (t : State Number (Pair Number)) (y : ℕ) (d : Pair Number) → IsNonbasic t.rows y → Violates ranges t y → d ≡ gap ranges t y → (o : Overflow) → OverflowsMove t y d o → CheckOverflows ranges t o
+overflows_settling ranges t y d n w e o h = move y d (updates_nonbasic n w e) h
 
-pub strains_entering : (ranges : Ranges) (t : State Number (Pair Number)) (b x : ℕ) (d : Pair Number) → IsPivot numbers t.rows b x → Violates ranges t b → d ≡ distance deltas ranges t b x → (o : Overflow) → StrainsMove t x d o → Strains ranges t o
-strains_entering ranges t b x d p w e o h = move x d (enters b p w e) h
+pub overflows_entering : (ranges : Ranges) (t : State Number (Pair Number)) (b x : ℕ) (d : Pair Number) → IsPivot numbers t.rows b x → Violates ranges t b → d ≡ distance deltas ranges t b x → (o : Overflow) → OverflowsMove t x d o → CheckOverflows ranges t o
+overflows_entering ranges t b x d p w e o h = move x d (enters b p w e) h
 
-pub strains_rows : (ranges : Ranges) (t : State Number (Pair Number)) (b x : ℕ) → IsPivot numbers t.rows b x → (o : Overflow) → StrainsExchange t.rows b x o → Strains ranges t o
-strains_rows ranges t b x p o h = rows b x p h
+pub overflows_rows : (ranges : Ranges) (t : State Number (Pair Number)) (b x : ℕ) → IsPivot numbers t.rows b x → (o : Overflow) → OverflowsExchange t.rows b x o → CheckOverflows ranges t o
+overflows_rows ranges t b x p o h = rows b x p h
 
 -- a value and what it lacks
 pub reached_by : (a b d : Pair Number) → d ≡ space_difference deltas a b → a ≡ deltas.plus b d

@@ -13,8 +13,8 @@ use Rattle.spec_tableaux.proofs.Growing.{row_added}
 use Rattle.spec_tableaux.proofs.Steps.{agreeing_sums, same_eqb}
 use Rattle.tableau.specs.Views.{TableauView, IsTableau, with_variable, with_sum}
 use Rattle.spec_strains.specs.Points.{deltas, point_in, delta_in}
-use Rattle.simplex_check.specs.Boards.{BoardView, IsBoard}
-use Rattle.spec_strains.specs.Strains.{StrainsValue, product, sum_of_product}
+use Rattle.simplex_check.specs.Assignments.{AssignmentView, IsRealAssignment}
+use Rattle.spec_strains.specs.CheckOverflows.{OverflowsValue, product, sum_of_product}
 use Rattle.simplex_check.proofs.Points.{deltas_are_space, same_point, point_more}
 
 -- an entry more at the end
@@ -42,23 +42,23 @@ summed_more v whole rest more e sum q new s r p n = record {
 pub summed_all : (v : ℕ → Pair Number) (whole rest : List (Entry Number)) (sum : Pair Number) → Summed v whole rest sum → rest ≡ [] → sum ≡ sum_of deltas v whole
 summed_all v whole rest sum s r = s.sum_is ∙ ap (sum_of deltas v) (sym (s.whole_is ∙ ap (λ z. s.before ++ z) r ∙ append-nil s.before))
 
-pub strains_product : (v : ℕ → Pair Number) (whole rest more : List (Entry Number)) (e : Entry Number) (sum value : Pair Number) (o : Overflow) → Summed v whole rest sum → rest ≡ e ∷ more
-    → value ≡ v e.variable → delta_scaled e.coefficient.fraction (delta_in value) ≡ Err o → StrainsValue v whole o
-strains_product v whole rest more e sum value o s r g h = product s.before e more (s.whole_is ∙ ap (λ z. s.before ++ z) r) (ap (λ p. delta_scaled e.coefficient.fraction (delta_in p)) (sym g) ∙ h)
+pub overflows_product : (v : ℕ → Pair Number) (whole rest more : List (Entry Number)) (e : Entry Number) (sum value : Pair Number) (o : Overflow) → Summed v whole rest sum → rest ≡ e ∷ more
+    → value ≡ v e.variable → delta_scaled e.coefficient.fraction (delta_in value) ≡ Err o → OverflowsValue v whole o
+overflows_product v whole rest more e sum value o s r g h = product s.before e more (s.whole_is ∙ ap (λ z. s.before ++ z) r) (ap (λ p. delta_scaled e.coefficient.fraction (delta_in p)) (sym g) ∙ h)
 
-pub strains_sum : (v : ℕ → Pair Number) (whole rest more : List (Entry Number)) (e : Entry Number) (sum q : Pair Number) (o : Overflow) → Summed v whole rest sum → rest ≡ e ∷ more
-    → q ≡ deltas.scale e.coefficient (v e.variable) → delta_added (delta_in sum) (delta_in q) ≡ Err o → StrainsValue v whole o
-strains_sum v whole rest more e sum q o s r g h =
+pub overflows_sum : (v : ℕ → Pair Number) (whole rest more : List (Entry Number)) (e : Entry Number) (sum q : Pair Number) (o : Overflow) → Summed v whole rest sum → rest ≡ e ∷ more
+    → q ≡ deltas.scale e.coefficient (v e.variable) → delta_added (delta_in sum) (delta_in q) ≡ Err o → OverflowsValue v whole o
+overflows_sum v whole rest more e sum q o s r g h =
     sum_of_product s.before e more (s.whole_is ∙ ap (λ z. s.before ++ z) r) ((λ i. delta_added (delta_in (sym s.sum_is i)) (delta_in (sym g i))) ∙ h)
 
 -- the first of the rest is known, and so are the others
 pub over_first : (n : ℕ) (e : Entry Number) (rest more : List (Entry Number)) → rest ≡ e ∷ more → AllVariables (λ y. y < n) rest → (e.variable < n) × AllVariables (λ y. y < n) more
 over_first n e rest more r h = subst (AllVariables (λ y. y < n)) r h
 
--- a board with one variable more
+-- an assignment with one variable more
 pub variable_added : (t u : TableauView) (vs ws : List (Pair Number)) → u ≡ with_variable t → ws ≡ vs ++ deltas.origin ∷ [] → length vs ≡ t.variables → Solves deltas (point_in vs) t.rows
-    → IsBoard (record { tableau = u; values = ws })
-variable_added t u vs ws e g l s = subst (λ (b : BoardView). IsBoard b) (sym (λ i. record { tableau = e i; values = g i })) (record {
+    → IsRealAssignment (record { tableau = u; values = ws })
+variable_added t u vs ws e g l s = subst (λ (b : AssignmentView). IsRealAssignment b) (sym (λ i. record { tableau = e i; values = g i })) (record {
   lengths = length_push vs ∙ ap suc l;
   solves = subst (λ f. Solves deltas f t.rows) (same_point (point_in vs) (point_in (vs ++ deltas.origin ∷ [])) (λ y. sym (point_more vs y))) s;
 })
@@ -80,10 +80,10 @@ agreeing_solve n u v (r ∷ rs) h b o s = (
     or_true true = refl
     or_true false = refl
 
--- a board with a new variable that is a sum
+-- an assignment with a new variable that is a sum
 pub sum_added : (t u : TableauView) (vs ws : List (Pair Number)) (es : List (Entry Number)) (x : Pair Number) → IsTableau t → u ≡ with_sum t es → ws ≡ vs ++ x ∷ [] → x ≡ sum_of deltas (point_in vs) es
-    → AllVariables (λ y. y < t.variables) es → length vs ≡ t.variables → Solves deltas (point_in vs) t.rows → IsBoard (record { tableau = u; values = ws })
-sum_added t u vs ws es x is e g k o l s = subst (λ (b : BoardView). IsBoard b) (sym (λ i. record { tableau = e i; values = g i })) (record {
+    → AllVariables (λ y. y < t.variables) es → length vs ≡ t.variables → Solves deltas (point_in vs) t.rows → IsRealAssignment (record { tableau = u; values = ws })
+sum_added t u vs ws es x is e g k o l s = subst (λ (b : AssignmentView). IsRealAssignment b) (sym (λ i. record { tableau = e i; values = g i })) (record {
   lengths = length_push vs ∙ ap suc l;
   solves = (row_added deltas deltas_are_space (point_in (vs ++ x ∷ [])) t.rows t.variables es).1 (
     agreeing_solve t.variables (point_in vs) (point_in (vs ++ x ∷ [])) t.rows below is.basics_below is.entries_below s,

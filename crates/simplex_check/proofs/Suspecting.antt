@@ -17,7 +17,7 @@ use Rattle.spec_tableaux.specs.LeastVariable.{IsLeast, is_out}
 use Rattle.spec_tableaux.specs.Numbers.{Number, numbers}
 use Rattle.spec_tableaux.proofs.SolvedForms.{nonbasic_after, leaving_nonbasic, apart}
 use Rattle.spec_tableaux.proofs.Steps.{same_eqb}
-use Rattle.spec_strains.specs.Points.{deltas, Ranges, BoardState}
+use Rattle.spec_strains.specs.Points.{deltas, Ranges, AssignmentState}
 use Rattle.simplex_check.specs.Changes.{Lead, is_changed}
 use Rattle.simplex_check.specs.Suspects.{is_among, Suspect, SuspectBut}
 use Rattle.simplex_check.specs.declared.changes.ValueChange.{ValueChange}
@@ -109,7 +109,7 @@ noted_all z rest ys e (inl m) = absurd (let n : is_changed z rest ≡ false = ap
 noted_all z rest ys e (inr m) = m
 
 -- a suspect that violates no bound is taken out
-pub suspect_rest : (ranges : Ranges) (t : BoardState) (y : ℕ) (old new : List ℕ) → Suspect ranges t old → old ≡ y ∷ new → is_out deltas ranges t y ≡ false → Suspect ranges t new
+pub suspect_rest : (ranges : Ranges) (t : AssignmentState) (y : ℕ) (old new : List ℕ) → Suspect ranges t old → old ≡ y ∷ new → is_out deltas ranges t y ≡ false → Suspect ranges t new
 suspect_rest ranges t y old new s e n z o = by (among_first z y new (ap (is_among z) (sym e) ∙ s z o))
   where
     by : (y ≡ z) ⊎ (is_among z new ≡ true) → is_among z new ≡ true
@@ -117,7 +117,7 @@ suspect_rest ranges t y old new s e n z o = by (among_first z y new (ap (is_amon
     by (inr m) = m
 
 -- the least suspect that violates a bound is the least variable that does
-pub suspect_least : (ranges : Ranges) (t : BoardState) (y : ℕ) (old new : List ℕ) → Suspect ranges t old → old ≡ y ∷ new → ((z : ℕ) → is_among z new ≡ true → y < z) → is_out deltas ranges t y ≡ true
+pub suspect_least : (ranges : Ranges) (t : AssignmentState) (y : ℕ) (old new : List ℕ) → Suspect ranges t old → old ≡ y ∷ new → ((z : ℕ) → is_among z new ≡ true → y < z) → is_out deltas ranges t y ≡ true
     → IsLeast (is_out deltas ranges t) y × SuspectBut ranges t y new
 suspect_least ranges t y old new s e a o = (record { holds = o; least = λ z l. at z l (is_out deltas ranges t z) refl }, λ z p. by z (among_first z y new (ap (is_among z) (sym e) ∙ s z p)))
   where
@@ -133,7 +133,7 @@ suspect_least ranges t y old new s e a o = (record { holds = o; least = λ z l. 
     at z l true p = absurd (none z l (by z (among_first z y new (ap (is_among z) (sym e) ∙ s z p))))
     at z l false p = refl
 
-pub suspect_none : (ranges : Ranges) (t : BoardState) (ys : List ℕ) → Suspect ranges t ys → ys ≡ [] → (y : ℕ) → is_out deltas ranges t y ≡ false
+pub suspect_none : (ranges : Ranges) (t : AssignmentState) (ys : List ℕ) → Suspect ranges t ys → ys ≡ [] → (y : ℕ) → is_out deltas ranges t y ≡ false
 suspect_none ranges t ys s e y = at (is_out deltas ranges t y) refl
   where
     at : (q : Bool) → is_out deltas ranges t y ≡ q → q ≡ false
@@ -141,7 +141,7 @@ suspect_none ranges t ys s e y = at (is_out deltas ranges t y) refl
     at false p = refl
 
 -- after an exchange each variable that violates a bound did so before, or has changed
-pub suspect_exchange : (ranges : Ranges) (t u : BoardState) (b x : ℕ) (w : ℕ → Pair Number) (cs : List ValueChange) (old new : List ℕ) → IsPivot numbers t.rows b x → u.rows ≡ exchanged numbers b x t.rows
+pub suspect_exchange : (ranges : Ranges) (t u : AssignmentState) (b x : ℕ) (w : ℕ → Pair Number) (cs : List ValueChange) (old new : List ℕ) → IsPivot numbers t.rows b x → u.rows ≡ exchanged numbers b x t.rows
     → Lead t.point w cs → ((y : ℕ) → u.point y ≡ w y) → is_changed x cs ≡ true → SuspectBut ranges t b old → ((z : ℕ) → is_among z old ≡ true → is_among z new ≡ true)
     → ((z : ℕ) → is_changed z cs ≡ true → is_among z new ≡ true) → Suspect ranges u new
 suspect_exchange ranges t u b x w cs old new p r lead point first s kept noted z out = by (is_changed z cs) refl

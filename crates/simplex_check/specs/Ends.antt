@@ -10,35 +10,35 @@ use Rattle.sat_budget.specs.declared.limits.Stop.TheVariants as stops
 use Rattle.tableau.specs.declared.stops.RowStop.{RowStop}
 use Rattle.tableau.specs.declared.stops.RowStop.TheVariants as row_stops
 use Rattle.spec_strains.specs.Points.{deltas, Ranges}
-use Rattle.simplex_check.specs.Boards.{BoardView, state_of, IsBasisOf}
-use Rattle.spec_strains.specs.Strains.{Strains}
-use Rattle.spec_strains.specs.Runs.{SettlesBelow, Ran, Stopped, WantsMore}
+use Rattle.simplex_check.specs.Assignments.{AssignmentView, state_of, IsBasisOf}
+use Rattle.spec_strains.specs.CheckOverflows.{CheckOverflows}
+use Rattle.spec_strains.specs.Runs.{UpdatesBelow, Ran, Stopped, WantsMore}
 use Rattle.simplex_check.specs.declared.check.CheckOutcome.{CheckOutcome}
 use Rattle.simplex_check.specs.declared.check.CheckOutcome.TheVariants.{Fine, Crossed, Conflict}
 
--- the overflow is one of a step at the board, whose basic variables and values come with it
-abbrev pub IsStrainOf : Ranges → BoardView → Strain → Type 0
-IsStrainOf ranges b s = Strains ranges (state_of b) (overflow s.wide) × IsBasisOf b s.basis
+-- the overflow is one of a step at the assignment, whose basic variables and values come with it
+abbrev pub IsOverflowOf : Ranges → AssignmentView → Strain → Type 0
+IsOverflowOf ranges b s = CheckOverflows ranges (state_of b) (overflow s.wide) × IsBasisOf b s.basis
 
--- what a step tells that stopped at the board
-abbrev pub StopsStep : Ranges → BoardView → Stop → Type 0
-StopsStep ranges b (Strained s) = IsStrainOf ranges b s
+-- what a step tells that stopped at the assignment
+abbrev pub StopsStep : Ranges → AssignmentView → Stop → Type 0
+StopsStep ranges b (Strained s) = IsOverflowOf ranges b s
 StopsStep ranges b (Pivots n) = ⊥
 StopsStep ranges b stops.Memory = Unit {0}
 
--- the same where nonbasic variables were on the way from the board b to the bounds that they violated
-abbrev pub StopsSettling : Ranges → BoardView → BoardView → Stop → Type 0
-StopsSettling ranges b c stop = ((n : ℕ) × SettlesBelow ranges n (state_of b) (state_of c)) × StopsStep ranges c stop
+-- the same where nonbasic variables were on the way from the assignment b to the bounds that they violated
+abbrev pub StopsUpdating : Ranges → AssignmentView → AssignmentView → Stop → Type 0
+StopsUpdating ranges b c stop = ((n : ℕ) × UpdatesBelow ranges n (state_of b) (state_of c)) × StopsStep ranges c stop
 
--- the stop of a row's change, with the basis of the board
-abbrev pub IsStopOf : BoardView → RowStop → Stop → Type 0
+-- the stop of a row's change, with the basis of the assignment
+abbrev pub IsStopOf : AssignmentView → RowStop → Stop → Type 0
 IsStopOf b (row_stops.Wide w) (Strained s) = (s.wide ≡ w) × IsBasisOf b s.basis
 IsStopOf b row_stops.Memory (Strained s) = ⊥
 IsStopOf b stop (Pivots n) = ⊥
 IsStopOf b stop stops.Memory = Unit {0}
 
--- what a check does to a board b and a budget old, by its result
-abbrev pub EndsCheck : Ranges → BoardView → BoardView → BudgetView → BudgetView → Result CheckOutcome Stop → Type 0
+-- what a check does to an assignment b and a budget old, by its result
+abbrev pub EndsCheck : Ranges → AssignmentView → AssignmentView → BudgetView → BudgetView → Result CheckOutcome Stop → Type 0
 EndsCheck ranges b c old new (Ok Fine) =
     Ran ranges (state_of b) (state_of c) old.exchanges new.exchanges × RuleSays deltas ranges (state_of c) done
 EndsCheck ranges b c old new (Ok (Conflict y)) =
@@ -47,7 +47,7 @@ EndsCheck ranges b c old new (Ok (Crossed y)) = (c ≡ b) × (new ≡ old) × Ru
 EndsCheck ranges b c old new (Err (Pivots n)) =
     Ran ranges (state_of b) (state_of c) old.exchanges new.exchanges × AreSpent (WantsMore ranges (state_of c)) new n
 EndsCheck ranges b c old new (Err (Strained s)) =
-    Stopped ranges (state_of b) (state_of c) old.exchanges new.exchanges × IsStrainOf ranges c s
+    Stopped ranges (state_of b) (state_of c) old.exchanges new.exchanges × IsOverflowOf ranges c s
 EndsCheck ranges b c old new (Err stops.Memory) =
     Ran ranges (state_of b) (state_of c) old.exchanges new.exchanges
     ⊎ Stopped ranges (state_of b) (state_of c) old.exchanges new.exchanges

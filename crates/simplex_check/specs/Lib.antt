@@ -1,5 +1,5 @@
 -- Tableaus with a value of each variable, and what a feasibility check does to them.
-pub mod Boards
+pub mod Assignments
 pub mod Kept
 pub mod Changes
 pub mod Moves

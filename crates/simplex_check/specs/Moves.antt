@@ -9,11 +9,11 @@ use Rattle.simplex_check.specs.declared.rule.Move.{Move}
 use Rattle.simplex_check.specs.declared.rule.Move.TheVariants.{Done, Crossed, Conflict, Exchange}
 
 -- what the least-variable rule says by a move
-abbrev pub said : Move → RuleMove
-said Done = done
-said (Crossed y) = crossed y
-said (Conflict b) = stuck b
-said (Exchange b x) = exchange b x
+abbrev pub rule_move : Move → RuleMove
+rule_move Done = done
+rule_move (Crossed y) = crossed y
+rule_move (Conflict b) = stuck b
+rule_move (Exchange b x) = exchange b x
 
 -- the value x keeps the bounds of a range
 abbrev pub keeps : Range (Pair Number) → Pair Number → Bool

@@ -2,10 +2,10 @@
 use Rattle.std.specs.Prelude.{◌≡◌, ◌≤◌, ◌<◌, ℕ, Bool, true, false, ◌==◌, ◌||◌, ◌⊎◌, List, [], ◌∷◌, length, take, get_or, Contains}
 use Rattle.spec_tableaux.specs.Spaces.{Pair}
 use Rattle.spec_tableaux.specs.Numbers.{Number}
-use Rattle.spec_tableaux.specs.Ranges.{settled_value}
+use Rattle.spec_tableaux.specs.Ranges.{value_in_range}
 use Rattle.spec_tableaux.specs.LeastVariable.{is_out}
 use Rattle.spec_tableaux.specs.SolvedForms.{IsNonbasic}
-use Rattle.spec_strains.specs.Points.{deltas, point_in, Ranges, BoardState}
+use Rattle.spec_strains.specs.Points.{deltas, point_in, Ranges, AssignmentState}
 use Rattle.simplex_bounds.specs.Held.{RespectsBound}
 use Rattle.simplex_bounds.specs.declared.bounds.Bound.{Bound}
 use Rattle.simplex_check.specs.declared.rule.Move.{Move}
@@ -17,15 +17,15 @@ is_among y [] = false
 is_among y (z ∷ zs) = (z == y) || is_among y zs
 
 -- each basic variable that violates a bound is one of them
-abbrev pub Suspect : Ranges → BoardState → List ℕ → Type 0
+abbrev pub Suspect : Ranges → AssignmentState → List ℕ → Type 0
 Suspect ranges t ys = (y : ℕ) → is_out deltas ranges t y ≡ true → is_among y ys ≡ true
 
 -- the same but for the variable b
-abbrev pub SuspectBut : Ranges → BoardState → ℕ → List ℕ → Type 0
+abbrev pub SuspectBut : Ranges → AssignmentState → ℕ → List ℕ → Type 0
 SuspectBut ranges t b ys = (y : ℕ) → is_out deltas ranges t y ≡ true → (is_among y ys ≡ true) ⊎ (y ≡ b)
 
 -- the same but for the variable that leaves, if there is one
-abbrev pub SuspectAfter : Ranges → BoardState → Move → List ℕ → Type 0
+abbrev pub SuspectAfter : Ranges → AssignmentState → Move → List ℕ → Type 0
 SuspectAfter ranges t (Exchange b x) ys = SuspectBut ranges t b ys
 SuspectAfter ranges t _ ys = Unit {0}
 
@@ -38,8 +38,8 @@ pub record HaveSuspects (before after : List (Pair Number)) (old new : List ℕ)
 
 -- A variable is looked at: where it is nonbasic it goes to the bound that it violates, and the others stay. What is basic and violates
 -- a bound then is a suspect, or did so before and is not this one.
-pub record LooksAt (ranges : Ranges) (y : ℕ) (t u : BoardState) (old new : List ℕ) : Type 0 where
-  pub settled : IsNonbasic t.rows y → u.point y ≡ settled_value deltas (ranges y) (t.point y)
+pub record LooksAt (ranges : Ranges) (y : ℕ) (t u : AssignmentState) (old new : List ℕ) : Type 0 where
+  pub nonbasic_updated : IsNonbasic t.rows y → u.point y ≡ value_in_range deltas (ranges y) (t.point y)
   pub others : (z : ℕ) → IsNonbasic t.rows z → (z == y) ≡ false → u.point z ≡ t.point z
   pub kept : (z : ℕ) → is_among z old ≡ true → is_among z new ≡ true
   pub noted : (z : ℕ) → is_out deltas ranges u z ≡ true → (is_among z new ≡ true) ⊎ ((is_out deltas ranges t z ≡ true) × ((z == y) ≡ false))

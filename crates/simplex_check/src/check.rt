@@ -1,14 +1,14 @@
 //! The feasibility check.
 
 ghost use Rattle.std.specs.Prelude.{◌≡◌, ◌≤◌, ◌<◌, ℕ, true, OnOk, OnErr, IfOk, IfErr};
-ghost use Rattle.spec_tableaux.specs.LeastVariable.{RuleSays, Exchanges, Settles, exchange};
+ghost use Rattle.spec_tableaux.specs.LeastVariable.{RuleSays, Exchanges, UpdatesNonbasic, exchange};
 ghost use Rattle.spec_strains.specs.Points.{deltas};
 ghost use Rattle.simplex_bounds.specs.Held.{ranges_in};
-ghost use Rattle.simplex_check.specs.Boards.{IsBoard, state_of};
-ghost use Rattle.simplex_check.specs.Ends.{EndsCheck, StopsStep, StopsSettling};
+ghost use Rattle.simplex_check.specs.Assignments.{IsRealAssignment, state_of};
+ghost use Rattle.simplex_check.specs.Ends.{EndsCheck, StopsStep, StopsUpdating};
 ghost use Rattle.simplex_check.specs.Suspects.{is_among, Suspect, SuspectBut, KeepsFirst, AreDue, LooksAt};
 
-use crate::board::Board;
+use crate::assignment::RealAssignment;
 use crate::rule::Move;
 use crate::suspects::Suspects;
 use sat_budget::{Budget, BudgetStop, Stop};
@@ -26,7 +26,7 @@ pub enum CheckOutcome {
     Conflict(u64),
 }
 
-impl Board {
+impl RealAssignment {
     /// Lists the variables of the bounds from a place on. `NoMemory` comes where the list finds no memory.
     fn due(&self, bounds: &Bounds, from: u64) -> Result<Suspects, NoMemory>
         ensures due { IfOk result (λ due. AreDue from bounds.now.held due) }
@@ -43,7 +43,7 @@ impl Board {
     /// Looks at a variable: a nonbasic one goes to the bound that it violates, and a basic one is a suspect then.
     fn look_at(&mut self, bounds: &Bounds, y: u64, suspects: &mut Suspects) -> Result<(), Stop>
         requires known { y < self.old.tableau.variables }
-        ensures board { IsBoard self.new }
+        ensures assignment { IsRealAssignment self.new }
         ensures tableau { self.new.tableau ≡ self.old.tableau }
         ensures looked { OnOk result (LooksAt (ranges_in bounds.now.held) y (state_of self.old) (state_of self.new)
             suspects.old suspects.new) }
@@ -57,7 +57,7 @@ impl Board {
                 Err(_) => Err(Stop::Memory),
             };
         }
-        match self.settle_one(bounds, y, suspects) {
+        match self.update_one(bounds, y, suspects) {
             Ok(()) => Ok(()),
             Err(stop) => Err(self.stop_of(stop)),
         }
@@ -65,13 +65,13 @@ impl Board {
 
     /// Lets each nonbasic variable that violates a bound go to it, the least first, where the values keep the first bounds, as
     /// many as `kept` says. Gives variables among which are all basic ones that violate a bound then.
-    fn settle(&mut self, bounds: &Bounds, kept: u64) -> Result<Suspects, Stop>
+    fn update_nonbasic(&mut self, bounds: &Bounds, kept: u64) -> Result<Suspects, Stop>
         requires known { bounds.now.variables ≤ self.old.tableau.variables }
         requires kept { KeepsFirst kept bounds.now.held self.old.values }
         ensures tableau { self.new.tableau ≡ self.old.tableau }
-        ensures settles { IfOk result (λ suspects. Settles deltas (ranges_in bounds.now.held) (state_of self.old)
+        ensures updates_nonbasic { IfOk result (λ suspects. UpdatesNonbasic deltas (ranges_in bounds.now.held) (state_of self.old)
             (state_of self.new) × Suspect (ranges_in bounds.now.held) (state_of self.new) suspects) }
-        ensures stops { IfErr result (λ stop. StopsSettling (ranges_in bounds.now.held) self.old self.new stop) }
+        ensures stops { IfErr result (λ stop. StopsUpdating (ranges_in bounds.now.held) self.old self.new stop) }
     {
         self.values_solve_the_rows();
         bounds.held_are_of_variables();
@@ -151,7 +151,7 @@ impl Board {
         if let Some(y) = bounds.crossed() {
             return Ok(CheckOutcome::Crossed(y));
         }
-        let mut suspects = match self.settle(bounds, kept) {
+        let mut suspects = match self.update_nonbasic(bounds, kept) {
             Ok(suspects) => suspects,
             Err(stop) => return Err(stop),
         };

@@ -7,7 +7,7 @@
 //! rules for the simplex method, 1977.
 #![tactic(auto)]
 
-mod board;
+mod assignment;
 mod changes;
 mod check;
 mod entering;
@@ -18,6 +18,6 @@ mod stepping;
 mod sums;
 mod suspects;
 
-pub use board::Board;
+pub use assignment::RealAssignment;
 pub use check::CheckOutcome;
 pub use rule::Move;

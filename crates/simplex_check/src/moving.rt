@@ -7,7 +7,7 @@ ghost use Rattle.tableau.specs.Views.{row_at, OnRowOverflow};
 ghost use Rattle.simplex_bounds.specs.Deltas.{pair_of};
 ghost use Rattle.spec_strains.specs.Points.{deltas, point_in, state_at};
 ghost use Rattle.simplex_check.specs.Changes.{ChangesAreBelow, Lead, is_changed};
-ghost use Rattle.spec_strains.specs.Strains.{StrainsMove};
+ghost use Rattle.spec_strains.specs.CheckOverflows.{OverflowsMove};
 
 use crate::changes::{ValueChange, value_at};
 use delta_num::Delta;
@@ -29,7 +29,7 @@ fn follower(
     ensures known { IfOk result (λ c. c.variable < tableau.now.variables) }
     ensures value { IfOk result (λ c. pair_of c.value
         ≡ moved deltas tableau.now.rows x (pair_of d) (point_in (map pair_of values.now)) c.variable) }
-    ensures wide { IfErr result (OnRowOverflow (StrainsMove (state_at tableau.now.rows (map pair_of values.now)) x
+    ensures wide { IfErr result (OnRowOverflow (OverflowsMove (state_at tableau.now.rows (map pair_of values.now)) x
         (pair_of d))) }
 {
     tableau.rows_are_in_solved_form();
@@ -58,7 +58,7 @@ pub(crate) fn changes_of(
     ensures first { IfOk result (λ cs. is_changed first.variable cs.items ≡ true) }
     ensures lead { IfOk result (λ cs. Lead (point_in (map pair_of values.now))
         (moved deltas tableau.now.rows first.variable (pair_of d) (point_in (map pair_of values.now))) cs.items) }
-    ensures wide { IfErr result (OnRowOverflow (StrainsMove (state_at tableau.now.rows (map pair_of values.now)) first.variable
+    ensures wide { IfErr result (OnRowOverflow (OverflowsMove (state_at tableau.now.rows (map pair_of values.now)) first.variable
         (pair_of d))) }
 {
     let mut changes = Vec::new(alloc);

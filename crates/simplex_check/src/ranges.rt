@@ -32,9 +32,9 @@ pub(crate) fn goal_of(range: Range, up: bool) -> Delta
 
 /// Gives the bound of a range that a value violates, if there is one.
 pub(crate) fn violated(range: Range, x: Delta) -> Option<Delta>
-    ensures { MatchOption result (ranges.settled_value deltas (range_of range) (pair_of x) ≡ pair_of x)
+    ensures { MatchOption result (ranges.value_in_range deltas (range_of range) (pair_of x) ≡ pair_of x)
         (λ bound. (keeps (range_of range) (pair_of x) ≡ false)
-        × (pair_of bound ≡ ranges.settled_value deltas (range_of range) (pair_of x))
+        × (pair_of bound ≡ ranges.value_in_range deltas (range_of range) (pair_of x))
         × (pair_of bound
         ≡ rule.goal_of deltas (range_of range) (ranges.below deltas (pair_of x) (range_of range).lower))) }
 {

@@ -5,18 +5,18 @@ ghost use Rattle.spec_tableaux.specs.Ranges.{is_crossed};
 ghost use Rattle.spec_tableaux.specs.LeastVariable as rule;
 ghost use Rattle.spec_strains.specs.Points.{deltas};
 ghost use Rattle.simplex_bounds.specs.Held.{ranges_in};
-ghost use Rattle.simplex_check.specs.Boards.{state_of};
-ghost use Rattle.simplex_check.specs.Moves.{said};
+ghost use Rattle.simplex_check.specs.Assignments.{state_of};
+ghost use Rattle.simplex_check.specs.Moves.{rule_move};
 ghost use Rattle.simplex_check.specs.Suspects.{Suspect, SuspectBut, SuspectAfter};
 
-use crate::board::Board;
+use crate::assignment::RealAssignment;
 use crate::entering::find_entering;
 use crate::ranges::is_within;
 use crate::suspects::Suspects;
 use simplex_bounds::Bounds;
 use simplex_bounds::ranges::below;
 
-/// Says what the least-variable rule says at a board with bounds.
+/// Says what the least-variable rule says at an assignment with bounds.
 #[derive(Clone, Copy, PartialEq, Eq, Debug)]
 pub enum Move {
     /// Each bound is kept.
@@ -30,24 +30,24 @@ pub enum Move {
 }
 
 /// Tells whether a variable is basic and violates a bound.
-fn is_out(board: &Board, bounds: &Bounds, y: u64) -> bool
-    ensures { result ≡ rule.is_out deltas (ranges_in bounds.now.held) (state_of board.now) y }
+fn is_out(assignment: &RealAssignment, bounds: &Bounds, y: u64) -> bool
+    ensures { result ≡ rule.is_out deltas (ranges_in bounds.now.held) (state_of assignment.now) y }
 {
-    if !board.is_basic(y) {
+    if !assignment.is_basic(y) {
         return false;
     }
-    !is_within(bounds.range(y), board.value(y))
+    !is_within(bounds.range(y), assignment.value(y))
 }
 
 /// Gives the least basic variable that violates a bound.
-fn find_leaving(board: &Board, bounds: &Bounds) -> Option<u64>
+fn find_leaving(assignment: &RealAssignment, bounds: &Bounds) -> Option<u64>
     ensures { MatchOption result
-        ((y : ℕ) → rule.is_out deltas (ranges_in bounds.now.held) (state_of board.now) y ≡ false)
-        (λ b. rule.IsLeast (rule.is_out deltas (ranges_in bounds.now.held) (state_of board.now)) b) }
+        ((y : ℕ) → rule.is_out deltas (ranges_in bounds.now.held) (state_of assignment.now) y ≡ false)
+        (λ b. rule.IsLeast (rule.is_out deltas (ranges_in bounds.now.held) (state_of assignment.now)) b) }
 {
-    board.tableau().rows_are_in_solved_form();
-    for y in 0..board.tableau().variables_len() {
-        if is_out(board, bounds, y) {
+    assignment.tableau().rows_are_in_solved_form();
+    for y in 0..assignment.tableau().variables_len() {
+        if is_out(assignment, bounds, y) {
             return Some(y);
         }
     }
@@ -55,29 +55,29 @@ fn find_leaving(board: &Board, bounds: &Bounds) -> Option<u64>
 }
 
 /// Takes suspects out up to the least that is basic and violates a bound, and gives it.
-fn pop_leaving(board: &Board, bounds: &Bounds, suspects: &mut Suspects) -> Option<u64>
-    requires { Suspect (ranges_in bounds.now.held) (state_of board.now) suspects.old }
+fn pop_leaving(assignment: &RealAssignment, bounds: &Bounds, suspects: &mut Suspects) -> Option<u64>
+    requires { Suspect (ranges_in bounds.now.held) (state_of assignment.now) suspects.old }
     ensures { MatchOption result
-        ((y : ℕ) → rule.is_out deltas (ranges_in bounds.now.held) (state_of board.now) y ≡ false)
-        (λ b. rule.IsLeast (rule.is_out deltas (ranges_in bounds.now.held) (state_of board.now)) b
-        × SuspectBut (ranges_in bounds.now.held) (state_of board.now) b suspects.new) }
+        ((y : ℕ) → rule.is_out deltas (ranges_in bounds.now.held) (state_of assignment.now) y ≡ false)
+        (λ b. rule.IsLeast (rule.is_out deltas (ranges_in bounds.now.held) (state_of assignment.now)) b
+        × SuspectBut (ranges_in bounds.now.held) (state_of assignment.now) b suspects.new) }
 {
     while let Some(y) = suspects.pop() {
-        if is_out(board, bounds, y) {
+        if is_out(assignment, bounds, y) {
             return Some(y);
         }
     }
     None
 }
 
-impl Board {
+impl RealAssignment {
     /// Gives what the least-variable rule says. It takes no memory.
     ///
     /// Where bounds cross, it is the least variable whose bounds do. Else the least basic variable that violates a
     /// bound leaves, and the least variable of its row that can move enters.
     /// Source: Bland, New finite pivoting rules for the simplex method, 1977.
     pub fn next_move(&self, bounds: &Bounds) -> Move
-        ensures { rule.RuleSays deltas (ranges_in bounds.now.held) (state_of self.now) (said result) }
+        ensures { rule.RuleSays deltas (ranges_in bounds.now.held) (state_of self.now) (rule_move result) }
     {
         if let Some(y) = bounds.crossed() {
             return Move::Crossed(y);
@@ -92,7 +92,7 @@ impl Board {
     fn move_of(&self, bounds: &Bounds, leaving: u64) -> Move
         requires uncrossed { (y : ℕ) → is_crossed deltas (ranges_in bounds.now.held) y ≡ false }
         requires out { rule.IsLeast (rule.is_out deltas (ranges_in bounds.now.held) (state_of self.now)) leaving }
-        ensures says { rule.RuleSays deltas (ranges_in bounds.now.held) (state_of self.now) (said result) }
+        ensures says { rule.RuleSays deltas (ranges_in bounds.now.held) (state_of self.now) (rule_move result) }
         ensures left { (ys : List ℕ) → SuspectBut (ranges_in bounds.now.held) (state_of self.now) leaving ys
             → SuspectAfter (ranges_in bounds.now.held) (state_of self.now) result ys }
     {
@@ -113,7 +113,7 @@ impl Board {
     pub(crate) fn next_among(&self, bounds: &Bounds, suspects: &mut Suspects) -> Move
         requires uncrossed { (y : ℕ) → is_crossed deltas (ranges_in bounds.now.held) y ≡ false }
         requires suspect { Suspect (ranges_in bounds.now.held) (state_of self.now) suspects.old }
-        ensures says { rule.RuleSays deltas (ranges_in bounds.now.held) (state_of self.now) (said result) }
+        ensures says { rule.RuleSays deltas (ranges_in bounds.now.held) (state_of self.now) (rule_move result) }
         ensures suspect { SuspectAfter (ranges_in bounds.now.held) (state_of self.now) result suspects.new }
     {
         let Some(leaving) = pop_leaving(self, bounds, suspects) else {

@@ -3,19 +3,19 @@
 ghost use Rattle.std.specs.Prelude.{◌≡◌, ◌<◌, ℕ, ◌==◌, true, false, OnOk, OnErr, IfOk, IfErr};
 ghost use Rattle.spec_tableaux.specs.Rows.{is_basic};
 ghost use Rattle.spec_tableaux.specs.SolvedForms.{IsNonbasic};
-ghost use Rattle.spec_tableaux.specs.Ranges.{settled_value};
+ghost use Rattle.spec_tableaux.specs.Ranges.{value_in_range};
 ghost use Rattle.spec_tableaux.specs.LeastVariable.{RuleSays, Exchanges, exchange, distance, moved};
 ghost use Rattle.tableau.specs.Numbers.{number_of};
 ghost use Rattle.tableau.specs.Views.{OnRowOverflow};
 ghost use Rattle.simplex_bounds.specs.Deltas.{pair_of};
 ghost use Rattle.spec_strains.specs.Points.{deltas, point_in};
 ghost use Rattle.simplex_bounds.specs.Held.{ranges_in};
-ghost use Rattle.simplex_check.specs.Boards.{IsBoard, state_of};
-ghost use Rattle.spec_strains.specs.Strains.{coefficient_in, StrainsMove, Strains};
+ghost use Rattle.simplex_check.specs.Assignments.{IsRealAssignment, state_of};
+ghost use Rattle.spec_strains.specs.CheckOverflows.{coefficient_in, OverflowsMove, CheckOverflows};
 ghost use Rattle.simplex_check.specs.Ends.{IsStopOf};
 ghost use Rattle.simplex_check.specs.Suspects.{Suspect, SuspectBut, HaveSuspects};
 
-use crate::board::Board;
+use crate::assignment::RealAssignment;
 use crate::changes::{ValueChange, write};
 use crate::moving::changes_of;
 use crate::ranges::{goal_of, violated};
@@ -28,9 +28,9 @@ use simplex_bounds::ranges::below;
 use tableau::numbers::zero;
 use tableau::{Ratio, RowStop};
 
-impl Board {
+impl RealAssignment {
     /// Lets a nonbasic variable change by d, and the basic ones follow. Each variable whose value changes is a suspect then. On a
-    /// stop the board is as it was.
+    /// stop the assignment is as it was.
     fn shift(
         &mut self,
         first: ValueChange,
@@ -40,13 +40,13 @@ impl Board {
         requires known { first.variable < self.old.tableau.variables }
         requires nonbasic { IsNonbasic self.old.tableau.rows first.variable }
         requires start { pair_of first.value ≡ deltas.plus (point_in self.old.values first.variable) (pair_of d) }
-        ensures board { IsBoard self.new }
+        ensures assignment { IsRealAssignment self.new }
         ensures tableau { self.new.tableau ≡ self.old.tableau }
         ensures values { OnOk result ((y : ℕ) → point_in self.new.values y
             ≡ moved deltas self.old.tableau.rows first.variable (pair_of d) (point_in self.old.values) y) }
         ensures suspect { OnOk result (HaveSuspects self.old.values self.new.values suspects.old suspects.new) }
         ensures same { OnErr result (self.new ≡ self.old) }
-        ensures wide { IfErr result (OnRowOverflow (StrainsMove (state_of self.old) first.variable (pair_of d))) }
+        ensures wide { IfErr result (OnRowOverflow (OverflowsMove (state_of self.old) first.variable (pair_of d))) }
     {
         self.tableau.rows_are_in_solved_form();
         let changes = changes_of(self.alloc, &self.tableau, &self.values, first, d)?;
@@ -56,8 +56,8 @@ impl Board {
     }
 
     /// Lets a nonbasic variable go to the bound that it violates, if there is one. Each variable whose value changes is a
-    /// suspect then. On a stop the board is as it was.
-    pub(crate) fn settle_one(
+    /// suspect then. On a stop the assignment is as it was.
+    pub(crate) fn update_one(
         &mut self,
         bounds: &Bounds,
         y: u64,
@@ -65,15 +65,15 @@ impl Board {
     ) -> Result<(), RowStop>
         requires known { y < self.old.tableau.variables }
         requires nonbasic { IsNonbasic self.old.tableau.rows y }
-        ensures board { IsBoard self.new }
+        ensures assignment { IsRealAssignment self.new }
         ensures tableau { self.new.tableau ≡ self.old.tableau }
-        ensures settled { OnOk result (point_in self.new.values y
-            ≡ settled_value deltas (ranges_in bounds.now.held y) (point_in self.old.values y)) }
+        ensures nonbasic_updated { OnOk result (point_in self.new.values y
+            ≡ value_in_range deltas (ranges_in bounds.now.held y) (point_in self.old.values y)) }
         ensures others { (z : ℕ) → IsNonbasic self.old.tableau.rows z → (z == y) ≡ false
             → point_in self.new.values z ≡ point_in self.old.values z }
         ensures suspect { OnOk result (HaveSuspects self.old.values self.new.values suspects.old suspects.new) }
         ensures same { OnErr result (self.new ≡ self.old) }
-        ensures wide { IfErr result (OnRowOverflow (Strains (ranges_in bounds.now.held) (state_of self.old))) }
+        ensures wide { IfErr result (OnRowOverflow (CheckOverflows (ranges_in bounds.now.held) (state_of self.old))) }
     {
         self.values_solve_the_rows();
         let value = self.value(y);
@@ -104,7 +104,7 @@ impl Board {
         requires { RuleSays deltas (ranges_in bounds.now.held) (state_of self.now) (exchange leaving entering) }
         ensures exact { IfOk result (λ d. pair_of d
             ≡ distance deltas (ranges_in bounds.now.held) (state_of self.now) leaving entering) }
-        ensures wide { IfErr result (OnRowOverflow (Strains (ranges_in bounds.now.held) (state_of self.now))) }
+        ensures wide { IfErr result (OnRowOverflow (CheckOverflows (ranges_in bounds.now.held) (state_of self.now))) }
     {
         self.tableau.rows_are_in_solved_form();
         let value = self.value(leaving);
@@ -116,7 +116,7 @@ impl Board {
     }
 
     /// Makes an exchange that the rule says: the leaving variable comes to the bound that it violates. Each variable
-    /// whose value changes is a suspect then. On a stop the board is as it was.
+    /// whose value changes is a suspect then. On a stop the assignment is as it was.
     pub(crate) fn exchange(
         &mut self,
         bounds: &Bounds,
@@ -132,7 +132,7 @@ impl Board {
         ensures made { OnOk result (Exchanges deltas (ranges_in bounds.now.held) (state_of self.old) leaving entering
             (state_of self.new)) }
         ensures same { OnErr result (self.new ≡ self.old) }
-        ensures wide { IfErr result (OnRowOverflow (Strains (ranges_in bounds.now.held) (state_of self.old))) }
+        ensures wide { IfErr result (OnRowOverflow (CheckOverflows (ranges_in bounds.now.held) (state_of self.old))) }
     {
         self.tableau.rows_are_in_solved_form();
         let d = self.distance_of(bounds, leaving, entering)?;

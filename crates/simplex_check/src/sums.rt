@@ -7,7 +7,7 @@ ghost use Rattle.spec_tableaux.specs.SolvedForms.{AllVariables};
 ghost use Rattle.tableau.specs.Entries.{entries_of};
 ghost use Rattle.simplex_bounds.specs.Deltas.{pair_of};
 ghost use Rattle.spec_strains.specs.Points.{deltas, point_in};
-ghost use Rattle.spec_strains.specs.Strains.{StrainsValue};
+ghost use Rattle.spec_strains.specs.CheckOverflows.{OverflowsValue};
 
 use crate::changes::value_at;
 use delta_num::Delta;
@@ -19,7 +19,7 @@ pub(crate) fn sum_at(values: &[Delta], entries: &[Entry]) -> Result<Delta, Wide>
     requires { AllVariables (λ y. y < length values.now) (entries_of entries.now) }
     ensures value { IfOk result (λ v. pair_of v
         ≡ sum_of deltas (point_in (map pair_of values.now)) (entries_of entries.now)) }
-    ensures wide { IfErr result (λ w. StrainsValue (point_in (map pair_of values.now)) (entries_of entries.now)
+    ensures wide { IfErr result (λ w. OverflowsValue (point_in (map pair_of values.now)) (entries_of entries.now)
         (overflow w)) }
 {
     let mut sum = zero();

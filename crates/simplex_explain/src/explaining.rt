@@ -26,7 +26,7 @@ use term_core::TermTable;
 /// come into the table. The rule is tried once, before the step is logged.
 ///
 /// Conditions: the log is right over the table, and the literals are of atoms of the table that are among the watched
-/// terms. Each says how a form stands to 0. The sum of the forms, each times its weight, is one number, whatever the
+/// terms. Each says how a form compares with 0. The sum of the forms, each times its weight, is one number, whatever the
 /// variables are: above 0, or 0 where a strict order has a weight other than 0.
 ///
 /// `Wide` comes where an operation of the rule leaves the bound on numbers, with the first one: the forms are within it,

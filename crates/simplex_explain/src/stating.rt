@@ -19,7 +19,7 @@ use crate::judging::judge;
 use crate::putting::negations;
 use crate::weighted::Weighted;
 use linear_form::ArithFault;
-use proof_log::laws::logs_stand_in_grown_tables;
+use proof_log::laws::logs_hold_in_grown_tables;
 use proof_log::{Clause, Numbers, ProofLog, Rule, Step, StepId, StepIds};
 use ratio128::Ratio;
 use ratio128::laws::ratios_are_fractions;
@@ -77,7 +77,7 @@ fn stated(
     ensures same { OnErr result (log.new ≡ log.old) }
     ensures fault { IfErr result (λ fault. JudgesSum (judged table.old reasons.now) (Err fault)) }
 {
-    logs_stand_in_grown_tables();
+    logs_hold_in_grown_tables();
     let Ok(clause) = negations(alloc, table, reasons) else {
         return Err(ArithFault::Memory);
     };

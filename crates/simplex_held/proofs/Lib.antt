@@ -4,6 +4,6 @@ pub mod Reasons
 pub mod Forms
 pub mod Owners
 pub mod Feasible
-pub mod Boards
+pub mod Assignments
 pub mod Checked
-pub mod Standings
+pub mod TermTableauViews

@@ -16,7 +16,7 @@ abbrev stands_for : TableView → Option TermId → Term → Bool
 stands_for t None u = false
 stands_for t (Some id) u = same_term (term_at t id) u
 
--- the value of the first variable that stands for a term, the origin where none does
+-- the value of the first variable that means a term, the origin where none does
 abbrev pub point_of : TableView → List (Option TermId) → (ℕ → Pair Number) → Point
 point_of t [] v u = deltas.origin
 point_of t (o ∷ os) v u = cond (stands_for t o u) (v zero) (point_of t os (λ y. v (suc y)) u)
@@ -29,7 +29,7 @@ here : (t : TableView) (p : Option TermId) (u : Term) → stands_for t p u ≡ t
 here t None u g = absurd (true≢false (sym g))
 here t (Some x) u g = (x, refl, one_term (term_at t x) u g)
 
--- where each variable that stands for the term has one value, and one is there, the point has it
+-- where each variable that means the term has one value, and one is there, the point has it
 found : (t : TableView) (os : List (Option TermId)) (v : ℕ → Pair Number) (u : Term) (w : Pair Number)
     → ((x : ℕ) (id : TermId) → owner_at os x ≡ Some id → term_at t id ≡ u → v x ≡ w) → (y : ℕ) (id : TermId) → owner_at os y ≡ Some id → term_at t id ≡ u → point_of t os v u ≡ w
 found t [] v u w h y id e f = absurd (nobody y id e)
@@ -43,7 +43,7 @@ found t (o ∷ os) v u w h y id e f = by (stands_for t o u) refl (rest (λ z k. 
     by true g r = let x = here t o u g in h zero x.0 x.1 x.2
     by false g r = r g
 
--- where no variable stands for the term, it has the origin
+-- where no variable means the term, it has the origin
 pub absent : (t : TableView) (os : List (Option TermId)) (v : ℕ → Pair Number) (u : Term) → ((y : ℕ) (id : TermId) → owner_at os y ≡ Some id → term_at t id ≡ u → ⊥) → point_of t os v u ≡ deltas.origin
 absent t [] v u h = refl
 absent t (o ∷ os) v u h = by (stands_for t o u) refl (absent t os (λ y. v (suc y)) u (λ y id. h (suc y) id))

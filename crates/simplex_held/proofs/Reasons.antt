@@ -9,28 +9,28 @@ use Rattle.term_core.specs.declared.ids.Lit.{Lit}
 use Rattle.term_core.specs.Tables.{TableView, literal_at, term_at}
 use Rattle.proof_log.specs.Theories.{TheoryView, IsAtomIn, IsTheoryOver, terms_watched}
 use Rattle.simplex_bounds.specs.declared.bounds.Bound.{Bound}
-use Rattle.simplex_atoms.specs.declared.place.Slack.{Slack}
+use Rattle.simplex_atoms.specs.declared.slack.Slack.{Slack}
 use Rattle.simplex_explain.specs.declared.weighted.Weighted.{Weighted}
 use Rattle.simplex_explain.specs.Reasons.{Refutes, AreAtomReasons, AreHeld, literals_meant}
 use Rattle.simplex_reasons.specs.Reasons.{IsOfHeld, AreOfHeld}
 use Rattle.simplex_held.specs.Stated.{AreBoundsOf}
 use Rattle.simplex_held.proofs.Stating.{all_from, literals_held}
 
-pub reasons_held : (placed : List (ℕ × Slack)) (held : List Lit) (bounds : List Bound) (rs : List Weighted) → AreBoundsOf placed held bounds → AreOfHeld bounds rs → AreHeld held rs
-reasons_held placed held bounds rs are of = all_from (λ (r : Weighted). Contains held r.literal) rs by
+pub reasons_held : (slack_list : List (ℕ × Slack)) (held : List Lit) (bounds : List Bound) (rs : List Weighted) → AreBoundsOf slack_list held bounds → AreOfHeld bounds rs → AreHeld held rs
+reasons_held slack_list held bounds rs are of = all_from (λ (r : Weighted). Contains held r.literal) rs by
   where
     by : (r : Weighted) → Contains rs r → Contains held r.literal
     by r c =
         let own = All-contains (IsOfHeld bounds) rs r of c in
-        subst (Contains held) (sym own.literal) (literals_held placed held bounds are own.bound own.held_is)
+        subst (Contains held) (sym own.literal) (literals_held slack_list held bounds are own.bound own.held_is)
 
-pub reasons_watched : (t : TableView) (view : TheoryView) (placed : List (ℕ × Slack)) (bounds : List Bound) (rs : List Weighted) → AreBoundsOf placed view.held bounds → AreOfHeld bounds rs
+pub reasons_watched : (t : TableView) (view : TheoryView) (slack_list : List (ℕ × Slack)) (bounds : List Bound) (rs : List Weighted) → AreBoundsOf slack_list view.held bounds → AreOfHeld bounds rs
     → IsTheoryOver t view → All (λ (l : Lit). Contains view.watched l.term) view.held → AreAtomReasons (terms_watched t view) t rs
-reasons_watched t view placed bounds rs are of over watched = all_from (λ (r : Weighted). IsAtomIn t r.literal.term × Contains (terms_watched t view) (term_at t r.literal.term)) rs by
+reasons_watched t view slack_list bounds rs are of over watched = all_from (λ (r : Weighted). IsAtomIn t r.literal.term × Contains (terms_watched t view) (term_at t r.literal.term)) rs by
   where
     by : (r : Weighted) → Contains rs r → IsAtomIn t r.literal.term × Contains (terms_watched t view) (term_at t r.literal.term)
     by r c =
-        let held : Contains view.held r.literal = All-contains (λ (r : Weighted). Contains view.held r.literal) rs r (reasons_held placed view.held bounds rs are of) c in (
+        let held : Contains view.held r.literal = All-contains (λ (r : Weighted). Contains view.held r.literal) rs r (reasons_held slack_list view.held bounds rs are of) c in (
           All-contains (λ (l : Lit). IsAtomIn t l.term) view.held r.literal over.atoms held,
           to_image (term_at t) view.watched r.literal.term (All-contains (λ (l : Lit). Contains view.watched l.term) view.held r.literal watched held),
         )

@@ -18,15 +18,15 @@ use Rattle.term_core.specs.declared.ids.Lit.{Lit}
 use Rattle.term_core.specs.Tables.{TableView, term_at, literal_at}
 use Rattle.tableau.specs.Numbers.{number_of}
 use Rattle.simplex_bounds.specs.Held.{BoundsView, ranges_in}
-use Rattle.simplex_check.specs.Boards.{BoardView}
+use Rattle.simplex_check.specs.Assignments.{AssignmentView}
 use Rattle.spec_strains.specs.Points.{point_in}
 use Rattle.simplex_atoms.specs.Owners.{AreOwned}
 use Rattle.simplex_atoms.specs.Atoms.{AtomsView, setting_of, ground_of}
 use Rattle.simplex_atoms.proofs.Values.{tilt_comes}
 use Rattle.simplex_held.specs.Keeping.{KeepsHeld}
 use Rattle.simplex_held.proofs.Stating.{all_from}
-use Rattle.simplex_held.proofs.Feasible.{placed, solved, literal_kept}
-use Rattle.simplex_numbers.specs.Values.{flat, board_at, KeepsAt}
+use Rattle.simplex_held.proofs.Feasible.{slack_list, solved, literal_kept}
+use Rattle.simplex_numbers.specs.Values.{flat, assignment_at_number, KeepsAt}
 use Rattle.spec_strains.specs.Halves.{at_number}
 use Rattle.simplex_numbers.proofs.Flat.{flat_point}
 use Rattle.simplex_numbers.proofs.Holding.{held_at}
@@ -37,10 +37,10 @@ nothing : (k t : Number) → t ≡ numbers.zero → (numbers.times k t).fraction
 unfolding numbers fractions
 nothing k t e = ap (λ (n : Number). n.fraction) (ap (numbers.times k) e ∙ numbers_are_ordered_field.product_commutative k numbers.zero ∙ zero_product numbers numbers_are_ordered_field k)
 
-module _ (t : TableView) (a : AtomsView) (b : BoardView) (bounds : BoundsView) (held : List Lit) (k : KeepsHeld t a b bounds held) (e : Number) (p : is_positive numbers e ≡ true)
+module _ (t : TableView) (a : AtomsView) (b : AssignmentView) (bounds : BoundsView) (held : List Lit) (k : KeepsHeld t a b bounds held) (e : Number) (p : is_positive numbers e ≡ true)
     (h : KeepsAt e (ranges_in bounds.held) (point_in b.values)) (n : Term → Number) (own : AreOwned t a.owners n (λ y. at_number e (point_in b.values y))) where
-  abbrev c : BoardView
-  c = board_at e b
+  abbrev c : AssignmentView
+  c = assignment_at_number e b
 
   abbrev point : Point
   point = λ u. flat (n u)
@@ -53,17 +53,17 @@ module _ (t : TableView) (a : AtomsView) (b : BoardView) (bounds : BoundsView) (
 
   -- what a held literal says of its form is so where terms have the numbers
   stands_there : (l : Lit) (there : Contains held l) (d : Constraint) (says : constraint_of (literal_at t l) ≡ Some d)
-      → stands d.relation (form_value (λ u. (n u).fraction) (placed t a c bounds held kept l there d says).is.form) zero_fraction ≡ true
+      → stands d.relation (form_value (λ u. (n u).fraction) (slack_list t a c bounds held kept l there d says).is.form) zero_fraction ≡ true
   stands_there l there d says =
-      let x = placed t a c bounds held kept l there d says in
+      let x = slack_list t a c bounds held kept l there d says in
       let tilt : tilt_at point x.is.form ≡ zero_fraction =
-      tilt_comes (setting_of t (ground_of a.owners c)) x.place x.is.form x.is.is point (point_in c.values) owned (solved t a c bounds held kept)
-      ∙ nothing (number_of x.place.factor) (point_in c.values x.place.variable).tilt (ap (λ (q : Pair Number). q.tilt) (flat_point e b.values x.place.variable)) in
+      tilt_comes (setting_of t (ground_of a.owners c)) x.slack x.is.form x.is.is point (point_in c.values) owned (solved t a c bounds held kept)
+      ∙ nothing (number_of x.slack.factor) (point_in c.values x.slack.variable).tilt (ap (λ (q : Pair Number). q.tilt) (flat_point e b.values x.slack.variable)) in
       sym (ap (stands d.relation (base_at point x.is.form)) tilt) ∙ literal_kept t a c bounds held kept point owned l there d says x.is.form x.has
 
   holds : (l : Lit) → Contains held l → IsWellSorted t.symbols [] (term_at t l.term) → HoldsAt (λ u. (n u).fraction) (literal_at t l)
   holds l there sorted d says left right =
-      let x = placed t a c bounds held kept l there d says in
+      let x = slack_list t a c bounds held kept l there d says in
       let sides = real_sides t.symbols l.positive (term_at t l.term) d sorted says in
       (sides_compared t.symbols (λ u. (n u).fraction) d x.is.form (λ u. (n u).reduced) (record { term = sides.0.term; sort = sides.0.sort; linear = left })
       (record { term = sides.1.term; sort = sides.1.sort; linear = right }) x.has).1 (stands_there l there d says)

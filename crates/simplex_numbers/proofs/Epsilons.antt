@@ -5,7 +5,7 @@ use Rattle.spec_tableaux.specs.Spaces.{Pair}
 use Rattle.spec_tableaux.specs.Ranges.{Range}
 use Rattle.spec_tableaux.specs.Numbers.{Number, numbers}
 use Rattle.spec_strains.specs.Points.{Ranges}
-use Rattle.spec_strains.specs.Halves.{IsSteeper, halfway, StrainsApart, StrainsNumber, values}
+use Rattle.spec_strains.specs.Halves.{IsSteeper, halfway, OverflowsApart, OverflowsNumber, values}
 use Rattle.spec_causes.specs.Causes.{IsHalfAbove, IsHalfBelow, IsHalfIn, IsHalfAmong, IsEpsilon}
 use Rattle.ratio128.specs.declared.ratio.Ratio.{Ratio}
 use Rattle.ratio128.specs.declared.wide.Wide.{Wide}
@@ -69,7 +69,7 @@ epsilon_after (Ok d) e ranges v apart before small is least = record {
     one_of (inl same) (inr (inr half)) = absurd (no_member half.lesser half.lesser_in)
 
 -- it fails by two of these
-pub strains_after : (r : Result Ratio Wide) (ranges : Ranges) (v : ℕ → Pair Number) (apart : List (Pair Number)) → IfErr r (λ w. StrainsApart apart (overflow w))
-    → IfErr r (λ w. StrainsNumber ranges v apart (overflow w))
-strains_after (Ok d) ranges v apart h = tt
-strains_after (Err w) ranges v apart h = values h
+pub overflows_after : (r : Result Ratio Wide) (ranges : Ranges) (v : ℕ → Pair Number) (apart : List (Pair Number)) → IfErr r (λ w. OverflowsApart apart (overflow w))
+    → IfErr r (λ w. OverflowsNumber ranges v apart (overflow w))
+overflows_after (Ok d) ranges v apart h = tt
+overflows_after (Err w) ranges v apart h = values h

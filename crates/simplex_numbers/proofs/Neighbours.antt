@@ -26,7 +26,7 @@ use Rattle.simplex_bounds.specs.Deltas.{pair_of}
 use Rattle.simplex_check.proofs.Points.{deltas_are_ordered as o}
 use Rattle.spec_strains.specs.Deltas.{delta_compare}
 use Rattle.spec_strains.specs.Points.{deltas}
-use Rattle.spec_strains.specs.Halves.{at_number, is_less, IsSteeper, two, halfway, StrainsOrder, StrainsApart}
+use Rattle.spec_strains.specs.Halves.{at_number, is_less, IsSteeper, two, halfway, OverflowsOrder, OverflowsApart}
 use Rattle.spec_causes.specs.Causes.{IsHalfAmong}
 use Rattle.simplex_numbers.specs.Values.{IsSmaller, IsAboveNone, IsClear, KeepsApart, by_value}
 use Rattle.simplex_numbers.proofs.Orders.{irreflexive, not_above, steep_less, level_stays, steep_stays, half_stays, at_double, double_positive}
@@ -120,8 +120,8 @@ module _ (e : Number) (p : is_positive numbers e ≡ true) where
         sum i j low = omega (arith, low)
 
     -- of any two values the lesser is not above the other at twice the number
-    placed : (a b : Delta) → Contains xs a → Contains xs b → by_value a b ≡ true → InOrder (pair_of a) (pair_of b)
-    placed a b (i, i_in, i_is) (j, j_in, j_is) less = go (cases_lt i j)
+    slack_list : (a b : Delta) → Contains xs a → Contains xs b → by_value a b ≡ true → InOrder (pair_of a) (pair_of b)
+    slack_list a b (i, i_in, i_is) (j, j_in, j_is) less = go (cases_lt i j)
       where
         there : get_or xs j a ≡ b
         there = get_or_default xs j a b j_in ∙ j_is
@@ -139,7 +139,7 @@ module _ (e : Number) (p : is_positive numbers e ≡ true) where
         let y = half.greater in
         let a = from_image pair_of xs x half.lesser_in in
         let b = from_image pair_of xs y half.greater_in in
-        let order = placed a.0 b.0 a.1 b.1 ((λ t. deltas.less (a.2 t) (b.2 t)) ∙ half.less) in
+        let order = slack_list a.0 b.0 a.1 b.1 ((λ t. deltas.less (a.2 t) (b.2 t)) ∙ half.less) in
         ap (λ (n : Number). is_less n e) half.is ∙ sym (at_double x y half.steep e)
         ∙ (λ t. is_less (at_number double (sym b.2 t)) (at_number double (sym a.2 t))) ∙ order
 
@@ -198,14 +198,14 @@ module _ (xs : List Delta) (at : ℕ) (x y : Delta) (some : 0 < at) (lt : at < l
     half_more e s d (inl h) (inl same) = inl (same ∙ h)
     half_more e s d (inr half) (inl same) = inr (subst (λ (r : Ratio). IsHalfAmong (map pair_of xs) (number_of r)) (sym same) half)
 
-    pub strains_more : (w : Overflow) → StrainsOrder (pair_of x) (pair_of y) w → StrainsApart (map pair_of xs) w
-    strains_more w strains = record {
+    pub overflows_more : (w : Overflow) → OverflowsOrder (pair_of x) (pair_of y) w → OverflowsApart (map pair_of xs) w
+    overflows_more w may_overflow = record {
       lesser = pair_of x;
       lesser_in = x_in;
       greater = pair_of y;
       greater_in = y_in;
-      less = steep_less (pair_of x) (pair_of y) strains.0 order;
-      strains = strains;
+      less = steep_less (pair_of x) (pair_of y) may_overflow.0 order;
+      may_overflow = may_overflow;
     }
 
 -- the same of a list in another order
@@ -249,15 +249,15 @@ module _ (xs ys : List Delta) (s : IsPermutation xs ys) where
   least_from (Ok d) none = λ h half. none h (half_to h half)
   least_from (Err w) none = tt
 
-  pub strains_from : (r : Result Ratio Wide) → IfErr r (λ w. StrainsApart (map pair_of ys) (overflow w)) → IfErr r (λ w. StrainsApart (map pair_of xs) (overflow w))
-  strains_from (Ok d) h = tt
-  strains_from (Err w) h = record {
+  pub overflows_from : (r : Result Ratio Wide) → IfErr r (λ w. OverflowsApart (map pair_of ys) (overflow w)) → IfErr r (λ w. OverflowsApart (map pair_of xs) (overflow w))
+  overflows_from (Ok d) h = tt
+  overflows_from (Err w) h = record {
     lesser = h.lesser;
     lesser_in = from h.lesser h.lesser_in;
     greater = h.greater;
     greater_in = from h.greater h.greater_in;
     less = h.less;
-    strains = h.strains;
+    may_overflow = h.may_overflow;
   }
 
 -- a number that is above no such half keeps the values apart

@@ -10,7 +10,7 @@ use Rattle.simplex_bounds.specs.declared.bounds.Side.{Side}
 use Rattle.simplex_bounds.specs.declared.bounds.Side.TheVariants.{Lower, Upper}
 use Rattle.simplex_bounds.specs.Deltas.{pair_of}
 use Rattle.spec_strains.specs.Points.{deltas, Ranges}
-use Rattle.simplex_check.specs.Boards.{BoardView}
+use Rattle.simplex_check.specs.Assignments.{AssignmentView}
 use Rattle.spec_strains.specs.Halves.{is_less, at_number, IsSteeper, halfway}
 
 -- d is above 0, and not greater than e
@@ -68,9 +68,9 @@ KeepsApart e xs = (x y : Pair Number) → Contains xs x → Contains xs y → x 
 abbrev pub flat : Number → Pair Number
 flat q = record { base = q; tilt = numbers.zero }
 
--- the board with its values where the infinitesimal is e
-abbrev pub board_at : Number → BoardView → BoardView
-board_at e b = record { tableau = b.tableau; values = map (λ x. flat (at_number e x)) b.values }
+-- the assignment with its values where the infinitesimal is e
+abbrev pub assignment_at_number : Number → AssignmentView → AssignmentView
+assignment_at_number e b = record { tableau = b.tableau; values = map (λ x. flat (at_number e x)) b.values }
 
 -- the tilt of a bound on a side leads inward, or is 0
 abbrev pub IsInward : Side → Number → Type 0

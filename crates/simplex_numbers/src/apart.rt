@@ -8,7 +8,7 @@ ghost use Rattle.spec_tableaux.specs.Numbers.{numbers};
 ghost use Rattle.tableau.specs.Numbers.{number_of};
 ghost use Rattle.simplex_bounds.specs.Deltas.{pair_of};
 ghost use Rattle.simplex_numbers.specs.Values.{IsSmaller, IsAboveNone, by_value};
-ghost use Rattle.spec_strains.specs.Halves.{StrainsApart};
+ghost use Rattle.spec_strains.specs.Halves.{OverflowsApart};
 ghost use Rattle.spec_causes.specs.Causes.{IsHalfAmong};
 
 use crate::narrowing::narrowed;
@@ -25,10 +25,10 @@ fn narrowed_beside(e: Ratio, values: &[Delta]) -> Result<Ratio, Wide>
     ensures smaller { IfOk result (λ d. IsSmaller (number_of d) (number_of e)) }
     ensures is { IfOk result (λ d. (d ≡ e) ⊎ IsHalfAmong (map pair_of values.now) (number_of d)) }
     ensures least { IfOk result (λ d. IsAboveNone (IsHalfAmong (map pair_of values.now)) (number_of d)) }
-    ensures wide { IfErr result (λ w. StrainsApart (map pair_of values.now) (overflow w)) }
+    ensures wide { IfErr result (λ w. OverflowsApart (map pair_of values.now) (overflow w)) }
 {
     let mut small = e;
-    'places: for at in 1..values.len() {
+    'slacks: for at in 1..values.len() {
         small = narrowed(small, values[at - 1], values[at])?;
     }
     Ok(small)
@@ -45,7 +45,7 @@ pub(crate) fn narrowed_apart(e: Ratio, values: &mut [Delta]) -> Result<Ratio, Wi
     ensures smaller { IfOk result (λ d. IsSmaller (number_of d) (number_of e)) }
     ensures is { IfOk result (λ d. (d ≡ e) ⊎ IsHalfAmong (map pair_of values.old) (number_of d)) }
     ensures least { IfOk result (λ d. IsAboveNone (IsHalfAmong (map pair_of values.old)) (number_of d)) }
-    ensures wide { IfErr result (λ w. StrainsApart (map pair_of values.old) (overflow w)) }
+    ensures wide { IfErr result (λ w. OverflowsApart (map pair_of values.old) (overflow w)) }
 {
     values.sort_unstable_by(|a, b| Delta::cmp(*a, *b));
     narrowed_beside(e, values)

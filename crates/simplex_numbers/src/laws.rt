@@ -16,13 +16,13 @@ ghost use Rattle.simplex_bounds.specs.declared.bounds.Bound.{Bound};
 ghost use Rattle.simplex_bounds.specs.Deltas.{pair_of};
 ghost use Rattle.spec_strains.specs.Points.{deltas, point_in};
 ghost use Rattle.simplex_bounds.specs.Held.{BoundsView, ranges_in};
-ghost use Rattle.simplex_check.specs.Boards.{BoardView};
-ghost use Rattle.simplex_atoms.specs.declared.place.Slack.{Slack};
+ghost use Rattle.simplex_check.specs.Assignments.{AssignmentView};
+ghost use Rattle.simplex_atoms.specs.declared.slack.Slack.{Slack};
 ghost use Rattle.simplex_atoms.specs.Owners.{AreOwned};
 ghost use Rattle.simplex_atoms.specs.Limits.{Limit, limits_by};
 ghost use Rattle.simplex_atoms.specs.Atoms.{AtomsView};
 ghost use Rattle.simplex_held.specs.Keeping.{KeepsHeld};
-ghost use Rattle.simplex_numbers.specs.Values.{flat, board_at, IsInward, IsSmaller, StaysLess, KeepsAt};
+ghost use Rattle.simplex_numbers.specs.Values.{flat, assignment_at_number, IsInward, IsSmaller, StaysLess, KeepsAt};
 ghost use Rattle.spec_strains.specs.Halves.{at_number};
 
 /// States that values that solve rows do so at each number in the place of the infinitesimal.
@@ -39,25 +39,25 @@ pub fn smaller_numbers_keep_order()
 /// States that values that keep the strongest bounds at a number above 0 keep all bounds as numbers, without an
 /// infinitesimal part, strict ones too, where the tilts of these lead inward, as those of bounds that literals state do.
 pub fn bounds_at_numbers_are_kept_strictly()
-    ensures inward { (place : Slack) (l : Lit) (b : Limit) → Contains (limits_by place l) b
+    ensures inward { (slack : Slack) (l : Lit) (b : Limit) → Contains (limits_by slack l) b
         → IsInward b.side b.value.tilt }
     ensures within { (held : List Bound) → ((b : Bound) → Contains held b → IsInward b.side (pair_of b.value).tilt)
         → (e : Number) → is_positive numbers e ≡ true → (v : ℕ → Pair Number) → KeepsAt e (ranges_in held) v
         → (y : ℕ) → is_within deltas (ranges_in held) (λ z. flat (at_number e (v z))) y ≡ true }
 {}
 
-/// States that values of a board that keep the bounds of held literals, and keep the strongest of them at a number above
+/// States that values of an assignment that keep the bounds of held literals, and keep the strongest of them at a number above
 /// 0, are values there that keep the bounds too, without an infinitesimal part.
-pub fn boards_at_numbers_keep_held_bounds()
-    ensures { (t : TableView) (a : AtomsView) (b : BoardView) (bounds : BoundsView) (held : List Lit)
+pub fn assignments_at_numbers_keep_held_bounds()
+    ensures { (t : TableView) (a : AtomsView) (b : AssignmentView) (bounds : BoundsView) (held : List Lit)
         → KeepsHeld t a b bounds held → (e : Number) → is_positive numbers e ≡ true
-        → KeepsAt e (ranges_in bounds.held) (point_in b.values) → KeepsHeld t a (board_at e b) bounds held }
+        → KeepsAt e (ranges_in bounds.held) (point_in b.values) → KeepsHeld t a (assignment_at_number e b) bounds held }
 {}
 
-/// States that held literals hold at numbers of terms, strict ones too, where values of a board keep the bounds of these,
+/// States that held literals hold at numbers of terms, strict ones too, where values of an assignment keep the bounds of these,
 /// and keep the strongest of them at a number above 0: each term that a variable stands for has the value of this there.
 pub fn held_literals_hold_at_numbers()
-    ensures { (t : TableView) (a : AtomsView) (b : BoardView) (bounds : BoundsView) (held : List Lit)
+    ensures { (t : TableView) (a : AtomsView) (b : AssignmentView) (bounds : BoundsView) (held : List Lit)
         → KeepsHeld t a b bounds held → (e : Number) → is_positive numbers e ≡ true
         → KeepsAt e (ranges_in bounds.held) (point_in b.values)
         → (n : Term → Number) → AreOwned t a.owners n (λ y. at_number e (point_in b.values y))

@@ -10,7 +10,7 @@ ghost use Rattle.simplex_bounds.specs.Deltas.{pair_of, pair_in, range_of};
 ghost use Rattle.spec_strains.specs.Points.{deltas};
 ghost use Rattle.simplex_check.specs.Moves.{keeps};
 ghost use Rattle.simplex_numbers.specs.Values.{IsSmaller, IsAboveNone, StaysLess, StaysAbove, StaysBelow, StaysOff};
-ghost use Rattle.spec_strains.specs.Halves.{two, is_less, IsSteeper, halfway, StrainsOrder, StrainsLower, StrainsUpper, StrainsRange};
+ghost use Rattle.spec_strains.specs.Halves.{two, is_less, IsSteeper, halfway, OverflowsOrder, OverflowsLower, OverflowsUpper, OverflowsRange};
 ghost use Rattle.spec_causes.specs.Causes.{IsHalfAbove, IsHalfBelow, IsHalfIn};
 
 use delta_num::Delta;
@@ -50,7 +50,7 @@ pub(crate) fn narrowed(e: Ratio, x: Delta, y: Delta) -> Result<Ratio, Wide>
         ⊎ (IsSteeper (pair_of x) (pair_of y) × (number_of d ≡ halfway (pair_of x) (pair_of y)))) }
     ensures least { IfOk result (λ d. IsSteeper (pair_of x) (pair_of y)
         → is_less (halfway (pair_of x) (pair_of y)) (number_of d) ≡ false) }
-    ensures wide { IfErr result (λ w. StrainsOrder (pair_of x) (pair_of y) (overflow w)) }
+    ensures wide { IfErr result (λ w. OverflowsOrder (pair_of x) (pair_of y) (overflow w)) }
 {
     if !less(y.tilt, x.tilt) {
         return Ok(e);
@@ -74,7 +74,7 @@ fn narrowed_above(e: Ratio, lower: Option<Delta>, x: Delta) -> Result<Ratio, Wid
     ensures stays { IfOk result (λ d. StaysAbove (number_of d) (pair_in lower) (pair_of x)) }
     ensures is { IfOk result (λ d. (d ≡ e) ⊎ IsHalfAbove (pair_in lower) (pair_of x) (number_of d)) }
     ensures least { IfOk result (λ d. IsAboveNone (IsHalfAbove (pair_in lower) (pair_of x)) (number_of d)) }
-    ensures wide { IfErr result (λ w. StrainsLower (pair_in lower) (pair_of x) (overflow w)) }
+    ensures wide { IfErr result (λ w. OverflowsLower (pair_in lower) (pair_of x) (overflow w)) }
 {
     match lower {
         None => Ok(e),
@@ -94,7 +94,7 @@ fn narrowed_below(e: Ratio, upper: Option<Delta>, x: Delta) -> Result<Ratio, Wid
     ensures stays { IfOk result (λ d. StaysBelow (number_of d) (pair_in upper) (pair_of x)) }
     ensures is { IfOk result (λ d. (d ≡ e) ⊎ IsHalfBelow (pair_in upper) (pair_of x) (number_of d)) }
     ensures least { IfOk result (λ d. IsAboveNone (IsHalfBelow (pair_in upper) (pair_of x)) (number_of d)) }
-    ensures wide { IfErr result (λ w. StrainsUpper (pair_in upper) (pair_of x) (overflow w)) }
+    ensures wide { IfErr result (λ w. OverflowsUpper (pair_in upper) (pair_of x) (overflow w)) }
 {
     match upper {
         None => Ok(e),
@@ -113,7 +113,7 @@ pub(crate) fn narrowed_by(e: Ratio, range: Range, x: Delta) -> Result<Ratio, Wid
     ensures off { IfOk result (λ d. StaysOff (number_of d) (range_of range) (pair_of x)) }
     ensures is { IfOk result (λ d. (d ≡ e) ⊎ IsHalfIn (range_of range) (pair_of x) (number_of d)) }
     ensures least { IfOk result (λ d. IsAboveNone (IsHalfIn (range_of range) (pair_of x)) (number_of d)) }
-    ensures wide { IfErr result (λ w. StrainsRange (range_of range) (pair_of x) (overflow w)) }
+    ensures wide { IfErr result (λ w. OverflowsRange (range_of range) (pair_of x) (overflow w)) }
 {
     let small = narrowed_above(e, range.lower, x)?;
     narrowed_below(small, range.upper, x)

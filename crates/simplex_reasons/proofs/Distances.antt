@@ -194,13 +194,13 @@ named_holds q b rs i h = record { is = ap q (sym (row_named b rs)) ∙ (row_hold
 pub stuck_contradicts : (held : List Bound) (listed : List (Row Number)) (t : State Number (Pair Number)) (b : ℕ) → IsSolved numbers t.rows
     → ((v : ℕ → Number) → Solves (as_space numbers) v t.rows ↔ Solves (as_space numbers) v listed) → IsNonbasicFeasible deltas (ranges_in held) t → RuleSays deltas (ranges_in held) t (stuck b)
     → Contradicts held (goes_up deltas (ranges_in held) t b) listed (with_basic b (row_of b t.rows).entries)
-stuck_contradicts held listed t b solved same settled says =
+stuck_contradicts held listed t b solved same nonbasic_updated says =
     let up = goes_up deltas (ranges_in held) t b in
     let out = and_parts (is_basic b t.rows) (not (is_within deltas (ranges_in held) t.point b)) says.1.holds in
     row_contradicts held up listed t.point (record { basic = b; entries = (row_of b t.rows).entries })
     (is_out_by held b (t.point b) up refl (not-true _ out.1))
-    (stuck_is_stopped deltas deltas_are_space deltas_are_ordered (ranges_in held) t b solved settled says) (tidy_row deltas b t.rows solved.tidy)
-    (named_holds t.point b t.rows out.0 settled.solves) (λ q h. named_holds q b t.rows out.0 (pairs_solve t.rows listed same q h))
+    (stuck_is_stopped deltas deltas_are_space deltas_are_ordered (ranges_in held) t b solved nonbasic_updated says) (tidy_row deltas b t.rows solved.tidy)
+    (named_holds t.point b t.rows out.0 nonbasic_updated.solves) (λ q h. named_holds q b t.rows out.0 (pairs_solve t.rows listed same q h))
 
 pub one_above : is_positive numbers numbers.one ≡ true
 unfolding numbers fractions opposite
@@ -237,8 +237,8 @@ crossing_contradicts held listed y h = crossing_by held listed y (strongest Uppe
 pub row_contradiction : (held : List Bound) (listed : List (Row Number)) (t : State Number (Pair Number)) (b : ℕ) (up : Bool) (es : List (Entry Number)) → up ≡ goes_up deltas (ranges_in held) t b → es ≡ (row_of b t.rows).entries
     → IsSolved numbers t.rows → ((v : ℕ → Number) → Solves (as_space numbers) v t.rows ↔ Solves (as_space numbers) v listed) → IsNonbasicFeasible deltas (ranges_in held) t → RuleSays deltas (ranges_in held) t (stuck b)
     → Contradicts held up listed (with_basic b es)
-row_contradiction held listed t b up es e k solved same settled says =
-    subst (λ u. Contradicts held u listed (with_basic b es)) (sym e) (subst (λ r. Contradicts held (goes_up deltas (ranges_in held) t b) listed (with_basic b r)) (sym k) (stuck_contradicts held listed t b solved same settled says))
+row_contradiction held listed t b up es e k solved same nonbasic_updated says =
+    subst (λ u. Contradicts held u listed (with_basic b es)) (sym e) (subst (λ r. Contradicts held (goes_up deltas (ranges_in held) t b) listed (with_basic b r)) (sym k) (stuck_contradicts held listed t b solved same nonbasic_updated says))
 
 pub unit_contradiction : (held : List Bound) (listed : List (Row Number)) (y : ℕ) (one : Number) → one ≡ numbers.one → is_crossed deltas (ranges_in held) y ≡ true
     → Contradicts held true listed (with_basic y (record { variable = y; coefficient = one } ∷ []))

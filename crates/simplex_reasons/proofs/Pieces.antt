@@ -28,11 +28,11 @@ use Rattle.simplex_bounds.specs.declared.bounds.Side.{Side}
 use Rattle.simplex_bounds.specs.declared.bounds.Side.TheVariants.{Lower, Upper}
 use Rattle.simplex_bounds.specs.Deltas.{pair_of}
 use Rattle.simplex_bounds.proofs.Keeping.{strongest_is_held}
-use Rattle.simplex_atoms.specs.declared.place.Comparison.{Comparison}
-use Rattle.simplex_atoms.specs.declared.place.Comparison.TheVariants as kinds
-use Rattle.simplex_atoms.specs.declared.place.Slack.{Slack}
+use Rattle.simplex_atoms.specs.declared.slack.Comparison.{Comparison}
+use Rattle.simplex_atoms.specs.declared.slack.Comparison.TheVariants as kinds
+use Rattle.simplex_atoms.specs.declared.slack.Slack.{Slack}
 use Rattle.simplex_atoms.specs.Owners.{AreOwned}
-use Rattle.simplex_atoms.specs.Places.{AtomSetting, relation_meant, relation_by, IsPlaced, place_in}
+use Rattle.simplex_atoms.specs.Slacks.{AtomSetting, relation_meant, relation_by, HasSlackIn, slack_in}
 use Rattle.simplex_atoms.specs.Limits.{Limit, limit_of, limits_where, limits_by, side_by, signed_by, weight_of, is_strict}
 use Rattle.simplex_atoms.proofs.Values.{form_comes}
 use Rattle.simplex_atoms.proofs.Weighing.{weighs, size_reduced}
@@ -44,8 +44,8 @@ use Rattle.simplex_reasons.specs.Reasons.{Footing, weight_by, IsBoundReason}
 
 -- What bounds are that literals state.
 pub record LimitLaws : Type 0 where
-  pub states : (place : Slack) (l : Lit) (b : Limit) → Contains (limits_by place l) b → (b.variable ≡ place.variable) × (b.literal ≡ l) × (b.value.base ≡ number_of place.bound)
-  pub tilt : (place : Slack) (l : Lit) (r : Relation) → relation_by place.kind l.positive ≡ Some r → (b : Limit) → Contains (limits_by place l) b → is_strict r ≡ false → b.value.tilt ≡ numbers.zero
+  pub states : (slack : Slack) (l : Lit) (b : Limit) → Contains (limits_by slack l) b → (b.variable ≡ slack.variable) × (b.literal ≡ l) × (b.value.base ≡ number_of slack.bound)
+  pub tilt : (slack : Slack) (l : Lit) (r : Relation) → relation_by slack.kind l.positive ≡ Some r → (b : Limit) → Contains (limits_by slack l) b → is_strict r ≡ false → b.value.tilt ≡ numbers.zero
 
 -- what a literal of a placed atom says
 
@@ -211,15 +211,15 @@ pub record Piece (t : TableView) (s : AtomSetting) (held : List Bound) (up : Boo
       → product_at (λ u. (n u).fraction) summand ≡ (beyond held up (flat v) e).base.fraction
   pub tilts : is_strict_by summand.constraint.relation summand.weight ≡ false → (v : ℕ → Number) → (beyond held up (flat v) e).tilt ≡ numbers.zero
 
-relation_there : (o : Option Relation) (up : Bool) (place : Slack) (l : Lit) (b : Limit) → Contains (limits_where o up place l) b → (r : Relation) × (o ≡ Some r)
-relation_there None up place l b h = absurd (none b h)
-relation_there (Some r) up place l b h = (r, refl)
+relation_there : (o : Option Relation) (up : Bool) (slack : Slack) (l : Lit) (b : Limit) → Contains (limits_where o up slack l) b → (r : Relation) × (o ≡ Some r)
+relation_there None up slack l b h = absurd (none b h)
+relation_there (Some r) up slack l b h = (r, refl)
 
 -- the bound that stops an entry is one that its literal states, on the place that the reason names
-module _ (laws : LimitLaws) (t : TableView) (s : AtomSetting) (f : Footing) (up : Bool) (e : Entry Number) (w : Weighted) (stated : AreStated f.placed f.held)
-    (placed : (l : Lit) (place : Slack) → place_in f.placed l.term ≡ Some place → IsPlaced s place (term_at t l.term)) (stopped : IsStopped f.held up e) (reason : IsBoundReason f up e w) where
-  abbrev place : Slack
-  place = reason.place
+module _ (laws : LimitLaws) (t : TableView) (s : AtomSetting) (f : Footing) (up : Bool) (e : Entry Number) (w : Weighted) (stated : AreStated f.slack_list f.held)
+    (slack_list : (l : Lit) (slack : Slack) → slack_in f.slack_list l.term ≡ Some slack → HasSlackIn s slack (term_at t l.term)) (stopped : IsStopped f.held up e) (reason : IsBoundReason f up e w) where
+  abbrev slack : Slack
+  slack = reason.slack
 
   abbrev l : Lit
   l = reason.bound.literal
@@ -231,63 +231,63 @@ module _ (laws : LimitLaws) (t : TableView) (s : AtomSetting) (f : Footing) (up 
   is_held : Contains f.held reason.bound × (reason.bound.side ≡ stopping_side up e.coefficient) × (reason.bound.variable ≡ e.variable)
   is_held = strongest_is_held (stopping_side up e.coefficient) e.variable f.held reason.bound reason.stops
 
-  states : Contains (limits_by place l) (limit_of reason.bound)
+  states : Contains (limits_by slack l) (limit_of reason.bound)
   states =
-      let own = All-contains (IsStatedBound f.placed) f.held reason.bound stated is_held.0 in
-      subst (λ q. Contains (limits_by q l) (limit_of reason.bound)) (same_Some own.place place (sym own.there ∙ reason.there)) own.states
+      let own = All-contains (IsStatedBound f.slack_list) f.held reason.bound stated is_held.0 in
+      subst (λ q. Contains (limits_by q l) (limit_of reason.bound)) (same_Some own.slack slack (sym own.there ∙ reason.there)) own.states
 
-  is_placed : IsPlaced s place (term_at t l.term)
-  is_placed = placed l place reason.there
+  has_slack_in : HasSlackIn s slack (term_at t l.term)
+  has_slack_in = slack_list l slack reason.there
 
-  relation : (r : Relation) × (relation_by place.kind l.positive ≡ Some r)
-  relation = relation_there (relation_by place.kind l.positive) (is_positive numbers (number_of place.factor)) place l (limit_of reason.bound) states
+  relation : (r : Relation) × (relation_by slack.kind l.positive ≡ Some r)
+  relation = relation_there (relation_by slack.kind l.positive) (is_positive numbers (number_of slack.factor)) slack l (limit_of reason.bound) states
 
-  weight_is : fraction w.weight ≡ weight_of relation.0 place by_variable
-  weight_is = reason.weight ∙ ap (λ o. weight_by o place by_variable) relation.1
+  weight_is : fraction w.weight ≡ weight_of relation.0 slack by_variable
+  weight_is = reason.weight ∙ ap (λ o. weight_by o slack by_variable) relation.1
 
   signed : Number
   signed = signed_number relation.0 (fraction w.weight) (number_of w.weight).reduced
 
-  comes : numbers.times signed (number_of place.factor) ≡ by_variable
+  comes : numbers.times signed (number_of slack.factor) ≡ by_variable
   unfolding signed relation
   comes =
       let m = signed_by (stopping_side up e.coefficient) by_variable in
       let side : signed_by reason.bound.side m ≡ by_variable = ap (λ d. signed_by d m) is_held.1 ∙ signed_twice (stopping_side up e.coefficient) by_variable in
-      number_product signed (number_of place.factor) by_variable
-      (ap (λ x. times (signed_weight relation.0 x) (fraction place.factor)) (weight_is ∙ ap (weight_of relation.0 place) (sym side))
-      ∙ weighs place l relation.0 relation.1 is_placed.is.factor (limit_of reason.bound) states m (sized up e.coefficient) ∙ ap (λ (x : Number). x.fraction) side)
+      number_product signed (number_of slack.factor) by_variable
+      (ap (λ x. times (signed_weight relation.0 x) (fraction slack.factor)) (weight_is ∙ ap (weight_of relation.0 slack) (sym side))
+      ∙ weighs slack l relation.0 relation.1 has_slack_in.is.factor (limit_of reason.bound) states m (sized up e.coefficient) ∙ ap (λ (x : Number). x.fraction) side)
 
   abbrev summand : Summand
   summand = record {
     literal = literal_at t w.literal;
-    constraint = with_relation relation.0 is_placed.constraint;
-    form = is_placed.form;
+    constraint = with_relation relation.0 has_slack_in.constraint;
+    form = has_slack_in.form;
     weight = fraction w.weight;
   }
 
-  says : constraint_of (literal_at t w.literal) ≡ Some (with_relation relation.0 is_placed.constraint)
+  says : constraint_of (literal_at t w.literal) ≡ Some (with_relation relation.0 has_slack_in.constraint)
   says =
       ap (λ k. constraint_of (literal_at t k)) reason.literal
-      ∙ reads (term_at t l.term) l.positive is_placed.constraint place.kind relation.0 is_placed.says is_placed.kind relation.1
+      ∙ reads (term_at t l.term) l.positive has_slack_in.constraint slack.kind relation.0 has_slack_in.says has_slack_in.kind relation.1
 
   value_is : value_of (stop_of f.held up e) ≡ pair_of reason.bound.value
   value_is = ap value_of reason.stops
 
-  base_is : (value_of (stop_of f.held up e)).base ≡ number_of place.bound
-  base_is = ap (λ (p : Pair Number). p.base) value_is ∙ (laws.states place l (limit_of reason.bound) states).2
+  base_is : (value_of (stop_of f.held up e)).base ≡ number_of slack.bound
+  base_is = ap (λ (p : Pair Number). p.base) value_is ∙ (laws.states slack l (limit_of reason.bound) states).2
 
-  variable_is : place.variable ≡ e.variable
-  variable_is = sym (laws.states place l (limit_of reason.bound) states).0 ∙ is_held.2
+  variable_is : slack.variable ≡ e.variable
+  variable_is = sym (laws.states slack l (limit_of reason.bound) states).0 ∙ is_held.2
 
   product : (n : Term → Number) (v : ℕ → Number) → AreOwned s.table s.owners n v → Solves (as_space numbers) v s.listed
       → product_at (λ u. (n u).fraction) summand ≡ (beyond f.held up (flat v) e).base.fraction
   unfolding relation signed
   product n v o h =
-      let k = number_of place.factor in
-      let c = number_of place.constant in
-      product_of signed (form_value (λ u. (n u).fraction) is_placed.form) (numbers.plus (numbers.times k (v place.variable)) c) (form_comes s place is_placed.form is_placed.is n v o h)
+      let k = number_of slack.factor in
+      let c = number_of slack.constant in
+      product_of signed (form_value (λ u. (n u).fraction) has_slack_in.form) (numbers.plus (numbers.times k (v slack.variable)) c) (form_comes s slack has_slack_in.form has_slack_in.is n v o h)
       ∙ ap (λ (x : Number). x.fraction)
-      (scaled signed k c (number_of place.bound) (v place.variable) by_variable is_placed.is.factor is_placed.is.bound comes
+      (scaled signed k c (number_of slack.bound) (v slack.variable) by_variable has_slack_in.is.factor has_slack_in.is.bound comes
       ∙ (λ i. numbers.times by_variable (numbers.plus (v (variable_is i)) (numbers.times minus_one (sym base_is i)))))
 
   tilts : is_strict_by relation.0 (fraction w.weight) ≡ false → (v : ℕ → Number) → (beyond f.held up (flat v) e).tilt ≡ numbers.zero
@@ -295,13 +295,13 @@ module _ (laws : LimitLaws) (t : TableView) (s : AtomSetting) (f : Footing) (up 
   tilts h v = by (is_strict relation.0) refl
     where
       by : (b : Bool) → is_strict relation.0 ≡ b → (beyond f.held up (flat v) e).tilt ≡ numbers.zero
-      by true st = absurd (strict_weight relation.0 (fraction w.weight) (number_of w.weight).reduced (number_of place.factor) by_variable (directed_not_zero up e.coefficient stopped.entry) comes st h)
-      by false st = no_tilt by_variable _ (ap (λ (p : Pair Number). p.tilt) value_is ∙ laws.tilt place l relation.0 relation.1 (limit_of reason.bound) states st)
+      by true st = absurd (strict_weight relation.0 (fraction w.weight) (number_of w.weight).reduced (number_of slack.factor) by_variable (directed_not_zero up e.coefficient stopped.entry) comes st h)
+      by false st = no_tilt by_variable _ (ap (λ (p : Pair Number). p.tilt) value_is ∙ laws.tilt slack l relation.0 relation.1 (limit_of reason.bound) states st)
 
   pub piece : Piece t s f.held up e w
   piece = record {
     summand = summand;
-    fits = record { says = says; has = is_placed.has; reduced = (number_of w.weight).reduced };
+    fits = record { says = says; has = has_slack_in.has; reduced = (number_of w.weight).reduced };
     literal = refl;
     weight = refl;
     product = product;

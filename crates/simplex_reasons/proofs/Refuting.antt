@@ -19,10 +19,10 @@ use Rattle.term_core.specs.declared.ids.TermId.{TermId}
 use Rattle.term_core.specs.Tables.{TableView, term_at}
 use Rattle.simplex_bounds.specs.declared.bounds.Bound.{Bound}
 use Rattle.spec_strains.specs.Points.{deltas}
-use Rattle.simplex_atoms.specs.declared.place.Slack.{Slack}
+use Rattle.simplex_atoms.specs.declared.slack.Slack.{Slack}
 use Rattle.simplex_atoms.specs.Owners.{AreOwned}
 use Rattle.simplex_atoms.specs.Grounded.{AreGrounded}
-use Rattle.simplex_atoms.specs.Places.{AtomSetting, IsPlaced, place_in}
+use Rattle.simplex_atoms.specs.Slacks.{AtomSetting, HasSlackIn, slack_in}
 use Rattle.simplex_explain.specs.declared.weighted.Weighted.{Weighted}
 use Rattle.simplex_explain.specs.Reasons.{literals_meant, weights_meant, Refutes}
 use Rattle.simplex_reasons.specs.Stops.{AreStated, AreAllStopped, beyond, all_beyond}
@@ -69,8 +69,8 @@ pieces_more t s held up e es w ws p ps = record {
   tilts = λ h v. let parts = strict_parts p.summand ps.summands h in (λ i. numbers.plus (p.tilts parts.0 v i) (ps.tilts parts.1 v i)) ∙ numbers_are_ordered_field.sum_zero numbers.zero;
 }
 
-module _ (laws : LimitLaws) (t : TableView) (s : AtomSetting) (f : Footing) (up : Bool) (stated : AreStated f.placed f.held)
-    (placed : (l : Lit) (place : Slack) → place_in f.placed l.term ≡ Some place → IsPlaced s place (term_at t l.term)) where
+module _ (laws : LimitLaws) (t : TableView) (s : AtomSetting) (f : Footing) (up : Bool) (stated : AreStated f.slack_list f.held)
+    (slack_list : (l : Lit) (slack : Slack) → slack_in f.slack_list l.term ≡ Some slack → HasSlackIn s slack (term_at t l.term)) where
   pieces : (es : List (Entry Number)) (ws : List Weighted) → AreAllStopped f.held up es → AreReasonsFor f up es ws → Pieces t s f.held up es ws
   pieces [] [] st r = record {
     summands = [];
@@ -82,7 +82,7 @@ module _ (laws : LimitLaws) (t : TableView) (s : AtomSetting) (f : Footing) (up 
   }
   pieces [] (w ∷ ws) st r = absurd r
   pieces (e ∷ es) [] st r = absurd r
-  pieces (e ∷ es) (w ∷ ws) st r = pieces_more t s f.held up e es w ws (piece laws t s f up e w stated placed st.0 r.0) (pieces es ws st.1 r.1)
+  pieces (e ∷ es) (w ∷ ws) st r = pieces_more t s f.held up e es w ws (piece laws t s f up e w stated slack_list st.0 r.0) (pieces es ws st.1 r.1)
 
 -- the order of pairs by what the sum asks
 over_parts : (b : Number) (c : Number) (strict : Bool) → is_over b.fraction c.fraction ≡ true → (strict ≡ false → c ≡ numbers.zero) → is_above_zero b.fraction || (is_zero b.fraction && strict) ≡ true
@@ -107,12 +107,12 @@ zero_solves (r ∷ rs) = (record { is = sym (none r.entries) }, zero_solves rs)
 
 -- reasons refute where their entries contradict the rows
 pub refutes : LimitLaws → (t : TableView) (owners : List (Option TermId)) (listed : List (Row Number)) (from to : ℕ) (f : Footing) (up : Bool) (es : List (Entry Number)) (ws : List Weighted)
-    → AreGrounded owners from listed to → AreStated f.placed f.held
-    → ((l : Lit) (place : Slack) → place_in f.placed l.term ≡ Some place → IsPlaced (record { table = t; owners = owners; listed = listed }) place (term_at t l.term))
+    → AreGrounded owners from listed to → AreStated f.slack_list f.held
+    → ((l : Lit) (slack : Slack) → slack_in f.slack_list l.term ≡ Some slack → HasSlackIn (record { table = t; owners = owners; listed = listed }) slack (term_at t l.term))
     → Contradicts f.held up listed es → AreReasonsFor f up es ws → Refutes t ws
-refutes laws t owners listed from to f up es ws grounded stated placed c reasons =
+refutes laws t owners listed from to f up es ws grounded stated slack_list c reasons =
     let s : AtomSetting = record { table = t; owners = owners; listed = listed } in
-    let ps = pieces laws t s f up stated placed es ws c.stopped reasons in
+    let ps = pieces laws t s f up stated slack_list es ws c.stopped reasons in
     let solves : (v : ℕ → Number) → Solves (as_space numbers) v listed → Solves deltas (flat v) listed = λ v h. parts_pair numbers (flat v) listed h (zero_solves listed) in
     record {
       summands = ps.summands;

@@ -17,11 +17,11 @@ use Rattle.simplex_bounds.specs.declared.bounds.Bound.{Bound}
 use Rattle.simplex_bounds.specs.declared.bounds.Side.{Side}
 use Rattle.simplex_bounds.specs.Held.{strongest}
 use Rattle.simplex_bounds.proofs.Keeping.{strongest_is_held}
-use Rattle.simplex_atoms.specs.declared.place.Slack.{Slack}
-use Rattle.simplex_atoms.specs.Places.{place_in}
+use Rattle.simplex_atoms.specs.declared.slack.Slack.{Slack}
+use Rattle.simplex_atoms.specs.Slacks.{slack_in}
 use Rattle.simplex_explain.specs.declared.weighted.Weighted.{Weighted}
 use Rattle.simplex_reasons.specs.Stops.{IsStatedBound, AreStated, stopping_side, IsStopped, AreAllStopped}
-use Rattle.simplex_reasons.specs.Reasons.{Footing, IsBoundReason, AreReasonsFor, IsOfHeld, AreOfHeld, StrainsReason, StrainsReasons}
+use Rattle.simplex_reasons.specs.Reasons.{Footing, IsBoundReason, AreReasonsFor, IsOfHeld, AreOfHeld, OverflowsReason, OverflowsReasons}
 
 -- sizes
 
@@ -42,10 +42,10 @@ size_of_other x h = λ i. record { num = sym (size_same x.fraction.num h) i; den
 
 -- a bound that is held has a place
 
-pub place_there : (placed : List (ℕ × Slack)) (held : List Bound) (side : Side) (y : ℕ) (b : Bound) → AreStated placed held → strongest side y held ≡ Some b → place_in placed b.literal.term ≡ None → ⊥
-place_there placed held side y b stated is none =
-    let own = All-contains (IsStatedBound placed) held b stated (strongest_is_held side y held b is).0 in
-    none-some own.place (sym none ∙ own.there)
+pub slack_there : (slack_list : List (ℕ × Slack)) (held : List Bound) (side : Side) (y : ℕ) (b : Bound) → AreStated slack_list held → strongest side y held ≡ Some b → slack_in slack_list b.literal.term ≡ None → ⊥
+slack_there slack_list held side y b stated is none =
+    let own = All-contains (IsStatedBound slack_list) held b stated (strongest_is_held side y held b is).0 in
+    none-some own.slack (sym none ∙ own.there)
 
 -- the loop
 
@@ -74,12 +74,12 @@ told_stop f up whole rest e es ws is told = (subst (λ r. Told f up whole r ws) 
 pub told_all : (f : Footing) (up : Bool) (whole rest : List (Entry Number)) (ws : List Weighted) → rest ≡ [] → Told f up whole rest ws → AreReasonsFor f up whole ws
 told_all f up whole rest ws is told = subst (AreReasonsFor f up whole) (append-nil ws) ((subst (λ r. Told f up whole r ws) is told).reasons [] tt)
 
-pub told_strain : (f : Footing) (up : Bool) (whole rest : List (Entry Number)) (e : Entry Number) (es : List (Entry Number)) (ws : List Weighted) (o : Overflow) → rest ≡ e ∷ es → Told f up whole rest ws → StrainsReason f up e o
-    → StrainsReasons f up whole o
-told_strain f up whole rest e es ws o is told s = (e, (subst (λ r. Told f up whole r ws) is told).among e (first e es), s)
+pub told_overflow : (f : Footing) (up : Bool) (whole rest : List (Entry Number)) (e : Entry Number) (es : List (Entry Number)) (ws : List Weighted) (o : Overflow) → rest ≡ e ∷ es → Told f up whole rest ws → OverflowsReason f up e o
+    → OverflowsReasons f up whole o
+told_overflow f up whole rest e es ws o is told s = (e, (subst (λ r. Told f up whole r ws) is told).among e (first e es), s)
 
-pub first_strain : (f : Footing) (up : Bool) (e : Entry Number) (es : List (Entry Number)) (o : Overflow) → StrainsReason f up e o → StrainsReasons f up (e ∷ es) o
-first_strain f up e es o s = (e, first e es, s)
+pub first_overflowing : (f : Footing) (up : Bool) (e : Entry Number) (es : List (Entry Number)) (o : Overflow) → OverflowsReason f up e o → OverflowsReasons f up (e ∷ es) o
+first_overflowing f up e es o s = (e, first e es, s)
 
 -- each reason is the literal of a bound that is held
 pub of_held : (f : Footing) (up : Bool) (es : List (Entry Number)) (ws : List Weighted) → AreReasonsFor f up es ws → AreOfHeld f.held ws

@@ -12,25 +12,25 @@ use Rattle.simplex_bounds.specs.declared.bounds.Side.{Side}
 use Rattle.simplex_bounds.specs.Deltas.{pair_of}
 use Rattle.spec_strains.specs.Points.{deltas}
 use Rattle.simplex_bounds.specs.Held.{strongest}
-use Rattle.simplex_atoms.specs.declared.place.Slack.{Slack}
-use Rattle.simplex_atoms.specs.Places.{place_in}
+use Rattle.simplex_atoms.specs.declared.slack.Slack.{Slack}
+use Rattle.simplex_atoms.specs.Slacks.{slack_in}
 use Rattle.simplex_atoms.specs.Limits.{side_by, limit_of, limits_by}
 
 -- A bound is one of those that its literal states.
-pub record IsStatedBound (placed : List (ℕ × Slack)) (b : Bound) : Type 0 where
+pub record IsStatedBound (slack_list : List (ℕ × Slack)) (b : Bound) : Type 0 where
   -- the place of the literal's atom
-  pub place : Slack
-  pub there : place_in placed b.literal.term ≡ Some place
-  pub states : Contains (limits_by place b.literal) (limit_of b)
+  pub slack : Slack
+  pub there : slack_in slack_list b.literal.term ≡ Some slack
+  pub states : Contains (limits_by slack b.literal) (limit_of b)
 
 -- each of the bounds is stated by its literal
 abbrev pub AreStated : List (ℕ × Slack) → List Bound → Type 0
-AreStated placed held = All (IsStatedBound placed) held
+AreStated slack_list held = All (IsStatedBound slack_list) held
 
 -- the factor of each place is not 0
 abbrev pub HaveFactors : List (ℕ × Slack) → Type 0
-HaveFactors placed = (id : TermId) (place : Slack) → place_in placed id ≡ Some place
-    → numbers.is_zero (number_of place.factor) ≡ false
+HaveFactors slack_list = (id : TermId) (slack : Slack) → slack_in slack_list id ≡ Some slack
+    → numbers.is_zero (number_of slack.factor) ≡ false
 
 -- the side on which a variable with the coefficient c is stopped where a sum is to rise, or to fall where up is false
 abbrev pub stopping_side : Bool → Number → Side

@@ -7,19 +7,19 @@ ghost use Rattle.spec_tableaux.specs.LeastVariable.{RuleSays, IsNonbasicFeasible
 ghost use Rattle.term_core.specs.Tables.{TableView};
 ghost use Rattle.spec_strains.specs.Points.{deltas};
 ghost use Rattle.simplex_bounds.specs.Held.{ranges_in};
-ghost use Rattle.simplex_check.specs.Boards.{state_of};
+ghost use Rattle.simplex_check.specs.Assignments.{state_of};
 ghost use Rattle.simplex_atoms.specs.Atoms.{AtomsFit};
 ghost use Rattle.simplex_explain.specs.Reasons.{Refutes};
 ghost use Rattle.simplex_reasons.specs.Stops.{AreStated};
 ghost use Rattle.spec_causes.specs.Reasons.{with_basic, unit_entries};
-ghost use Rattle.simplex_reasons.specs.Reasons.{Meaning, footing, AreReasonsFor, AreOfHeld, StrainsReasons, OnReasonOverflow};
+ghost use Rattle.simplex_reasons.specs.Reasons.{Meaning, footing, AreReasonsFor, AreOfHeld, OverflowsReasons, OnReasonOverflow};
 
 use crate::rows::{crossed_reasons, stuck_reasons};
 use crate::stop::ReasonStop;
 use simplex_atoms::Atoms;
 use simplex_atoms::laws::bounds_have_weights;
 use simplex_bounds::Bounds;
-use simplex_check::Board;
+use simplex_check::RealAssignment;
 use simplex_explain::Weighted;
 use std::alloc::Global;
 
@@ -39,28 +39,28 @@ use std::alloc::Global;
 /// for DPLL(T), CAV 2006.
 pub fn row_reasons(
     alloc: Global,
-    board: &Board,
+    assignment: &RealAssignment,
     bounds: &Bounds,
     atoms: &Atoms,
     b: u64,
 ) -> Result<Vec<Weighted>, ReasonStop>
     ghost t: { TableView }
-    requires right { AtomsFit t atoms.now board.now bounds.now }
-    requires stated { AreStated atoms.now.placed bounds.now.held }
-    requires settled { IsNonbasicFeasible deltas (ranges_in bounds.now.held) (state_of board.now) }
-    requires says { RuleSays deltas (ranges_in bounds.now.held) (state_of board.now) (stuck b) }
+    requires right { AtomsFit t atoms.now assignment.now bounds.now }
+    requires stated { AreStated atoms.now.slack_list bounds.now.held }
+    requires nonbasic_updated { IsNonbasicFeasible deltas (ranges_in bounds.now.held) (state_of assignment.now) }
+    requires says { RuleSays deltas (ranges_in bounds.now.held) (state_of assignment.now) (stuck b) }
     ensures reasons { IfOk result (λ reasons. AreReasonsFor (footing atoms.now bounds.now)
-        (goes_up deltas (ranges_in bounds.now.held) (state_of board.now) b)
-        (with_basic b (row_of b board.now.tableau.rows).entries) reasons.items) }
+        (goes_up deltas (ranges_in bounds.now.held) (state_of assignment.now) b)
+        (with_basic b (row_of b assignment.now.tableau.rows).entries) reasons.items) }
     ensures refutes { IfOk result (λ reasons. Refutes t reasons.items) }
     ensures held { IfOk result (λ reasons. AreOfHeld bounds.now.held reasons.items) }
-    ensures wide { IfErr result (OnReasonOverflow (StrainsReasons (footing atoms.now bounds.now)
-        (goes_up deltas (ranges_in bounds.now.held) (state_of board.now) b)
-        (with_basic b (row_of b board.now.tableau.rows).entries))) }
+    ensures wide { IfErr result (OnReasonOverflow (OverflowsReasons (footing atoms.now bounds.now)
+        (goes_up deltas (ranges_in bounds.now.held) (state_of assignment.now) b)
+        (with_basic b (row_of b assignment.now.tableau.rows).entries))) }
 {
     bounds_have_weights();
-    board.tableau().rows_are_in_solved_form();
-    let reasons = stuck_reasons(alloc, board, bounds, atoms, b)?;
+    assignment.tableau().rows_are_in_solved_form();
+    let reasons = stuck_reasons(alloc, assignment, bounds, atoms, b)?;
     Ok(reasons)
 }
 
@@ -81,14 +81,14 @@ pub fn crossing_reasons(
     y: u64,
 ) -> Result<Vec<Weighted>, ReasonStop>
     ghost of: { Meaning }
-    requires right { AtomsFit of.table atoms.now of.board bounds.now }
-    requires stated { AreStated atoms.now.placed bounds.now.held }
+    requires right { AtomsFit of.table atoms.now of.assignment bounds.now }
+    requires stated { AreStated atoms.now.slack_list bounds.now.held }
     requires crossed { is_crossed deltas (ranges_in bounds.now.held) y ≡ true }
     ensures reasons { IfOk result (λ reasons. AreReasonsFor (footing atoms.now bounds.now) true
         (with_basic y (unit_entries y)) reasons.items) }
     ensures refutes { IfOk result (λ reasons. Refutes of.table reasons.items) }
     ensures held { IfOk result (λ reasons. AreOfHeld bounds.now.held reasons.items) }
-    ensures wide { IfErr result (OnReasonOverflow (StrainsReasons (footing atoms.now bounds.now) true
+    ensures wide { IfErr result (OnReasonOverflow (OverflowsReasons (footing atoms.now bounds.now) true
         (with_basic y (unit_entries y)))) }
 {
     bounds_have_weights();

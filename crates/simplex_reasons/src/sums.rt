@@ -4,7 +4,7 @@ ghost use Rattle.std.specs.Prelude.{IfOk, IfErr};
 ghost use Rattle.tableau.specs.Entries.{entries_of};
 ghost use Rattle.simplex_reasons.specs.Stops.{AreStated, HaveFactors, AreAllStopped};
 ghost use Rattle.spec_causes.specs.Reasons.{with_basic};
-ghost use Rattle.simplex_reasons.specs.Reasons.{footing, AreReasonsFor, StrainsReasons, OnReasonOverflow};
+ghost use Rattle.simplex_reasons.specs.Reasons.{footing, AreReasonsFor, OverflowsReasons, OnReasonOverflow};
 
 use crate::stop::ReasonStop;
 use crate::weights::reason_for;
@@ -28,11 +28,11 @@ pub(crate) fn reasons_for(
     entries: &[Entry],
 ) -> Result<Vec<Weighted>, ReasonStop>
     requires stopped { AreAllStopped bounds.now.held up (with_basic basic (entries_of entries.now)) }
-    requires stated { AreStated atoms.now.placed bounds.now.held }
-    requires factors { HaveFactors atoms.now.placed }
+    requires stated { AreStated atoms.now.slack_list bounds.now.held }
+    requires factors { HaveFactors atoms.now.slack_list }
     ensures reasons { IfOk result (λ reasons. AreReasonsFor (footing atoms.now bounds.now) up
         (with_basic basic (entries_of entries.now)) reasons.items) }
-    ensures wide { IfErr result (OnReasonOverflow (StrainsReasons (footing atoms.now bounds.now) up
+    ensures wide { IfErr result (OnReasonOverflow (OverflowsReasons (footing atoms.now bounds.now) up
         (with_basic basic (entries_of entries.now)))) }
 {
     let mut reasons = Vec::new(alloc);

@@ -8,11 +8,11 @@ ghost use Rattle.ratio128.specs.Meant.{fraction, overflow};
 ghost use Rattle.tableau.specs.Numbers.{number_of};
 ghost use Rattle.tableau.specs.Entries.{entry_of};
 ghost use Rattle.simplex_bounds.specs.Held as held;
-ghost use Rattle.simplex_atoms.specs.Places.{relation_by};
+ghost use Rattle.simplex_atoms.specs.Slacks.{relation_by};
 ghost use Rattle.spec_causes.specs.Reasons as causes;
 ghost use Rattle.simplex_reasons.specs.Stops as stops;
 ghost use Rattle.simplex_reasons.specs.Stops.{AreStated, HaveFactors, IsStopped};
-ghost use Rattle.simplex_reasons.specs.Reasons.{weight_by, footing, IsBoundReason, StrainsReason};
+ghost use Rattle.simplex_reasons.specs.Reasons.{weight_by, footing, IsBoundReason, OverflowsReason};
 
 use ratio128::{Ratio, Wide};
 use simplex_atoms::{Atoms, Comparison, Slack};
@@ -31,14 +31,14 @@ fn size(a: Ratio) -> Ratio
 /// Gives the weight of a literal with which the variable of its place has the weight `s`.
 ///
 /// The error comes where `s` over the factor leaves the bound on fractions.
-fn weight_by(place: Slack, literal: Lit, s: Ratio) -> Result<Ratio, Wide>
-    requires { numbers.is_zero (number_of place.factor) ≡ false }
+fn weight_by(slack: Slack, literal: Lit, s: Ratio) -> Result<Ratio, Wide>
+    requires { numbers.is_zero (number_of slack.factor) ≡ false }
     ensures weight { IfOk result (λ w. fraction w
-        ≡ weight_by (relation_by place.kind literal.positive) place (number_of s)) }
-    ensures wide { IfErr result (λ w. divided (fraction s) (fraction place.factor) ≡ Err (overflow w)) }
+        ≡ weight_by (relation_by slack.kind literal.positive) slack (number_of s)) }
+    ensures wide { IfErr result (λ w. divided (fraction s) (fraction slack.factor) ≡ Err (overflow w)) }
 {
-    let part = quotient(s, place.factor)?;
-    Ok(match place.kind {
+    let part = quotient(s, slack.factor)?;
+    Ok(match slack.kind {
         Comparison::Equal => part,
         Comparison::Less => size(part),
         Comparison::AtMost => size(part),
@@ -85,19 +85,19 @@ pub(crate) fn reason_for(
     entry: Entry,
 ) -> Result<Weighted, Wide>
     requires stopped { IsStopped bounds.now.held up (entry_of entry) }
-    requires stated { AreStated atoms.now.placed bounds.now.held }
-    requires factors { HaveFactors atoms.now.placed }
+    requires stated { AreStated atoms.now.slack_list bounds.now.held }
+    requires factors { HaveFactors atoms.now.slack_list }
     ensures reason { IfOk result (IsBoundReason (footing atoms.now bounds.now) up (entry_of entry)) }
-    ensures wide { IfErr result (λ w. StrainsReason (footing atoms.now bounds.now) up (entry_of entry) (overflow w)) }
+    ensures wide { IfErr result (λ w. OverflowsReason (footing atoms.now bounds.now) up (entry_of entry) (overflow w)) }
 {
     let side = stopping_side(up, entry.coefficient);
     let Some(bound) = strongest(bounds, side, entry.variable) else {
         unreachable!();
     };
-    let Some(place) = atoms.place(bound.literal.term) else {
+    let Some(slack) = atoms.slack(bound.literal.term) else {
         unreachable!();
     };
-    let weight = weight_by(place, bound.literal, directed(up, entry.coefficient))?;
+    let weight = weight_by(slack, bound.literal, directed(up, entry.coefficient))?;
     Ok(Weighted {
         literal: bound.literal,
         weight,

@@ -1,4 +1,4 @@
-//! Rows and bounds by chance, with marks and going back, checked on two boards and by an elimination of variables.
+//! Rows and bounds by chance, with marks and going back, checked on two assignments and by an elimination of variables.
 
 ghost use Rattle.std.specs.Prelude.{◌≡◌, ◌<◌, true};
 ghost use Rattle.spec_tableaux.specs.SolvedForms.{AllVariables};
@@ -8,7 +8,7 @@ use crate::checked::{Tally, check_both};
 use crate::elimination::Form;
 use crate::known::{Known, Limit, Part, Sum, bound_of, entry_of};
 use simplex_bounds::{Bound, Bounds};
-use simplex_check::Board;
+use simplex_check::RealAssignment;
 use std::alloc::Global;
 use std::test::Fail;
 use tableau::Entry;
@@ -19,11 +19,11 @@ const CASES: u64 = 2_000;
 /// How many rows a case has at most.
 const ROWS: u64 = 3;
 
-/// Holds a case: its two boards, the bounds, and what it has said.
+/// Holds a case: its two assignments, the bounds, and what it has said.
 #[derive(Drop)]
 struct Case {
-    board: Board,
-    pieces: Board,
+    assignment: RealAssignment,
+    pieces: RealAssignment,
     bounds: Bounds,
     known: Known,
 }
@@ -108,10 +108,10 @@ fn are_below(entries: &[Entry], number: u64) -> bool
     true
 }
 
-/// Adds a row to a board, if its variables are there; gives its variable.
-fn add_to(board: &mut Board, entries: &[Entry]) -> Option<u64> {
-    if are_below(entries, board.tableau().variables_len()) {
-        return board.add_row(entries).ok();
+/// Adds a row to an assignment, if its variables are there; gives its variable.
+fn add_to(assignment: &mut RealAssignment, entries: &[Entry]) -> Option<u64> {
+    if are_below(entries, assignment.tableau().variables_len()) {
+        return assignment.add_row(entries).ok();
     }
     None
 }
@@ -139,8 +139,8 @@ impl Case {
     /// Makes one of nothing.
     fn new(alloc: Global) -> Case {
         Case {
-            board: Board::new(alloc),
-            pieces: Board::new(alloc),
+            assignment: RealAssignment::new(alloc),
+            pieces: RealAssignment::new(alloc),
             bounds: Bounds::new(alloc),
             known: Known::new(alloc),
         }
@@ -148,17 +148,17 @@ impl Case {
 
     /// Adds a variable.
     fn add(&mut self, n: u64) -> Option<()> {
-        self.board.add_var().ok()?;
+        self.assignment.add_var().ok()?;
         self.pieces.add_var().ok()?;
         self.bounds.add_var().ok()?;
         self.known.add(unit(n))
     }
 
-    /// Adds a row; tells whether both boards gave it the same variable.
+    /// Adds a row; tells whether both assignments gave it the same variable.
     fn add_sum(&mut self, sum: Sum) -> Option<bool> {
         let [a, b, c] = sum.parts;
         let entries = [entry_of(a), entry_of(b), entry_of(c)];
-        let one = add_to(&mut self.board, &entries)?;
+        let one = add_to(&mut self.assignment, &entries)?;
         let other = add_to(&mut self.pieces, &entries)?;
         self.bounds.add_var().ok()?;
         self.known.add_sum(sum)?;
@@ -196,19 +196,19 @@ impl Case {
         Some(true)
     }
 
-    /// Checks both boards; tells whether they answer as the elimination does, and whether the values are right.
+    /// Checks both assignments; tells whether they answer as the elimination does, and whether the values are right.
     fn check(&mut self, alloc: Global, tally: &mut Tally) -> Option<bool> {
         let fine = check_both(
             alloc,
-            &mut self.board,
+            &mut self.assignment,
             &mut self.pieces,
             &self.bounds,
             tally,
         )?;
-        if self.known.is_feasible(alloc)? != fine || !self.known.is_solved(&self.board)? {
+        if self.known.is_feasible(alloc)? != fine || !self.known.is_solved(&self.assignment)? {
             return Some(false);
         }
-        Some(!fine || self.known.is_kept(&self.board))
+        Some(!fine || self.known.is_kept(&self.assignment))
     }
 
     /// Makes an event by chance; tells whether all is as it should.

@@ -1,8 +1,8 @@
-//! Checks of two boards, one of which goes on after each exchange with a new budget.
+//! Checks of two assignments, one of which goes on after each exchange with a new budget.
 
 use sat_budget::{Budget, Limits, Stop};
 use simplex_bounds::Bounds;
-use simplex_check::{Board, CheckOutcome};
+use simplex_check::{CheckOutcome, RealAssignment};
 use std::alloc::Global;
 
 /// How many exchanges a check may make.
@@ -45,24 +45,24 @@ fn count(n: &mut u64) {
     *n = n.saturating_add(1);
 }
 
-/// Checks a board whose variables the bounds are of.
+/// Checks an assignment whose variables the bounds are of.
 fn run(
-    board: &mut Board,
+    assignment: &mut RealAssignment,
     bounds: &Bounds,
     budget: &mut Budget,
 ) -> Option<Result<CheckOutcome, Stop>> {
-    if bounds.variables() > board.tableau().variables_len() {
+    if bounds.variables() > assignment.tableau().variables_len() {
         return None;
     }
-    Some(board.check(bounds, budget))
+    Some(assignment.check(bounds, budget))
 }
 
-/// Checks a board within a number of exchanges, and adds up how many are made.
+/// Checks an assignment within a number of exchanges, and adds up how many are made.
 ///
 /// Gives `Some(None)` where a further one is needed, and `None` where the check stops for another reason.
 fn outcome_within(
     alloc: Global,
-    board: &mut Board,
+    assignment: &mut RealAssignment,
     bounds: &Bounds,
     pivots: u64,
     exchanges: &mut u64,
@@ -73,7 +73,7 @@ fn outcome_within(
         terms: 0,
     };
     let mut budget = Budget::new(alloc, &limits).ok()?;
-    let result = run(board, bounds, &mut budget)?;
+    let result = run(assignment, bounds, &mut budget)?;
     let made = budget.exchanged_len();
     *exchanges = exchanges.saturating_add(made);
     match result {
@@ -83,16 +83,16 @@ fn outcome_within(
     }
 }
 
-/// Checks a board with budgets of one exchange each; counts those that were not enough.
+/// Checks an assignment with budgets of one exchange each; counts those that were not enough.
 fn outcome_in_pieces(
     alloc: Global,
-    board: &mut Board,
+    assignment: &mut RealAssignment,
     bounds: &Bounds,
     exchanges: &mut u64,
     stops: &mut u64,
 ) -> Option<CheckOutcome> {
     for _ in 0..PIVOTS {
-        if let Some(outcome) = outcome_within(alloc, board, bounds, 1, exchanges)? {
+        if let Some(outcome) = outcome_within(alloc, assignment, bounds, 1, exchanges)? {
             return Some(outcome);
         }
         count(stops);
@@ -100,10 +100,10 @@ fn outcome_in_pieces(
     None
 }
 
-/// Tells whether two boards have the same values.
-fn values_agree(board: &Board, pieces: &Board, variables: u64) -> bool {
+/// Tells whether two assignments have the same values.
+fn values_agree(assignment: &RealAssignment, pieces: &RealAssignment, variables: u64) -> bool {
     for y in 0..variables {
-        if board.value(y) != pieces.value(y) {
+        if assignment.value(y) != pieces.value(y) {
             return false;
         }
     }
@@ -120,22 +120,22 @@ fn count_outcome(tally: &mut Tally, outcome: CheckOutcome) -> bool {
     outcome == CheckOutcome::Fine
 }
 
-/// Checks two boards, the second one with budgets of one exchange each. Tells whether all bounds are kept.
+/// Checks two assignments, the second one with budgets of one exchange each. Tells whether all bounds are kept.
 ///
-/// Gives `None` where the boards come to different outcomes, exchanges or values, or to no outcome.
+/// Gives `None` where the assignments come to different outcomes, exchanges or values, or to no outcome.
 pub(crate) fn check_both(
     alloc: Global,
-    board: &mut Board,
-    pieces: &mut Board,
+    assignment: &mut RealAssignment,
+    pieces: &mut RealAssignment,
     bounds: &Bounds,
     tally: &mut Tally,
 ) -> Option<bool> {
     let mut made = 0;
-    let outcome = outcome_within(alloc, board, bounds, PIVOTS, &mut made)??;
+    let outcome = outcome_within(alloc, assignment, bounds, PIVOTS, &mut made)??;
     let mut again = 0;
     let other = outcome_in_pieces(alloc, pieces, bounds, &mut again, &mut tally.stops)?;
     tally.exchanges = tally.exchanges.saturating_add(made);
-    if outcome != other || made != again || !values_agree(board, pieces, bounds.variables()) {
+    if outcome != other || made != again || !values_agree(assignment, pieces, bounds.variables()) {
         return None;
     }
     Some(count_outcome(tally, outcome))

@@ -6,7 +6,7 @@ use crate::elimination::{Form, Inequality, has_point, mixed_forms};
 use delta_num::Delta;
 use simplex_bounds::deltas::{less, plus, scaled, zero};
 use simplex_bounds::{Bound, Lit, Side};
-use simplex_check::Board;
+use simplex_check::RealAssignment;
 use std::alloc::Global;
 use tableau::{Entry, Ratio};
 use term_core::TermId;
@@ -140,18 +140,18 @@ fn keeps(value: Delta, limit: &Limit) -> bool {
 }
 
 /// Adds a part to a value.
-fn value_with(board: &Board, so_far: Delta, part: Part) -> Option<Delta> {
-    let product = scaled(whole(part.times), board.value(part.variable)).ok()?;
+fn value_with(assignment: &RealAssignment, so_far: Delta, part: Part) -> Option<Delta> {
+    let product = scaled(whole(part.times), assignment.value(part.variable)).ok()?;
     plus(so_far, product).ok()
 }
 
 /// Tells whether the value of a sum is that of its parts.
-fn adds_up(board: &Board, sum: &Sum) -> Option<bool> {
+fn adds_up(assignment: &RealAssignment, sum: &Sum) -> Option<bool> {
     let [a, b, c] = sum.parts;
-    let one = value_with(board, zero(), a)?;
-    let two = value_with(board, one, b)?;
-    let three = value_with(board, two, c)?;
-    Some(board.value(sum.variable) == three)
+    let one = value_with(assignment, zero(), a)?;
+    let two = value_with(assignment, one, b)?;
+    let three = value_with(assignment, two, c)?;
+    Some(assignment.value(sum.variable) == three)
 }
 
 impl Known {
@@ -211,9 +211,9 @@ impl Known {
     }
 
     /// Tells whether the values keep all bounds that are held.
-    pub(crate) fn is_kept(&self, board: &Board) -> bool {
+    pub(crate) fn is_kept(&self, assignment: &RealAssignment) -> bool {
         for limit in &self.limits {
-            if !keeps(board.value(limit.variable), limit) {
+            if !keeps(assignment.value(limit.variable), limit) {
                 return false;
             }
         }
@@ -221,9 +221,9 @@ impl Known {
     }
 
     /// Tells whether the value of each row is that of its parts; `None` where a number leaves 128 bits.
-    pub(crate) fn is_solved(&self, board: &Board) -> Option<bool> {
+    pub(crate) fn is_solved(&self, assignment: &RealAssignment) -> Option<bool> {
         for sum in &self.sums {
-            if !adds_up(board, sum)? {
+            if !adds_up(assignment, sum)? {
                 return Some(false);
             }
         }

@@ -4,7 +4,7 @@ use delta_num::Delta;
 use ratio128::Op;
 use sat_budget::{Budget, Limits, Stop};
 use simplex_bounds::{Bound, Bounds, Lit, Side};
-use simplex_check::{Board, CheckOutcome};
+use simplex_check::{CheckOutcome, RealAssignment};
 use std::alloc::Global;
 use std::test::Fail;
 use tableau::{Entry, Ratio, RowStop};
@@ -16,11 +16,11 @@ fn whole(n: i64) -> Delta {
     Delta::number(Ratio::of(i128::from(n), 1))
 }
 
-/// Makes the board of x2 = left * x0 + right * x1.
-fn board_of(alloc: Global, left: Ratio, right: Ratio) -> Result<Board, RowStop> {
-    let mut board = Board::new(alloc);
-    board.add_var()?;
-    board.add_var()?;
+/// Makes the assignment of x2 = left * x0 + right * x1.
+fn assignment_by(alloc: Global, left: Ratio, right: Ratio) -> Result<RealAssignment, RowStop> {
+    let mut assignment = RealAssignment::new(alloc);
+    assignment.add_var()?;
+    assignment.add_var()?;
     let entries = [
         Entry {
             variable: 0,
@@ -31,8 +31,8 @@ fn board_of(alloc: Global, left: Ratio, right: Ratio) -> Result<Board, RowStop> 
             coefficient: right,
         },
     ];
-    board.add_row(&entries)?;
-    Ok(board)
+    assignment.add_row(&entries)?;
+    Ok(assignment)
 }
 
 /// Makes bounds of three variables, each by its variable, its side and its value.
@@ -58,16 +58,16 @@ fn bounds_of(alloc: Global, list: &[(u64, Side, i64)]) -> Result<Bounds, NoMemor
     Ok(bounds)
 }
 
-/// Checks a board whose variables the bounds are of.
+/// Checks an assignment whose variables the bounds are of.
 fn run(
-    board: &mut Board,
+    assignment: &mut RealAssignment,
     bounds: &Bounds,
     budget: &mut Budget,
 ) -> Option<Result<CheckOutcome, Stop>> {
-    if bounds.variables() > board.tableau().variables_len() {
+    if bounds.variables() > assignment.tableau().variables_len() {
         return None;
     }
-    Some(board.check(bounds, budget))
+    Some(assignment.check(bounds, budget))
 }
 
 /// Tells whether these are the exchanges of a budget.
@@ -82,10 +82,10 @@ fn exchanges_are(budget: &Budget, want: &[(u64, u64)]) -> bool {
 }
 
 /// Tells whether these are the values of x0, x1 and x2.
-fn values_are(board: &Board, want: (i64, i64, i64)) -> bool {
-    board.value(0) == whole(want.0)
-        && board.value(1) == whole(want.1)
-        && board.value(2) == whole(want.2)
+fn values_are(assignment: &RealAssignment, want: (i64, i64, i64)) -> bool {
+    assignment.value(0) == whole(want.0)
+        && assignment.value(1) == whole(want.1)
+        && assignment.value(2) == whole(want.2)
 }
 
 /// Tells whether a check of x2 = x0 + x1 comes to this outcome by these exchanges, with these values.
@@ -96,7 +96,7 @@ fn comes_to(
     exchanges: &[(u64, u64)],
     values: (i64, i64, i64),
 ) -> Option<bool> {
-    let mut board = board_of(alloc, Ratio::of(1, 1), Ratio::of(1, 1)).ok()?;
+    let mut assignment = assignment_by(alloc, Ratio::of(1, 1), Ratio::of(1, 1)).ok()?;
     let bounds = bounds_of(alloc, list).ok()?;
     let limits = Limits {
         conflicts: 0,
@@ -104,8 +104,10 @@ fn comes_to(
         terms: 0,
     };
     let mut budget = Budget::new(alloc, &limits).ok()?;
-    let outcome = run(&mut board, &bounds, &mut budget)?;
-    Some(outcome == Ok(want) && exchanges_are(&budget, exchanges) && values_are(&board, values))
+    let outcome = run(&mut assignment, &bounds, &mut budget)?;
+    Some(
+        outcome == Ok(want) && exchanges_are(&budget, exchanges) && values_are(&assignment, values),
+    )
 }
 
 #[test]
@@ -142,8 +144,8 @@ fn checks_exchange_as_the_rule_says(rt: HostRuntime) -> Result<(), Fail> {
 #[test]
 fn nonbasic_variables_go_to_their_bounds(rt: HostRuntime) -> Result<(), Fail> {
     let lower = [(0, Side::Lower, 3), (1, Side::Upper, -1)];
-    let settled = comes_to(rt.alloc(), &lower, CheckOutcome::Fine, &[], (3, -1, 2));
-    assert_eq!(rt; settled, Some(true));
+    let nonbasic_updated = comes_to(rt.alloc(), &lower, CheckOutcome::Fine, &[], (3, -1, 2));
+    assert_eq!(rt; nonbasic_updated, Some(true));
     let crossed = [
         (0, Side::Lower, 3),
         (1, Side::Lower, 2),
@@ -162,7 +164,7 @@ fn nonbasic_variables_go_to_their_bounds(rt: HostRuntime) -> Result<(), Fail> {
 
 /// Gives the stop of a check of x2 = left * x0 + x1 with a limit on exchanges.
 fn stop_of(alloc: Global, left: Ratio, list: &[(u64, Side, i64)], pivots: u64) -> Option<Stop> {
-    let mut board = board_of(alloc, left, Ratio::of(1, 1)).ok()?;
+    let mut assignment = assignment_by(alloc, left, Ratio::of(1, 1)).ok()?;
     let bounds = bounds_of(alloc, list).ok()?;
     let limits = Limits {
         conflicts: 0,
@@ -170,7 +172,7 @@ fn stop_of(alloc: Global, left: Ratio, list: &[(u64, Side, i64)], pivots: u64) -
         terms: 0,
     };
     let mut budget = Budget::new(alloc, &limits).ok()?;
-    run(&mut board, &bounds, &mut budget)?.err()
+    run(&mut assignment, &bounds, &mut budget)?.err()
 }
 
 /// Tells whether the stop is an overflow of a product at the values 0, with x2 basic.

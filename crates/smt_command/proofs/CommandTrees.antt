@@ -34,7 +34,7 @@ not_taken : (t : Tree) (f : Located) → command_of t ≡ Err f → step 0 empty
 unfolding step ◌>>=◌
 not_taken t f e = ap (λ a. a >>= λ c. performed 0 (offset_of t) empty_stack c) e
 
--- a fault of a command stands in its s-expression, so the place that was made of its offset has that offset
+-- a fault of a command is in its s-expression, so the place that was made of its offset has that offset
 pub placed_fault : (x : Sexpr) (n : ℕ) (f : Fault) (p : Place) → command_of (tree_of x) ≡ Err (record { offset = n; fault = f })
     → ((l : ℕ) (u : Stack) (t : Tree) (g : Located) → step l u t ≡ Err g → HasOffset t g.offset)
     → AllOffsets (λ m. (start_of x ≤ m) × (m < length (text_of x))) (tree_of x) → (start_of x ≤ n → n < length (text_of x) → p.offset ≡ n) → command_of (tree_of x) ≡ Err (record { offset = p.offset; fault = f })

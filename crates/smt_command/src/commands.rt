@@ -32,7 +32,7 @@ pub enum Command<'a> {
     Assert(Trees<'a>),
     /// What is asserted is to be checked. The number is the offset of the word `check-sat`, in bytes.
     CheckSat(u64),
-    /// A text is to be written: what stands between its quotes, where two quotes stand for one.
+    /// A text is to be written: what is between its quotes, where two quotes stand for one.
     Echo(&'a [u8]),
     /// The script ends.
     Exit,

@@ -70,7 +70,7 @@ fn first_command(trees: Trees<'_>) -> Result<Command<'_>, CommandFault>
     }
 }
 
-/// Gives the place of an offset that stands in an s-expression; of any other offset, where the s-expression begins.
+/// Gives the place of an offset that is in an s-expression; of any other offset, where the s-expression begins.
 fn place_in(sexpr: &Sexpr<'_>, offset: u64) -> Place
     ensures place { IsPlaceOf (text_of sexpr.now) result }
     ensures offset { start_of sexpr.now ≤ offset → offset < length (text_of sexpr.now) → result.offset ≡ offset }
@@ -90,7 +90,7 @@ fn place_in(sexpr: &Sexpr<'_>, offset: u64) -> Place
 pub fn command<'a>(sexpr: &'a Sexpr<'_>) -> Result<Command<'a>, Refused>
     ensures { ReadsScriptCommand sexpr.now result }
 {
-    spec_commands::faults_stand_in_their_command();
+    spec_commands::faults_are_in_their_command();
     sexpr.offsets_have_places();
     match first_command(sexpr.trees()) {
         Ok(command) => Ok(command),

@@ -13,7 +13,7 @@ use smt_sexpr::{
     same_bytes, split, tree_alone, want_end, word_first,
 };
 
-/// Tells whether a kind may stand where a new name has to: a symbol, or a reserved word, which is refused later.
+/// Tells whether a kind may be where a new name has to: a symbol, or a reserved word, which is refused later.
 pub fn is_name(kind: Kind) -> bool
     ensures { result ≡ is_name kind }
 {

@@ -28,7 +28,7 @@ module _ (text : List ℕ) (at : ℕ) (lt : at < length text) where
   one_less : (n : ℕ) → 0 < n → at + 1 + (n - 1) ≡ at + n
   one_less n some = omega arith
 
-  -- what stands there, as the code has it
+  -- what is there, as the code has it
   module _ (w : What) (n : ℕ) (within : IsPieceWithin w n (length text - at)) (e : piece (lexeme_of w) n ≡ first_piece (get_or text at 0) (drop (at + 1) text)) where
     pub blank_here : w ≡ whats.Blank → lexemes_from text at ≡ lexemes_from text (at + n)
     blank_here is =

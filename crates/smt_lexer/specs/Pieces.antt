@@ -1,4 +1,4 @@
--- What stands at the start of bytes, as the code has it.
+-- What is at the start of bytes, as the code has it.
 use Rattle.std.specs.Prelude.{◌≡◌, ◌<◌, ◌≤◌, ℕ, List, length, take, Option, Some, None, ◌==◌, if◌then◌else◌}
 use Rattle.spec_text.specs.Bytes.{is_blank, is_digit, is_symbol_byte}
 use Rattle.spec_text.specs.Lexemes.{Lexeme, blank, opens, closes, word, wrong, Piece, piece, string_body}
@@ -40,7 +40,7 @@ abbrev pub IsBody : List ℕ → Option ℕ → Type 0
 IsBody bytes None = string_body bytes ≡ None
 IsBody bytes (Some n) = (n < length bytes) × (string_body bytes ≡ Some (take n bytes))
 
--- it has one byte at least and not more than so many; as many at most stand before a fault
+-- it has one byte at least and not more than so many; as many at most are before a fault
 abbrev pub IsPieceWithin : What → ℕ → ℕ → Type 0
 IsPieceWithin (whats.Wrong f) size n = size ≤ n
 IsPieceWithin whats.Blank size n = (0 < size) × (size ≤ n)

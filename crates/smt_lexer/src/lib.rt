@@ -25,7 +25,7 @@ pub use words::{bars_of, is_bare, is_one_of};
 /// A fault with its place.
 #[derive(Clone, Copy, Debug, PartialEq, Eq)]
 pub struct Refusal {
-    /// Where the fault stands: of a byte that may not stand there its own place, of a string or quoted symbol that does
+    /// Where the fault stands: of a byte that may not are there its own place, of a string or quoted symbol that does
     /// not end the place of its first byte.
     pub place: Place,
     /// Which fault it is.
@@ -91,10 +91,10 @@ pub struct Token<'a> {
 }
 
 /// Reads the next token at a place of the bytes, past white space and comments, and gives it with the place right
-/// after its last byte: what white space or comments follow stand after that place. At the end of the bytes it gives
+/// after its last byte: what white space or comments follow are after that place. At the end of the bytes it gives
 /// `End` with that place, again and again. The place that it reads from may be any of the bytes, also one inside a
 /// token: then the rest of it is read as if it began there. An `Err` has the first lexical fault after the place,
-/// where no token stands before it: a byte that begins no token or cannot follow one (`BadChar`), a string
+/// where no token is before it: a byte that begins no token or cannot follow one (`BadChar`), a string
 /// (`UnclosedString`) or a quoted symbol (`UnclosedQuote`) that does not end.
 /// Source: SMT-LIB 2.6, section 3.1.
 pub fn next<'a>(bytes: &'a [u8], at: Place) -> Result<(Token<'a>, Place), Refusal>

@@ -24,7 +24,7 @@ pub enum What<'a> {
     Wrong(Fault),
 }
 
-/// What bytes begin with, and how many of them it has; of a fault, how many stand before it.
+/// What bytes begin with, and how many of them it has; of a fault, how many are before it.
 #[derive(Clone, Copy, Debug)]
 pub struct FoundPiece<'a> {
     /// What it is.

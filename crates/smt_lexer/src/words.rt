@@ -90,7 +90,7 @@ pub fn is_bare(name: &[u8]) -> bool
     !is_reserved(name)
 }
 
-/// Lends what stands before a symbol's name and after it where it is written: a bar each, or nothing where the name may
+/// Lends what is before a symbol's name and after it where it is written: a bar each, or nothing where the name may
 /// stand without. Source: SMT-LIB 2.6, section 3.1.
 pub fn bars_of<'a>(name: &'a [u8]) -> (&'a [u8], &'a [u8])
     ensures { result.0.now ++ (name.now ++ result.1.now) ≡ printed_symbol name.now }

@@ -12,7 +12,7 @@ use Rattle.smt_sexpr.specs.declared.sexpr.Sexpr.{Sexpr}
 use Rattle.smt_sexpr.specs.Items.{text_of, tree_of}
 use Rattle.sat_budget.specs.declared.limits.Limits.{Limits as CodeLimits}
 use Rattle.sat_budget.specs.Budgets.{BudgetView}
-use Rattle.assertion_stack.specs.Stacks.{Standing}
+use Rattle.assertion_stack.specs.Stacks.{OverTable}
 use Rattle.check_evidence.specs.Evidence.{limits_meant, check_on, checked_on, IsHeld}
 use Rattle.smt_session.specs.declared.responses.Response.{Response as CodeResponse}
 use Rattle.smt_session.specs.declared.responses.Response.TheVariants as responses
@@ -67,7 +67,7 @@ pub checked_is : (s : Stack) (x : Checked) → x.check ≡ check_on s → x ≡ 
 checked_is s x e = ap (λ c. record { check = c; found = x.found }) e
 
 -- what is written for it is its response
-pub is_response : (limits : Limits) (s : Stack) (x : Sexpr) (r : CodeResponse) (z : Standing) (budget : BudgetView) (taken : AnswersCommand limits s x r z budget) → IsResponseOf z (text_of x) budget r taken.a
+pub is_response : (limits : Limits) (s : Stack) (x : Sexpr) (r : CodeResponse) (z : OverTable) (budget : BudgetView) (taken : AnswersCommand limits s x r z budget) → IsResponseOf z (text_of x) budget r taken.a
 is_response limits s x r z budget taken = record {
   is = taken.is;
   asked = taken.asked;

@@ -18,14 +18,14 @@ use Rattle.smt_sexpr.specs.Items.{text_of, start_of, tree_of}
 use Rattle.term_core.specs.Tables.{TableView}
 use Rattle.sat_budget.specs.Budgets.{BudgetView}
 use Rattle.assertion_stack.specs.declared.stack.Stack.{Stack as CodeStack}
-use Rattle.assertion_stack.specs.Stacks.{Standing, standing, IsStack, Steps}
+use Rattle.assertion_stack.specs.Stacks.{OverTable, over_table, IsStack, Steps}
 use Rattle.spec_readable.specs.Readable.{AreReadable}
 use Rattle.check_evidence.specs.Evidence.{check_on, IsHeld}
 use Rattle.smt_session.specs.declared.responses.Response.{Response as CodeResponse}
 use Rattle.smt_session.specs.Sessions.{KeepsBudget, Rejects, TakesScriptCommand}
 
 -- nothing is stated at first
-pub first_held : (limit : ℕ) (t : TableView) (x : CodeStack) → t ≡ record { sorts = []; symbols = []; terms = [] } → ((u : TableView) → u.sorts ≡ [] → u.symbols ≡ [] → IsStack limit (standing u x) empty_stack) → IsSoundStack limit empty_stack → AreScriptNames (signature_of empty_stack) → AreReadable (signature_of empty_stack) → IsHeld limit (standing t x) empty_stack
+pub first_held : (limit : ℕ) (t : TableView) (x : CodeStack) → t ≡ record { sorts = []; symbols = []; terms = [] } → ((u : TableView) → u.sorts ≡ [] → u.symbols ≡ [] → IsStack limit (over_table u x) empty_stack) → IsSoundStack limit empty_stack → AreScriptNames (signature_of empty_stack) → AreReadable (signature_of empty_stack) → IsHeld limit (over_table t x) empty_stack
 first_held limit t x e stands kept names readable = record {
   stack = stands t (ap (λ (u : TableView). u.sorts) e) (ap (λ (u : TableView). u.symbols) e);
   kept = record { stack = kept; assumptions = All-nil (IsAsserted limit (signature_of empty_stack)); names = names };
@@ -52,11 +52,11 @@ pub taken_as : (limits : Limits) (s : Stack) (t : Tree) (r : Response) (effect :
 taken_as limits s t r effect d e same responds = subst (λ y. AnswersBy limits s y (record { response = r; stack = d.stack })) (sym e) (subst (λ f. Responds limits d.stack f r) same responds, refl)
 
 -- a stack that began a check is taken back
-pub back : (t u : TableView) (x y : CodeStack) → standing u x ≡ standing t (record y { started = true }) → record x { started = y.started } ≡ y
-back t u x y e = ap (λ (z : Standing). record z.stack { started = y.started }) e
+pub back : (t u : TableView) (x y : CodeStack) → over_table u x ≡ over_table t (record y { started = true }) → record x { started = y.started } ≡ y
+back t u x y e = ap (λ (z : OverTable). record z.stack { started = y.started }) e
 
 -- a command that was not taken
-pub refused_as : (limits : Limits) (s : Stack) (x : Sexpr) (stop : Refused) (z : Standing) (budget : BudgetView) (result : Result CodeResponse NoMemory) → IsHeld limits.terms z s → Steps limits.terms (step limits.terms s (tree_of x)) x z (Err stop) → Rejects stop result → TakesScriptCommand limits s x result z budget
+pub refused_as : (limits : Limits) (s : Stack) (x : Sexpr) (stop : Refused) (z : OverTable) (budget : BudgetView) (result : Result CodeResponse NoMemory) → IsHeld limits.terms z s → Steps limits.terms (step limits.terms s (tree_of x)) x z (Err stop) → Rejects stop result → TakesScriptCommand limits s x result z budget
 refused_as limits s x (refusals.Fault r) z budget result held d is =
     let a : Answered = record { response = rejected (record { offset = r.place.offset; fault = r.fault }); stack = s } in
     subst (λ y. TakesScriptCommand limits s x y z budget) (sym is) (record {

@@ -17,7 +17,7 @@ use Rattle.term_core.specs.Tables.{TableView}
 use Rattle.sat_budget.specs.Budgets.{BudgetView}
 use Rattle.sat_budget.specs.declared.limits.Limits.{Limits as CodeLimits}
 use Rattle.assertion_stack.specs.declared.stack.Stack.{Stack as CodeStack}
-use Rattle.assertion_stack.specs.Stacks.{Standing, standing}
+use Rattle.assertion_stack.specs.Stacks.{OverTable, over_table}
 use Rattle.check_evidence.specs.Evidence.{limits_meant, check_on, IsHeld, IsEvidence, HasLearned}
 use Rattle.smt_session.specs.declared.mode.Mode.{Mode as CodeMode}
 use Rattle.smt_session.specs.declared.mode.Mode.TheVariants as modes
@@ -50,7 +50,7 @@ IsAskedOf (answered c) s = c.check ≡ check_on s
 IsAskedOf _ s = Unit {0}
 
 -- The response of a script, to a command of a text, is this, after which the script is a stack.
-pub record IsResponseOf (x : Standing) (text : List ℕ) (budget : BudgetView) (response : CodeResponse) (a : Answered) : Type 0 where
+pub record IsResponseOf (x : OverTable) (text : List ℕ) (budget : BudgetView) (response : CodeResponse) (a : Answered) : Type 0 where
   -- it is this
   pub is : IsResponse x.table text budget response a.response
   -- a check is one of the stack
@@ -76,7 +76,7 @@ KeepsBudget (Ok (responses.Answered e)) old new = Unit {0}
 KeepsBudget _ old new = new ≡ old
 
 -- A command is answered after a stack, and the script stands for the stack after it.
-pub record AnswersCommand (limits : Limits) (s : Stack) (c : Sexpr) (response : CodeResponse) (x : Standing) (budget : BudgetView) : Type 0 where
+pub record AnswersCommand (limits : Limits) (s : Stack) (c : Sexpr) (response : CodeResponse) (x : OverTable) (budget : BudgetView) : Type 0 where
   -- what it is answered
   pub a : Answered
   -- that is so
@@ -91,7 +91,7 @@ pub record AnswersCommand (limits : Limits) (s : Stack) (c : Sexpr) (response : 
   pub learned : LearnsBy limits x.table a.response a.stack budget
 
 -- a command is answered after a stack; or memory ran out, and the script stands for this stack
-abbrev pub TakesScriptCommand : Limits → Stack → Sexpr → Result CodeResponse NoMemory → Standing → BudgetView → Type 0
+abbrev pub TakesScriptCommand : Limits → Stack → Sexpr → Result CodeResponse NoMemory → OverTable → BudgetView → Type 0
 TakesScriptCommand limits s c (Ok response) x budget = AnswersCommand limits s c response x budget
 TakesScriptCommand limits s c (Err _) x budget = IsHeld limits.terms x s
 
@@ -120,14 +120,14 @@ pub record SessionView : Type 0 where
   pub budget : BudgetView
 
 -- what was stated, with the table of its terms
-abbrev pub stated : SessionView → Standing
-stated x = standing x.table x.stack
+abbrev pub stated : SessionView → OverTable
+stated x = over_table x.table x.stack
 
 -- the session stands for the stack
 abbrev pub IsSession : SessionView → Stack → Type 0
 IsSession x s = IsHeld x.limits.terms (stated x) s
 
--- what was learned at a check stands in the budget: it is that of the decision that found what is answered; no other
+-- what was learned at a check is in the budget: it is that of the decision that found what is answered; no other
 -- command changes it
 abbrev pub HasLists : Response → Stack → SessionView → SessionView → Type 0
 HasLists (answered c) s old new = HasLearned (limits_meant old.limits) new.table s c.found new.budget

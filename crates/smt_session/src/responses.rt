@@ -8,7 +8,7 @@ ghost use Rattle.spec_sessions.specs.Evidence.{Checked};
 ghost use Rattle.spec_sessions.specs.Responses.{Response as SpokenResponse, Answered, answer_text, shown_text, success_by, string_line, response_text};
 ghost use Rattle.sat_budget.specs.Budgets.{BudgetView};
 ghost use Rattle.term_core.specs.Tables.{TableView};
-ghost use Rattle.assertion_stack.specs.Stacks.{standing};
+ghost use Rattle.assertion_stack.specs.Stacks.{over_table};
 ghost use Rattle.check_evidence.specs.Evidence.{check_on, IsEvidence, IsSomeEvidence};
 ghost use Rattle.smt_session.specs.Sessions.{mode_meant, IsResponse, IsResponseOf, IsSomeResponse, after_meant, Delivers};
 
@@ -30,7 +30,7 @@ pub(crate) enum Response<'a> {
     Unsupported,
     /// This was found at its check.
     Answered(Evidence),
-    /// Its text is written, which stands between its quotes.
+    /// Its text is written, which is between its quotes.
     Said(&'a [u8]),
     /// It was done, and the script ends.
     Ended,
@@ -70,7 +70,7 @@ fn send_check<K: Sink>(
     }
 }
 
-/// Writes a string as it stands in a script, on a line.
+/// Writes a string as it is in a script, on a line.
 fn send_string<K: Sink>(text: &[u8], out: &mut K) -> Result<(), Failed>
     ensures { Sends (string_line text.now) result (K.state out.old) (K.state out.new) }
 {
@@ -97,7 +97,7 @@ fn write_response<K: Sink>(
 ) -> Result<(), Failed>
     requires { IsSomeResponse table.now response.now }
     ensures { (text : List ℕ) (budget : BudgetView) (a : Answered)
-        → IsResponseOf (standing table.now stack.now) text budget response.now a
+        → IsResponseOf (over_table table.now stack.now) text budget response.now a
         → Sends (response_text (mode_meant mode) text a) result (K.state out.old) (K.state out.new) }
 {
     match response {
@@ -121,7 +121,7 @@ pub(crate) fn send_response<K: Sink>(
 ) -> Result<(), Failed>
     requires { IsSomeResponse table.now response.now }
     ensures { (text : List ℕ) (budget : BudgetView) (a : Answered)
-        → IsResponseOf (standing table.now stack.now) text budget response.now a
+        → IsResponseOf (over_table table.now stack.now) text budget response.now a
         → Delivers (response_text (mode_meant mode) text a) result (K.state out.old) (K.state out.new) }
 {
     write_response(mode, table, stack, response, out)?;

@@ -3,7 +3,7 @@
 ghost use Rattle.std.specs.Prelude.{◌≡◌, ◌≤◌, [], IfOk, OnErr, IsErrOf};
 ghost use Rattle.world_io.specs.Outside.{Rose};
 ghost use Rattle.spec_commands.specs.Stack.{Stack as ScriptStack, empty_stack};
-ghost use Rattle.assertion_stack.specs.Stacks.{standing};
+ghost use Rattle.assertion_stack.specs.Stacks.{over_table};
 ghost use Rattle.search_loop.specs.Rounds.{HasLimits};
 ghost use Rattle.check_evidence.specs.Evidence.{limits_meant, IsHeld, HoldsSome};
 ghost use Rattle.smt_session.specs.Sessions.{IsSession, TakesScriptCommand, KeepsBudget, Rejects, Stepped};
@@ -71,7 +71,7 @@ impl Model for Session {
     ghost use Rattle.std.specs.Prelude.{◌≡◌};
     ghost use Rattle.std.specs.Coded.{codes};
     ghost use Rattle.term_core.specs.Tables.{table_code};
-    ghost use Rattle.assertion_stack.specs.Stacks.{standing};
+    ghost use Rattle.assertion_stack.specs.Stacks.{over_table};
     ghost use Rattle.search_loop.specs.Rounds.{HasLimits};
     ghost use Rattle.check_evidence.specs.Evidence.{HoldsSome};
     ghost use Rattle.smt_session.specs.Sessions.{SessionView};
@@ -82,7 +82,7 @@ impl Model for Session {
 
     ghost view = { λ x. record { table = x.table; stack = x.stack; limits = x.limits; mode = x.mode; budget = x.budget } };
 
-    ghost invariant = { λ x. HoldsSome x.limits.terms (standing x.table x.stack) × HasLimits x.limits x.budget };
+    ghost invariant = { λ x. HoldsSome x.limits.terms (over_table x.table x.stack) × HasLimits x.limits x.budget };
 }
 
 impl Session {
@@ -158,9 +158,9 @@ fn take<'a>(
     limits: &Limits,
     command: &'a Sexpr<'_>,
 ) -> Result<Response<'a>, NoMemory>
-    requires { HoldsSome limits.now.terms (standing table.old stack.old) }
-    ensures takes { (s : ScriptStack) → IsHeld limits.now.terms (standing table.old stack.old) s
-        → TakesScriptCommand (limits_meant limits.now) s command.now result (standing table.new stack.new) budget.new }
+    requires { HoldsSome limits.now.terms (over_table table.old stack.old) }
+    ensures takes { (s : ScriptStack) → IsHeld limits.now.terms (over_table table.old stack.old) s
+        → TakesScriptCommand (limits_meant limits.now) s command.now result (over_table table.new stack.new) budget.new }
     ensures table { OnErr result (table.new ≡ table.old) }
     ensures stack { OnErr result (stack.new ≡ stack.old) }
     ensures budget { KeepsBudget result budget.old budget.new }

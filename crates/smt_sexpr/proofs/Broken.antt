@@ -12,7 +12,7 @@ use Rattle.spec_text.specs.Readings.{depth, depth_all, IsBroken}
 use Rattle.spec_text.proofs.Reading.{same_first, heads}
 use Rattle.smt_sexpr.specs.Open.{Context, top, inside, spelled_in, flat_in, open_in, IsUnfinished}
 
--- after n open lists the lexemes begin with no tree that may stand there, and with no end of a list
+-- after n open lists the lexemes begin with no tree that may are there, and with no end of a list
 record Stuck (n : ℕ) (xs : List (ℕ × Lexeme)) : Type 0 where
   no_end : (at : ℕ) (ys : List (ℕ × Lexeme)) → xs ≡ (at, closes) ∷ ys → n ≡ 0
   no_tree : (t : Tree) (ys : List (ℕ × Lexeme)) → xs ≡ spelled t ++ ys → nesting_limit < n + depth t
@@ -60,7 +60,7 @@ stuck_in n (inside outer at rows) xs u h =
     let begun = begun_stuck (n + length (open_in outer)) at (spelled_all rows ++ xs) (blocks_behind (n + length (open_in outer) + 1) xs rows (stuck_blocks (n + length (open_in outer) + 1) xs (omega arith) here)) in
     subst (Stuck n) (sym (append_assoc (spelled_in outer) ((at, opens) ∷ spelled_all rows) xs)) (stuck_in n outer ((at, opens) ∷ spelled_all rows ++ xs) u begun)
 
--- a fault of what stands here is one of all that was read
+-- a fault of what is here is one of all that was read
 pub broken_in : (end n : ℕ) (c : Context) (xs ys : List (ℕ × Lexeme)) (f : Located) → IsUnfinished c → xs ≡ spelled_in c ++ ys → first_fault nesting_limit end n xs ≡ first_fault nesting_limit end (n + length (open_in c)) ys → IsBroken end (n + length (open_in c)) ys f → IsBroken end n xs f
 broken_in end n c xs ys f u read faults b =
     let all = stuck_in n c ys u (record { no_end = b.no_end; no_tree = b.no_tree }) in

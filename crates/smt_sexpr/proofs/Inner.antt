@@ -69,7 +69,7 @@ mutual
         subst (Part (spelled t ++ spelled_all ts) (flat t ++ flat_all ts)) at (part_behind (spelled t) (spelled_all ts) (flat t) (flat_all ts) (i - length (flat t)) (parts_of ts (i - length (flat t)) (omega (arith, h, length-append (flat t) (flat_all ts)))))
   ]
 
--- the tree of an item stands in the text, at the offsets that the item has
+-- the tree of an item is in the text, at the offsets that the item has
 pub record IsInner (text : List ℕ) (start : ℕ) (is : List Item) (i : ℕ) (d : Item) : Type 0 where
   pub tree : Tree
   pub means : tree_in text (drop i is) ≡ tree

@@ -9,7 +9,7 @@ use Rattle.smt_sexpr.specs.Means.{bytes_at, trees_in, flat, flat_all}
 use Rattle.smt_sexpr.proofs.Flat.{trees_none, trees_atom, trees_list}
 use Rattle.smt_sexpr.proofs.Words.{AreWordsOf, words_stand}
 
--- the words of each tree stand in the text
+-- the words of each tree are in the text
 abbrev mutual
   IsIn : List ℕ → Tree → Type 0
   IsIn text (atom at k w) = w ≡ bytes_at text k at (length w)
@@ -31,7 +31,7 @@ mutual
       let r = in_all text ts rest f.1 in
       ((f.0, r.0), r.1)
 
--- trees whose words stand in the text are what their items mean
+-- trees whose words are in the text are what their items mean
 mutual
   back_first : (text : List ℕ) (t : Tree) (is : List Item) → IsIn text t → trees_in text (flat t ++ is) ≡ more t (trees_in text is)
   back_first text (atom at k w) is h = trees_atom text k at (length w) is ∙ ap (λ bs. more (atom at k bs) (trees_in text is)) (sym h)

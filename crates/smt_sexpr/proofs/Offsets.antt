@@ -12,7 +12,7 @@ abbrev pub IsToken : Lexeme → Type 0
 IsToken (wrong f) = ⊥
 IsToken _ = ⊤
 
--- the offsets of tokens rise, from one on, and stand before another; nothing follows a fault
+-- the offsets of tokens rise, from one on, and are before another; nothing follows a fault
 abbrev pub Rise : ℕ → ℕ → List (ℕ × Lexeme) → Type 0
 Rise low high [] = ⊤
 Rise low high ((at, wrong f) ∷ xs) = xs ≡ []
@@ -101,7 +101,7 @@ mutual
       let r = trees_within low high ts rest f.1 in
       ((f.0, r.0), r.1)
 
--- the offsets of a tree that stands at one
+-- the offsets of a tree that is at one
 pub within_text : (text : List ℕ) (at : ℕ) (t : Tree) (rest : List (ℕ × Lexeme)) → lexemes_from text at ≡ spelled t ++ rest → IsWithin at (length text) t
 within_text text at t rest e = (tree_within at (length text) t rest (at, omega arith, subst (Rise at (length text)) e (lexemes_rise text at))).0
 

@@ -32,7 +32,7 @@ begins_at at x ys (list b ts end) rest e = sym (heads e).0
 pub begins_with_word : (text : List ℕ) (n : ℕ) (xs : List (ℕ × Lexeme)) (at : ℕ) (k : Kind) (w : List ℕ) (is : List Item) (after : Place) → is ≡ flat (atom at k w) → xs ≡ (at, word k w) ∷ lexemes_from text after.offset → IsPlaceOf text after → BeginsWith text n xs is after
 begins_with_word text n xs at k w is after items first place = record { tree = atom at k w; items = items; first = first; within = omega arith; place = place }
 
--- what was read from a place on stands at its own offset
+-- what was read from a place on is at its own offset
 pub read_there : (text : List ℕ) (n from at : ℕ) (x : Lexeme) (ys : List (ℕ × Lexeme)) (is : List Item) (after : Place) → IsToken x → lexemes_from text from ≡ (at, x) ∷ ys → BeginsWith text n (lexemes_from text from) is after → AreRead text at is
 read_there text n from at x ys is after token here b =
     let t = b.tree in

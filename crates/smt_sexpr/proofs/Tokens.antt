@@ -59,7 +59,7 @@ mutual
 written_whole : (t : Tree) → printed t ≡ written false (spelled t)
 written_whole t = sym (ap (written false) (sym (append-nil (spelled t))) ∙ written_tree false t [] ∙ append-nil (printed t))
 
--- tokens, the last of which stands at an offset
+-- tokens, the last of which is at an offset
 abbrev pub IsUpTo : ℕ → List (ℕ × Lexeme) → Type 0
 IsUpTo last [] = ⊤
 IsUpTo last ((at, x) ∷ []) = (at ≡ last) × IsToken x

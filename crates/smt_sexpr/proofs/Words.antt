@@ -117,7 +117,7 @@ first_spelt b bs =
     either (b ∷ bs) (b == 58) _ _ (λ _. keyword_spelt b (front is_symbol_byte bs) (drop (length (front is_symbol_byte bs)) bs) bs (front_split is_symbol_byte bs)) λ _.
     either (b ∷ bs) (is_symbol_byte b) _ _ (λ _. symbol_spelt (b ∷ front is_symbol_byte bs) (drop (length (front is_symbol_byte bs)) bs) (b ∷ bs) (ap (λ xs. b ∷ xs) (front_split is_symbol_byte bs))) (λ _. tt)
 
--- each word's bytes stand in the text
+-- each word's bytes are in the text
 abbrev pub AreWordsOf : List ℕ → List (ℕ × Lexeme) → Type 0
 AreWordsOf text [] = ⊤
 AreWordsOf text ((at, word k w) ∷ xs) = (w ≡ bytes_at text k at (length w)) × AreWordsOf text xs

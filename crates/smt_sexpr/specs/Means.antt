@@ -7,7 +7,7 @@ use Rattle.spec_text.specs.Trees.{Tree, Trees, atom, list, none, more, spelled}
 use Rattle.smt_sexpr.specs.declared.items.Item.{Item}
 use Rattle.smt_sexpr.specs.declared.items.Item.TheVariants as items
 
--- how many bytes stand before a word's own: a quote, a bar or a colon
+-- how many bytes are before a word's own: a quote, a bar or a colon
 abbrev pub marks : Kind → ℕ
 marks Text = 1
 marks Quoted = 1
@@ -50,10 +50,10 @@ abbrev mutual
   flat_all none = []
   flat_all (more t ts) = flat t ++ flat_all ts
 
--- a tree stands in a text from an offset on, with nothing before it
+-- a tree is in a text from an offset on, with nothing before it
 abbrev pub StandsAt : List ℕ → ℕ → Tree → Type 0
 StandsAt text at t = lexemes_from text at ≡ spelled t ++ drop (length (spelled t)) (lexemes_from text at)
 
--- the items are those of the one tree that they mean, and it stands in the text from an offset on
+-- the items are those of the one tree that they mean, and it is in the text from an offset on
 abbrev pub AreRead : List ℕ → ℕ → List Item → Type 0
 AreRead text at is = (is ≡ flat (tree_in text is)) × StandsAt text at (tree_in text is)

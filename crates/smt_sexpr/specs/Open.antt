@@ -1,4 +1,4 @@
--- What was read up to here of an s-expression: the lists that are open, and what stands in each.
+-- What was read up to here of an s-expression: the lists that are open, and what is in each.
 use Rattle.std.specs.Prelude.{◌≡◌, ℕ, List, [], ◌∷◌, ◌++◌, length, ⊤}
 use Rattle.spec_text.specs.Lexemes.{Lexeme, opens}
 use Rattle.spec_text.specs.Trees.{Tree, Trees, list, none, more, spelled_all}

@@ -24,14 +24,14 @@ token_bytes wanted Close = 41 ∷ []
 token_bytes wanted (Word k bytes) = gap wanted ++ printed_word k bytes.now
 token_bytes wanted End = []
 
--- whether a space has to stand after a token
+-- whether a space has to be after a token
 abbrev pub wants_space : TokenKind → Bool
 wants_space Open = false
 wants_space Close = true
 wants_space (Word k bytes) = true
 wants_space End = false
 
--- from an offset on stands no token: the text ends, or a fault stands there
+-- from an offset on stands no token: the text ends, or a fault is there
 abbrev pub HasNoToken : List ℕ → ℕ → Type 0
 HasNoToken text from = (lexemes_from text from ≡ []) ⊎ ((at : ℕ) × (f : Fault) × (lexemes_from text from ≡ (at, wrong f) ∷ []))
 
@@ -50,6 +50,6 @@ abbrev pub ends_of : Item → ℕ × ℕ
 ends_of (items.Atom k at size) = (at, at)
 ends_of (items.List at end count) = (at, end)
 
--- a tree stands in a text from an offset on, and its last token at another
+-- a tree is in a text from an offset on, and its last token at another
 abbrev pub IsTreeFrom : List ℕ → ℕ → ℕ → Tree → Type 0
 IsTreeFrom text first last t = StandsAt text first t × (last ≡ last_of t)

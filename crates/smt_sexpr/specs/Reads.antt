@@ -19,7 +19,7 @@ use Rattle.smt_sexpr.specs.Items.{text_of, items_of, start_of, tree_of, IsWithin
 
 -- in n open lists the lexemes begin with the tree that an s-expression is, up to a place
 pub record IsFirst (text : List ℕ) (n : ℕ) (xs : List (ℕ × Lexeme)) (s : Sexpr) (after : Place) : Type 0 where
-  -- it stands in this text
+  -- it is in this text
   pub text_is : text_of s ≡ text
   -- its tree is the first, and the other lexemes stand from the place on
   pub first : xs ≡ spelled (tree_of s) ++ lexemes_from text after.offset
@@ -53,7 +53,7 @@ pub record Closes (text : List ℕ) (from : Place) (n : ℕ) (after : Place) : T
   pub size : after.offset ≡ at + 1
   -- the place is one of the text
   pub place : IsPlaceOf text after
-  -- it stands after the one that was read from
+  -- it is after the one that was read from
   pub longer : from.offset < after.offset
 
 -- in n open lists the lexemes have a fault before a whole tree and before the end of a list, at this place
@@ -81,7 +81,7 @@ pub record BeginsWith (text : List ℕ) (n : ℕ) (xs : List (ℕ × Lexeme)) (i
   -- the place after it is one of the text
   pub place : IsPlaceOf text after
 
--- a list that began at an offset, and was read up to a place, comes to its end, or a fault stands before
+-- a list that began at an offset, and was read up to a place, comes to its end, or a fault is before
 abbrev pub ReadsList : List ℕ → ℕ → ℕ → Place → Result (Vec Item Global × Place) Refused → Type 0
 ReadsList text n start behind (Ok x) = BeginsWith text n ((start, opens) ∷ lexemes_from text behind.offset) x.0.items x.1 × (behind.offset < x.1.offset)
 ReadsList text n start behind (Err (refused.Fault r)) = Breaks text n ((start, opens) ∷ lexemes_from text behind.offset) r

@@ -21,7 +21,7 @@ pub enum Item {
 /// Contracts see it as the trees that it means (`trees_meant`), or as the first of them (`tree_meant`).
 #[derive(Clone, Copy, Debug)]
 pub struct Trees<'a> {
-    /// The whole text that they stand in.
+    /// The whole text that they are in.
     pub(crate) text: &'a [u8],
     /// Their items, in the order of the text.
     pub(crate) items: &'a [Item],
@@ -85,7 +85,7 @@ fn part(text: &[u8], from: usize, size: usize) -> &[u8]
     &[]
 }
 
-/// Counts the bytes that stand before a word's own.
+/// Counts the bytes that are before a word's own.
 fn marks_of(kind: Kind) -> usize
     ensures { result ≡ marks kind }
 {

@@ -86,7 +86,7 @@ impl<'a> LimitedText<'a> {
     }
 
     /// Gives the refusal of the whole text that a refusal of the bytes that are read is, by a place before it: what is
-    /// missing at their end may stand among the others.
+    /// missing at their end may be among the others.
     fn cut_off(&self, from: Place, refusal: Refusal) -> Refusal
         requires { IsPlaceOf (kept (whole_of self.now)) from }
         ensures { CutsOff (whole_of self.now) refusal result }
@@ -97,10 +97,10 @@ impl<'a> LimitedText<'a> {
         refusal
     }
 
-    /// Reads what stands next from a place of the bytes on that are read, where so many lists are open: an s-expression, or
+    /// Reads what is next from a place of the bytes on that are read, where so many lists are open: an s-expression, or
     /// the end of the innermost of them, or, where none is open, nothing but white space and comments up to the end.
     ///
-    /// - `Fault` has the first fault after the place, of those that stand before the end of an s-expression: a byte that
+    /// - `Fault` has the first fault after the place, of those that are before the end of an s-expression: a byte that
     ///   begins no token or cannot follow one (`BadChar`), a string or a quoted symbol that does not end (`UnclosedString`,
     ///   `UnclosedQuote`, at its first byte), the end of the text where a list is open (`UnclosedList`), a closing
     ///   parenthesis where none is (`StrayClose`), or the opening parenthesis that would be the 501st open one, those of

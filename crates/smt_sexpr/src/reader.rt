@@ -15,7 +15,7 @@ use crate::sexpr::Sexpr;
 use smt_lexer::{Fault, Kind, Place, Refusal, Refused, TokenKind, next};
 use std::alloc::{AllocError, Global};
 
-/// What stands next in a text. Source: SMT-LIB 2.6, section 3.2.
+/// What is next in a text. Source: SMT-LIB 2.6, section 3.2.
 #[derive(Drop)]
 pub enum NextSexpr<'a> {
     /// An s-expression, and the place right after it.
@@ -132,9 +132,9 @@ fn read_word(alloc: Global, at: u64, kind: Kind, bytes: &[u8]) -> Result<Vec<Ite
     Ok(items)
 }
 
-/// Reads what stands next in a text from a place on, where so many lists are open: an s-expression, or the end of the
+/// Reads what is next in a text from a place on, where so many lists are open: an s-expression, or the end of the
 /// innermost of them, or, where none is open, nothing but white space and comments up to the end. An `Err` has the first
-/// fault after the place, of those that stand before the end of an s-expression: a byte that begins no token or cannot
+/// fault after the place, of those that are before the end of an s-expression: a byte that begins no token or cannot
 /// follow one (`BadChar`), a string or a quoted symbol that does not end (`UnclosedString`, `UnclosedQuote`, at its first
 /// byte), the end of the text where a list is open (`UnclosedList`), a closing parenthesis where none is (`StrayClose`),
 /// or the opening parenthesis that would be the 501st open one, those of before counted (`TooDeep`). Or it is out of

@@ -1,4 +1,4 @@
-//! S-expressions with the text that they stand in.
+//! S-expressions with the text that they are in.
 
 ghost use Rattle.spec_text.specs.Places.{IsPlaceOf};
 ghost use Rattle.smt_sexpr.specs.Means.{AreRead};
@@ -6,13 +6,13 @@ ghost use Rattle.std.proofs.Props.{props};
 
 use crate::items::{Item, Trees};
 use smt_lexer::{Place, place_after};
-use spec_text::laws::trees_stand_in_their_text;
+use spec_text::laws::trees_are_in_their_text;
 
 /// An s-expression, by the text that it was read from. It means one tree, whose offsets are those of the text.
 /// Source: SMT-LIB 2.6, section 3.2.
 #[derive(Drop)]
 pub struct Sexpr<'a> {
-    /// The whole text that it stands in.
+    /// The whole text that it is in.
     pub(crate) text: &'a [u8],
     /// The place of its first byte.
     pub(crate) start: Place,
@@ -20,7 +20,7 @@ pub struct Sexpr<'a> {
     pub(crate) items: Vec<Item>,
     /// It begins in the text.
     pub ghost placed: { IsPlaceOf text.now start },
-    /// Its items are those of a tree that stands there.
+    /// Its items are those of a tree that is there.
     pub ghost read: { AreRead text.now start.offset items.items } by { Prim.hlevel props },
 }
 
@@ -79,6 +79,6 @@ impl<'a> Sexpr<'a> {
     pub fn offsets_have_places(&self)
         ensures { AllOffsets (λ n. (start_of self.now ≤ n) × (n < length (text_of self.now))) (tree_of self.now) }
     {
-        trees_stand_in_their_text();
+        trees_are_in_their_text();
     }
 }

@@ -13,7 +13,7 @@ use crate::sexpr::Sexpr;
 use smt_lexer::{Kind, Place, TokenKind, bars_of, next};
 use world_io::{Failed, Sink, write_all, write_pieces};
 
-/// Lends what stands before a word and after it: quotes, bars where the name wants them, or a colon.
+/// Lends what is before a word and after it: quotes, bars where the name wants them, or a colon.
 fn marks_of<'a>(kind: Kind, bytes: &'a [u8]) -> (&'a [u8], &'a [u8])
     ensures { result.0.now ++ (bytes.now ++ result.1.now) ≡ printed_word kind bytes.now }
 {
@@ -64,7 +64,7 @@ fn write_token<K: Sink>(token: TokenKind<'_>, wanted: bool, out: &mut K) -> Resu
     }
 }
 
-/// Tells whether a space has to stand after a token, before a word or a list.
+/// Tells whether a space has to be after a token, before a word or a list.
 fn wants_space(token: TokenKind<'_>) -> bool
     ensures { result ≡ wants_space token.entry }
 {
@@ -117,7 +117,7 @@ fn ends_of(item: Item) -> (u64, u64)
     }
 }
 
-/// Prints the tree of an item, counted from 0: an atom, or a list with all that stands in it. One space stands between
+/// Prints the tree of an item, counted from 0: an atom, or a list with all that is in it. One space is between
 /// two trees of a list and none inside its parentheses; white space and comments of the text are left out. A word is
 /// printed as it is written, a string with its quotes and a keyword with its colon, but a symbol in bars by its name: with
 /// bars only where it is no symbol without them. It takes no memory, and time linear in the s-expression. `Failed` comes only

@@ -16,7 +16,7 @@ use Rattle.smt_session.specs.Runs.{Delivered}
 use Rattle.smt_session.proofs.Delivering.{flushed, not_flushed}
 use Rattle.smt_top.specs.Arguments.{Asked, runs, checks, limits_by}
 use Rattle.smt_top.specs.Output.{longest_line}
-use Rattle.smt_top.specs.Ends.{Holdings, RunMeans, IsUnread, is_answered}
+use Rattle.smt_top.specs.RunMeans.{Holdings, RunMeans, IsUnread, is_answered}
 
 -- a whole transcript is one that was begun
 whole_is_begun : (limits : Limits) (mode : Mode) (text : List ℕ) (refused : Bool) (P Q : List ℕ → Type 0) → ((all : List ℕ) → P all → Q all) → OnTranscript limits mode text refused P → OnBegun limits mode text Q

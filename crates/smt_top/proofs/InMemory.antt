@@ -9,7 +9,7 @@ use Rattle.smt_session.specs.declared.status.Status.{Status}
 use Rattle.smt_session.specs.declared.status.Status.TheVariants.{Done, Refused, Words, Memory, ReadFault, WriteFault}
 use Rattle.smt_top.specs.Arguments.{ProofNames, Asked, runs, checks, limits_by}
 use Rattle.smt_top.specs.Output.{longest_line}
-use Rattle.smt_top.specs.Ends.{Holdings, ScriptRun, CheckMeans, ScriptMeans, RunMeans, AreHeld, BothHold, IsUnread}
+use Rattle.smt_top.specs.RunMeans.{Holdings, ScriptRun, CheckMeans, ScriptMeans, RunMeans, AreHeld, BothHold, IsUnread}
 use Rattle.smt_top.specs.InMemory.{WritesBytes, LacksRoom, GrowsByPrefix, CheckEndsInMemory, ScriptEndsInMemory, UsageEndsInMemory, EndsInMemory}
 
 -- a text that is known, and is this one

@@ -10,7 +10,7 @@ use Rattle.smt_session.specs.declared.status.Status.TheVariants.{Done, Refused, 
 use Rattle.spec_sessions.specs.Statements.{OnTranscript, OnBegun}
 use Rattle.smt_session.specs.Runs.{EndsText}
 use Rattle.smt_session.proofs.Saying.{WholeSays, BegunSays}
-use Rattle.smt_top.specs.Ends.{Holdings, ScriptMeans}
+use Rattle.smt_top.specs.RunMeans.{Holdings, ScriptMeans}
 
 -- that a transcript needs a prefix of the text alone, whole and cut short
 abbrev pub WholePrefix : Type 0

@@ -4,7 +4,7 @@ use Rattle.world_io.specs.Writing.{SinkView}
 use Rattle.smt_session.specs.declared.status.Status.{Status}
 use Rattle.smt_session.specs.declared.status.Status.TheVariants.{Done, Refused, Words, Memory, ReadFault, WriteFault}
 use Rattle.smt_top.specs.Arguments.{ProofNames}
-use Rattle.smt_top.specs.Ends.{Holdings, CheckMeans}
+use Rattle.smt_top.specs.RunMeans.{Holdings, CheckMeans}
 use Rattle.smt_top.specs.Calls.{Reports}
 
 -- the names are known, and the texts are those that they hold

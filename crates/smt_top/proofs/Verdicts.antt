@@ -11,7 +11,7 @@ use Rattle.spec_checking.specs.Accepted.{IsAccepted, IsVerdict}
 use Rattle.alethe_reader.specs.declared.errors.ProofStop.{ProofStop}
 use Rattle.alethe_reader.specs.declared.errors.ProofStop.TheVariants as stops
 use Rattle.alethe_check.specs.Verdicts.{AnswersVerdict, fault_view}
-use Rattle.smt_top.specs.Ends.{IsValid}
+use Rattle.smt_top.specs.RunMeans.{IsValid}
 use Rattle.smt_top.specs.Calls.{JudgesProof}
 
 -- that a verdict needs the prefixes alone, that without a fault the proof is accepted, and that nothing is then true
@@ -24,7 +24,7 @@ AcceptedLaw = (script proof : List ℕ) (k : ℕ) → (IsVerdict script k proof 
 abbrev pub SoundLaw : Type 0
 SoundLaw = (script proof : List ℕ) (k : ℕ) → IsAccepted script k proof → HasNoModel term_limit script k
 
--- within a prefix each byte stands where it stands in the text
+-- within a prefix each byte is where it is in the text
 same_front : (n at : ℕ) (text : List ℕ) → at ≤ length (take n text) → take at (take n text) ≡ take at text
 same_front n at text within = take-take at n text (omega (arith, within, length-take n text))
 

@@ -14,7 +14,7 @@ use Rattle.smt_top.specs.declared.arguments.Request.{Request}
 use Rattle.smt_top.specs.declared.arguments.Request.TheVariants as request
 use Rattle.smt_top.specs.declared.arguments.ArgumentsStop.{ArgumentsStop}
 use Rattle.smt_top.specs.declared.arguments.ArgumentsStop.TheVariants as stop
-use Rattle.smt_top.specs.Ends.{IsValid, IsRefused, ScriptRun}
+use Rattle.smt_top.specs.RunMeans.{IsValid, IsRefused, ScriptRun}
 use Rattle.smt_top.specs.Arguments.{ProofNames, Budgets, Asked, runs, checks, limits_by}
 use Rattle.smt_top.specs.Output.{valid, output_of, longest_line}
 

@@ -7,7 +7,7 @@ use Rattle.smt_session.specs.declared.status.Status.{Status}
 use Rattle.smt_session.specs.declared.status.Status.TheVariants.{Done, Refused, Words, Memory, ReadFault, WriteFault}
 use Rattle.spec_sessions.specs.Statements.{OnTranscript, OnBegun}
 use Rattle.smt_top.specs.Arguments.{ProofNames, Asked, runs, checks, limits_by}
-use Rattle.smt_top.specs.Ends.{IsValid, ScriptRun}
+use Rattle.smt_top.specs.RunMeans.{IsValid, ScriptRun}
 use Rattle.smt_top.specs.Output.{usage, valid, error_line, output_of, longest_line}
 
 -- both names have texts, and P is true of these and of the check that is meant

@@ -1,6 +1,6 @@
 -- The definitions that contracts cite.
 pub mod Arguments
 pub mod Output
-pub mod Ends
+pub mod RunMeans
 pub mod Calls
 pub mod InMemory

@@ -12,7 +12,7 @@ usage = codes "usage: smt_cli solve [--conflicts N] [--pivots N] [NAME]\n       
 abbrev pub valid : List ℕ
 valid = codes "valid\n"
 
--- a fault of a proof, with the line and column that it stands at
+-- a fault of a proof, with the line and column that it is at
 abbrev pub error_line : List ℕ → Fault → List ℕ
 error_line proof f = error_text (line_of proof f.offset) (column_of proof f.offset) (fault_name f.kind)
 

@@ -1,4 +1,4 @@
-//! The arguments of a run, as they stand after the program's name.
+//! The arguments of a run, as they are after the program's name.
 
 ghost use Rattle.std.specs.Prelude.{◌≡◌, ◌↔◌, ℕ, [], false, map, option_map, option_and_then, unwrap_or, IfOk, IsTrue, IfSome, None, string_bytes};
 ghost use Rattle.clap.specs.Words.{app_of, rule_of, FailsBy, fault_of, first_of, found_of, kind_of, rows_of, subcommand_of, subcommand_rows_of};

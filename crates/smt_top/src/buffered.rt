@@ -3,7 +3,7 @@
 ghost use Rattle.std.specs.Prelude.{◌≡◌, ◌≢◌, ◌≤◌, ◌⊎◌, ℕ, List, [], None, IsSome};
 ghost use Rattle.world_io.specs.Outside.{Rose};
 ghost use Rattle.smt_top.specs.Arguments.{asked};
-ghost use Rattle.smt_top.specs.Ends.{RunMeans, AreHeld, LastIsRead, IsUnread, is_answered, through};
+ghost use Rattle.smt_top.specs.RunMeans.{RunMeans, AreHeld, LastIsRead, IsUnread, is_answered, through};
 
 use crate::run;
 use smt_session::Status;

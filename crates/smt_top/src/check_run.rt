@@ -4,7 +4,7 @@ ghost use Rattle.std.specs.Prelude.{◌≡◌, ◌≢◌, ℕ, ◌≤◌, ◌⊎
 ghost use Rattle.world_io.specs.Outside.{Rose};
 ghost use Rattle.smt_top.specs.Arguments.{asked};
 ghost use Rattle.smt_top.specs.Calls.{names_of, run_of};
-ghost use Rattle.smt_top.specs.Ends.{Holdings, BothHold, ProofIsLast, TakesText, CheckMeans, ScriptMeans, RunMeans, AreHeld, LastIsRead, IsUnread};
+ghost use Rattle.smt_top.specs.RunMeans.{Holdings, BothHold, ProofIsLast, TakesText, CheckMeans, ScriptMeans, RunMeans, AreHeld, LastIsRead, IsUnread};
 
 use crate::arguments::{ArgumentsStop, CheckRequest, Request, RunRequest, request_from};
 use crate::output::write_usage;

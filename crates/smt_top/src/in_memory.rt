@@ -4,7 +4,7 @@ ghost use Rattle.std.specs.Prelude.{◌≡◌, ◌≢◌, ◌<◌, ℕ, List, []
 ghost use Rattle.world_io.specs.Memory.{text_named};
 ghost use Rattle.world_io.specs.Outside.{Rose};
 ghost use Rattle.smt_top.specs.Arguments.{asked};
-ghost use Rattle.smt_top.specs.Ends.{AreHeld};
+ghost use Rattle.smt_top.specs.RunMeans.{AreHeld};
 ghost use Rattle.smt_top.specs.InMemory.{EndsInMemory};
 
 use crate::run;

@@ -5,7 +5,7 @@ pub mod SearchTruths
 pub mod SearchNumbers
 pub mod SearchStops
 pub mod SearchModelled
-pub mod SearchStrained
+pub mod SearchOverflowed
 pub mod SharedTerms
 pub mod SearchAgreed
 pub mod Missing

@@ -1,4 +1,4 @@
--- What the theories say of shared terms where a search rests: where they agree numbers and classes hold together, and where they do not no
+-- What the theories say of shared terms where a search is saturated: where they agree numbers and classes hold together, and where they do not no
 -- equality tells.
 use Rattle.std.proofs.Common.{◌≡◌, ◌<◌, ◌+◌, ℕ, zero, suc, List, [], ◌∷◌, ◌++◌, length, take, get_or, map, All, Contains, inl, inr, refl, sym, ap, ◌∙◌, subst, arith, length-append}
 use Rattle.std.specs.Prelude.{◌↔◌}
@@ -24,7 +24,7 @@ use Rattle.spec_derivations.proofs.OrderedTerms.{searched_whole}
 use Rattle.spec_causes.specs.Shared.{IsSharedAmong, argument, value, IsSharedEquality}
 use Rattle.spec_causes.proofs.Wider.{shared_among_more}
 use Rattle.spec_valuations.specs.Classes.{class_in, AreShared, IsEqualityAmong}
-use Rattle.spec_valuations.specs.Resting.{TheoryValues, RestsWithNumbers}
+use Rattle.spec_valuations.specs.Saturation.{TheoryValues, IsSaturatedWithNumbers}
 use Rattle.term_core.specs.declared.ids.TermId.{TermId}
 use Rattle.term_core.specs.Tables.{TableView, AreDifferent, IsIn, AreIn, term_at, literal_at, clause_at}
 use Rattle.clause_literals.specs.Literals.{IsConsistent}
@@ -38,9 +38,9 @@ use Rattle.congruence.specs.Views.{AreEqualBy}
 use Rattle.agreement.specs.declared.agreeing.Shared.{Shared}
 use Rattle.agreement.specs.Agreeing.{Concur, Clash, Agree, IsDifferingPair}
 use Rattle.search_loop.specs.declared.search.Search.{Search}
-use Rattle.search_loop.specs.Asking.{HasRested}
+use Rattle.search_loop.specs.Asking.{HasSaturated}
 use Rattle.solve_core.specs.Sharing.{IsAskedOf, IsOpen}
-use Rattle.solve_core.specs.Agreeing.{IsSaidAt, AreSaidBelow, AreSaid}
+use Rattle.solve_core.specs.Agreeing.{IsTheoryValueAt, AreTheoryValuesBelow, AreTheoryValues}
 use Rattle.solve_core.proofs.SearchModelled.{related, given, rests_apart}
 
 -- each shared term is a subterm, of sort Real
@@ -53,9 +53,9 @@ shared_real ts _ (argument s us there u i real) = real
 shared_real ts _ (value s us there some real) = real
 
 -- equalities of shared terms are equalities of subterms
-pub equalities_among : (p : Problem) → All (IsSharedEquality (subterms_in p)) p.beside → (e : Term) → Contains p.beside e → IsEqualityAmong (subterms_in p) e
+pub equalities_among : (p : Problem) → All (IsSharedEquality (subterms_in p)) p.interface → (e : Term) → Contains p.interface e → IsEqualityAmong (subterms_in p) e
 equalities_among p each e i =
-    let h = All-contains (IsSharedEquality (subterms_in p)) p.beside e each i in
+    let h = All-contains (IsSharedEquality (subterms_in p)) p.interface e each i in
     record {
       left = h.left;
       left_in = shared_subterm p h.left h.left_shared;
@@ -75,25 +75,25 @@ element_at (x ∷ xs) zero lt = (x, first x xs, λ d. refl)
 element_at (x ∷ xs) (suc k) lt = let e = element_at xs k (omega (arith, lt)) in (e.0, later x xs e.0 e.1, e.2)
 
 -- what is said of no terms, and of one more
-pub said_none : (ids : List TermId) (classes : List ℕ) (numbers : List Fraction) (from : ℕ) → AreSaidBelow ids classes numbers from 0 []
-said_none ids classes numbers from = record { count = refl; each = λ k d lt. absurd (omega (arith, lt)) }
+pub assigned_none : (ids : List TermId) (classes : List ℕ) (numbers : List Fraction) (from : ℕ) → AreTheoryValuesBelow ids classes numbers from 0 []
+assigned_none ids classes numbers from = record { count = refl; each = λ k d lt. absurd (omega (arith, lt)) }
 
-pub said_more : (ids : List TermId) (classes : List ℕ) (numbers : List Fraction) (from n : ℕ) (xs new : List Shared) (x : Shared) → IsSaidAt ids classes numbers from n x → new ≡ xs ++ x ∷ []
-    → AreSaidBelow ids classes numbers from n xs → AreSaidBelow ids classes numbers from (n + 1) new
-said_more ids classes numbers from n xs new x here is h = subst (AreSaidBelow ids classes numbers from (n + 1)) (sym is) (record {
+pub assigned_more : (ids : List TermId) (classes : List ℕ) (numbers : List Fraction) (from n : ℕ) (xs new : List Shared) (x : Shared) → IsTheoryValueAt ids classes numbers from n x → new ≡ xs ++ x ∷ []
+    → AreTheoryValuesBelow ids classes numbers from n xs → AreTheoryValuesBelow ids classes numbers from (n + 1) new
+assigned_more ids classes numbers from n xs new x here is h = subst (AreTheoryValuesBelow ids classes numbers from (n + 1)) (sym is) (record {
   count = omega (arith, length-append xs (x ∷ []), h.count);
   each = λ k d lt. elim (cases_lt k n) [
-    | inl early ↦ subst (IsSaidAt ids classes numbers from k) (sym (get_or_append_left xs (x ∷ []) d k (omega (arith, early, h.count)))) (h.each k d early)
+    | inl early ↦ subst (IsTheoryValueAt ids classes numbers from k) (sym (get_or_append_left xs (x ∷ []) d k (omega (arith, early, h.count)))) (h.each k d early)
     | inr late ↦
         let last : k ≡ n = omega (arith, lt, late) in
-        subst (λ (m : ℕ). IsSaidAt ids classes numbers from m (get_or (xs ++ x ∷ []) k d)) (sym last)
-        (subst (IsSaidAt ids classes numbers from n) (sym (get_or_push xs x d k (omega (arith, last, h.count)))) here)
+        subst (λ (m : ℕ). IsTheoryValueAt ids classes numbers from m (get_or (xs ++ x ∷ []) k d)) (sym last)
+        (subst (IsTheoryValueAt ids classes numbers from n) (sym (get_or_push xs x d k (omega (arith, last, h.count)))) here)
   ];
 })
 
-pub said_at_place : (ids : List TermId) (classes : List ℕ) (numbers : List Ratio) (from k : ℕ) (x : Shared) (id : TermId) (c : ℕ) (q : Ratio) → k < length ids → from + k < length classes → from + k < length numbers
-    → x.term ≡ get_or ids k id → c ≡ get_or classes (from + k) c → q ≡ get_or numbers (from + k) q → x.class ≡ c → delta x.value ≡ delta_number (fraction q) → IsSaidAt ids classes (map fraction numbers) from k x
-said_at_place ids classes numbers from k x id c q k_lt c_lt q_lt term c_is q_is class told = record {
+pub assigned_at_index : (ids : List TermId) (classes : List ℕ) (numbers : List Ratio) (from k : ℕ) (x : Shared) (id : TermId) (c : ℕ) (q : Ratio) → k < length ids → from + k < length classes → from + k < length numbers
+    → x.term ≡ get_or ids k id → c ≡ get_or classes (from + k) c → q ≡ get_or numbers (from + k) q → x.class ≡ c → delta x.value ≡ delta_number (fraction q) → IsTheoryValueAt ids classes (map fraction numbers) from k x
+assigned_at_index ids classes numbers from k x id c q k_lt c_lt q_lt term c_is q_is class told = record {
   term = term ∙ get_or_default ids k id no_id k_lt;
   class = class ∙ c_is ∙ get_or_default classes (from + k) c 0 c_lt;
   value = told ∙ ap (λ (r : Ratio). delta_number (fraction r)) q_is ∙ ap delta_number (sym (get_or-map fraction numbers (from + k) q zero_fraction q_lt));
@@ -150,7 +150,7 @@ module _ (t : TableView) (v : TheoryView) (own ids : List TermId) (classes : Lis
   abbrev pub shared_at : ℕ → Term
   shared_at k = term_at t (get_or ids k no_id)
 
-  module _ (i j : ℕ) (li : i < length ids) (lj : j < length ids) (x y : Shared) (at_i : IsSaidAt ids classes xs (length own) i x) (at_j : IsSaidAt ids classes xs (length own) j y) where
+  module _ (i j : ℕ) (li : i < length ids) (lj : j < length ids) (x y : Shared) (at_i : IsTheoryValueAt ids classes xs (length own) i x) (at_j : IsTheoryValueAt ids classes xs (length own) j y) where
     values_are : (delta x.value ≡ delta y.value) ↔ (number (shared_at i) ≡ number (shared_at j))
     values_are =
         let one = at_i.value ∙ ap delta_number (behind_are i li) in
@@ -170,34 +170,34 @@ module _ (t : TableView) (v : TheoryView) (own ids : List TermId) (classes : Lis
     clash_apart (inr c) h = c.0 (classes_are.1 (h.0 (values_are.0 c.1)))
 
   -- what is said of them all
-  module _ (said : List Shared) (are_said : AreSaid ids classes xs (length own) said) where
+  module _ (assigned_values : List Shared) (are_assigned : AreTheoryValues ids classes xs (length own) assigned_values) where
     place_of : (u : Term) → Contains (clause_at t ids) u → (k : ℕ) × (k < length ids) × (shared_at k ≡ u)
     place_of u i =
         let n = from_image (term_at t) ids u i in
         (n.1.0, n.1.1, ap (term_at t) (get_or_default ids n.1.0 no_id n.0 n.1.1 ∙ n.1.2) ∙ n.2)
 
-    said_at : (k : ℕ) → k < length ids → (x : Shared) × Contains said x × IsSaidAt ids classes xs (length own) k x
-    said_at k lt =
-        let e = element_at said k (omega (arith, lt, are_said.count)) in
-        (e.0, e.1, subst (IsSaidAt ids classes xs (length own) k) (e.2 e.0) (are_said.each k e.0 lt))
+    assigned_at : (k : ℕ) → k < length ids → (x : Shared) × Contains assigned_values x × IsTheoryValueAt ids classes xs (length own) k x
+    assigned_at k lt =
+        let e = element_at assigned_values k (omega (arith, lt, are_assigned.count)) in
+        (e.0, e.1, subst (IsTheoryValueAt ids classes xs (length own) k) (e.2 e.0) (are_assigned.each k e.0 lt))
 
-    pub all_together : Agree said → (u w : Term) → Contains (clause_at t ids) u → Contains (clause_at t ids) w → GoTogether u w
+    pub all_together : Agree assigned_values → (u w : Term) → Contains (clause_at t ids) u → Contains (clause_at t ids) w → GoTogether u w
     all_together h u w i j =
         let k = place_of u i in
         let m = place_of w j in
-        let x = said_at k.0 k.1 in
-        let y = said_at m.0 m.1 in
+        let x = assigned_at k.0 k.1 in
+        let y = assigned_at m.0 m.1 in
         subst (λ a. GoTogether a w) k.2 (subst (λ b. GoTogether (shared_at k.0) b) m.2 (concur_together k.0 m.0 k.1 m.1 x.0 y.0 x.2 y.2 (h x.0 y.0 x.1 y.1)))
 
     -- of two terms on which the theories do not agree: they are shared, and this is not said alike
-    pub pair_apart : (a b : TermId) → IsDifferingPair said a b → Contains ids a × (Contains ids b × (GoTogether (term_at t a) (term_at t b) → ⊥))
+    pub pair_apart : (a b : TermId) → IsDifferingPair assigned_values a b → Contains ids a × (Contains ids b × (GoTogether (term_at t a) (term_at t b) → ⊥))
     pair_apart a b h =
         let k = h.one_in.0 in
         let m = h.other_in.0 in
-        let lk : k < length ids = omega (arith, h.one_in.1, are_said.count) in
-        let lm : m < length ids = omega (arith, h.other_in.1, are_said.count) in
-        let x = subst (IsSaidAt ids classes xs (length own) k) h.one_in.2 (are_said.each k h.one lk) in
-        let y = subst (IsSaidAt ids classes xs (length own) m) h.other_in.2 (are_said.each m h.other lm) in
+        let lk : k < length ids = omega (arith, h.one_in.1, are_assigned.count) in
+        let lm : m < length ids = omega (arith, h.other_in.1, are_assigned.count) in
+        let x = subst (IsTheoryValueAt ids classes xs (length own) k) h.one_in.2 (are_assigned.each k h.one lk) in
+        let y = subst (IsTheoryValueAt ids classes xs (length own) m) h.other_in.2 (are_assigned.each m h.other lm) in
         let one : get_or ids k no_id ≡ a = sym (h.one_is ∙ x.term) in
         let other : get_or ids m no_id ≡ b = sym (h.other_is ∙ y.term) in (
           subst (Contains ids) one (Contains-get_or ids k no_id lk),
@@ -208,7 +208,7 @@ module _ (t : TableView) (v : TheoryView) (own ids : List TermId) (classes : Lis
           ),
         )
 
-module _ (t : TableView) (differ : AreDifferent t.terms) (x : Search) (v : TheoryView) (agreed : Type 0) (h : HasRested t x v agreed) (ids : List TermId) (p : Problem) (a : IsAskedOf t ids p x) where
+module _ (t : TableView) (differ : AreDifferent t.terms) (x : Search) (v : TheoryView) (agreed : Type 0) (h : HasSaturated t x v agreed) (ids : List TermId) (p : Problem) (a : IsAskedOf t ids p x) where
   abbrev own : List TermId
   own = x.terms.items
 
@@ -243,10 +243,10 @@ module _ (t : TableView) (differ : AreDifferent t.terms) (x : Search) (v : Theor
   all_there = All-append (IsIn t) own ids (All-weaker (IsTermIn t) (IsIn t) (λ id k. k.0) own h.ready.atoms_are.there) a.shared.there
 
   -- and no more terms are shared
-  pub all_shared : ((q : Problem) → ((e : Term) → Contains q.beside e → IsEqualityAmong (subterms_in q) e) → (f : Symbol) (us : Terms) → Contains (whole_terms q) (app (Apply f) us) → Contains (subterms_in q) (app (Apply f) us))
+  pub all_shared : ((q : Problem) → ((e : Term) → Contains q.interface e → IsEqualityAmong (subterms_in q) e) → (f : Symbol) (us : Terms) → Contains (whole_terms q) (app (Apply f) us) → Contains (subterms_in q) (app (Apply f) us))
       → AreShared terms (clause_at t ids)
   all_shared nothing_more =
-      let applied = nothing_more p (equalities_among p a.beside) in
+      let applied = nothing_more p (equalities_among p a.interface) in
       record {
         values = λ s ts i some real. a.shared.each (app (Apply s) ts) (value s ts (applied s ts (a.asked.listed.only (app (Apply s) ts) i)) some real);
         arguments = λ s ts u i j real. a.shared.each u (argument s ts (applied s ts (a.asked.listed.only (app (Apply s) ts) i)) u j real);
@@ -280,7 +280,7 @@ module _ (t : TableView) (differ : AreDifferent t.terms) (x : Search) (v : Theor
         (λ e. other.1 (one.0 e), λ e. one.1 (other.0 e))
 
     -- they go together on the sides of an equality that the search speaks of
-    pub spoken_together : ((symbols : List Symbol) (q : Problem) (ts : List Term) (ls : List Literal) (b : TheoryValues) → RestsWithNumbers symbols q ts ls b → (s u : Term) → Contains ts (pair Equal s u) → sort_of s ≡ Number
+    pub spoken_together : ((symbols : List Symbol) (q : Problem) (ts : List Term) (ls : List Literal) (b : TheoryValues) → IsSaturatedWithNumbers symbols q ts ls b → (s u : Term) → Contains ts (pair Equal s u) → sort_of s ≡ Number
         → (b.class s ≡ b.class u) ↔ (number_at b.number s ≡ number_at b.number u))
         → (u w : Term) → Contains (clause_at t ids) u → Contains (clause_at t ids) w → Contains (whole_terms p) (pair Equal u w) → (number u ≡ number w) ↔ Congruent u w
     spoken_together law u w i j spoken =
@@ -293,7 +293,7 @@ module _ (t : TableView) (differ : AreDifferent t.terms) (x : Search) (v : Theor
         )
 
     -- so a pair on which they do not is of different terms of whose equality it does not speak
-    pub pair_open : ((symbols : List Symbol) (q : Problem) (ts : List Term) (ls : List Literal) (b : TheoryValues) → RestsWithNumbers symbols q ts ls b → (s u : Term) → Contains ts (pair Equal s u) → sort_of s ≡ Number
+    pub pair_open : ((symbols : List Symbol) (q : Problem) (ts : List Term) (ls : List Literal) (b : TheoryValues) → IsSaturatedWithNumbers symbols q ts ls b → (s u : Term) → Contains ts (pair Equal s u) → sort_of s ≡ Number
         → (b.class s ≡ b.class u) ↔ (number_at b.number s ≡ number_at b.number u))
         → (y : TermId × TermId) → Contains ids y.0 → Contains ids y.1 → (((number (term_at t y.0) ≡ number (term_at t y.1)) ↔ Congruent (term_at t y.0) (term_at t y.1)) → ⊥) → IsOpen t ids p y
     pair_open law y one other apart =

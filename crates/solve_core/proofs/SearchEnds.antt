@@ -14,7 +14,7 @@ use Rattle.search_loop.proofs.SearchRounds.{shows_on}
 use Rattle.solve_core.specs.declared.answering.Round.{Round}
 use Rattle.solve_core.specs.declared.answering.Round.TheVariants.{Answered, Differ}
 use Rattle.solve_core.specs.Answering.{IsStoppedBy}
-use Rattle.solve_core.specs.Ending.{EndsRound, RestsRound, AnswersStop}
+use Rattle.solve_core.specs.Ending.{EndsRound, SaturatesRound, AnswersStop}
 use Rattle.solve_core.proofs.SearchRounds.{asked_on}
 use Rattle.solve_core.proofs.SearchStops.{answered_on}
 
@@ -32,7 +32,7 @@ pub ends_on : (t u w : TableView) (x y z : Search) → Continues t u x y → (id
 ends_on t u w x y z on ids (Answered a) h = answered_on t u w x y z on a h
 ends_on t u w x y z on ids (Differ pairs) h = λ p s. h p (asked_on t u on.table ids p x y (on.search p) s)
 
--- so does one that ends where the search rests
-pub rested_ends : (t w : TableView) (x y : Search) → Continues t w x y → IsLogOf w y.log → (ids : List TermId) (r : Round) → RestsRound w y ids r → EndsRound (state t x) (state w y) ids r
-rested_ends t w x y on right ids (Answered a) shows = record { right = right; limits = on.limits; shows = shows_on t w w x y y a on shows }
-rested_ends t w x y on right ids (Differ pairs) h = λ p s. h p (asked_on t w on.table ids p x y (on.search p) s)
+-- so does one that ends where the search is saturated
+pub saturated_ends : (t w : TableView) (x y : Search) → Continues t w x y → IsLogOf w y.log → (ids : List TermId) (r : Round) → SaturatesRound w y ids r → EndsRound (state t x) (state w y) ids r
+saturated_ends t w x y on right ids (Answered a) shows = record { right = right; limits = on.limits; shows = shows_on t w w x y y a on shows }
+saturated_ends t w x y on right ids (Differ pairs) h = λ p s. h p (asked_on t w on.table ids p x y (on.search p) s)

@@ -9,7 +9,7 @@ use Rattle.spec_arithmetic.specs.Forms.{Form}
 use Rattle.spec_simplex.specs.Constraints.{Constraint, constraint_of, form_of, HasForm}
 use Rattle.spec_derivations.specs.Examples.{asserting}
 use Rattle.spec_derivations.specs.Problems.{subterms_in}
-use Rattle.spec_causes.specs.Causes.{StrainsForm}
+use Rattle.spec_causes.specs.Causes.{OverflowsForm}
 use Rattle.ratio128.specs.declared.wide.Wide.{Wide}
 use Rattle.ratio128.specs.Meant.{overflow}
 use Rattle.term_core.specs.declared.ids.TermId.{TermId}
@@ -69,8 +69,8 @@ module _ (t : TableView) (roots : List TermId) (marks : List Bool) (are : AreMar
   }
 
 -- that overflow is one of an atom's form
-pub strains_first : (t : TableView) (ts : List Term) (w : Wide) → IsFirstOverflow t ts w → StrainsForm ts (overflow w)
-strains_first t ts w h = record {
+pub overflows_first : (t : TableView) (ts : List Term) (w : Wide) → IsFirstOverflow t ts w → OverflowsForm ts (overflow w)
+overflows_first t ts w h = record {
   atom = term_at t h.id;
   there = h.there;
   constraint = h.fails.constraint;

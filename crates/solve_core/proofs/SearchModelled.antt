@@ -19,7 +19,7 @@ use Rattle.spec_congruence.specs.Congruence.{signed_literal, IsCongruent, IsFine
 use Rattle.spec_derivations.specs.Problems.{Problem, terms_of_problem, known_terms}
 use Rattle.spec_derivations.specs.Orders.{whole_terms, whole_clauses}
 use Rattle.spec_valuations.specs.Classes.{class_in, AreShared}
-use Rattle.spec_valuations.specs.Resting.{TheoryValues, values_of, RestsWithNumbers, RestsOnNumbers}
+use Rattle.spec_valuations.specs.Saturation.{TheoryValues, values_of, IsSaturatedWithNumbers, IsSaturatedOnNumbers}
 use Rattle.term_core.specs.declared.ids.TermId.{TermId}
 use Rattle.term_core.specs.Tables.{TableView, AreDifferent, term_at, literal_at, clause_at, positive_literal}
 use Rattle.clause_literals.specs.Literals.{IsConsistent, AreLiteralsIn, LiteralsMean}
@@ -34,11 +34,11 @@ use Rattle.spec_valuations.specs.Tables.{IsModelBy}
 use Rattle.search_model.specs.Models.{truths_of, TakeNumbersOf, IsModelOf, IsModel}
 use Rattle.search_loop.specs.declared.search.Search.{Search}
 use Rattle.search_loop.specs.Rounds.{IsSearch}
-use Rattle.search_loop.specs.Asking.{HasRested}
+use Rattle.search_loop.specs.Asking.{HasSaturated}
 use Rattle.search_loop.proofs.SearchReady.{clauses_in, held_in}
 use Rattle.solve_core.proofs.SearchTruths.{truth_is, clause_met}
 
-module _ (t : TableView) (differ : AreDifferent t.terms) (x : Search) (v : TheoryView) (agreed : Type 0) (h : HasRested t x v agreed) (consistent : IsConsistent x.trail.literals)
+module _ (t : TableView) (differ : AreDifferent t.terms) (x : Search) (v : TheoryView) (agreed : Type 0) (h : HasSaturated t x v agreed) (consistent : IsConsistent x.trail.literals)
     (fine : IsFine (terms_watched t v) (literals_held t v)) (classes : List ℕ) (tell : TellClasses (AreEqualBy t v) x.terms.items classes) (problem : Problem) (s : IsSearch t problem x) where
   abbrev ids : List TermId
   ids = x.terms.items
@@ -79,13 +79,13 @@ module _ (t : TableView) (differ : AreDifferent t.terms) (x : Search) (v : Theor
       let means : LiteralsMean t d.0 c = record { same = d.2; there = λ k e lt. clauses_in t x h.ready d.0 (get_or d.0 k e) d.1 (Contains-get_or d.0 k e lt) } in
       clause_met t x.trail.literals differ all_held consistent c d.0 means (h.satisfied d.0 d.1)
 
-  -- the terms are formulas, and so are those beside them
+  -- the terms are formulas, and so are the interface equalities
   clause_formulas : (ids : List TermId) → AreFormulasIn t ids → All (IsFormulaOver t.symbols) (clause_at t ids)
   clause_formulas ids ids_in = All-map (IsFormulaOver t.symbols) (term_at t) ids (λ k d lt. (ids_in k d lt).1)
 
   formulas : All (IsFormulaOver t.symbols) (known_terms problem)
   formulas = subst (λ (p : Problem). All (IsFormulaOver t.symbols) (known_terms p)) s.meant
-      (All-append (IsFormulaOver t.symbols) (clause_at t s.beside) (clause_at t s.roots ++ []) (clause_formulas s.beside s.beside_in)
+      (All-append (IsFormulaOver t.symbols) (clause_at t s.interface) (clause_at t s.roots ++ []) (clause_formulas s.interface s.interface_in)
       (subst (All (IsFormulaOver t.symbols)) (sym (append-nil (clause_at t s.roots))) (clause_formulas s.roots s.roots_in)))
 
   pub nothing_assumed : All (λ u. term_true_by truths u ≡ true) problem.assumed
@@ -121,7 +121,7 @@ module _ (t : TableView) (differ : AreDifferent t.terms) (x : Search) (v : Theor
     given = record { truths = truths; class = class_in terms classes; number = number }
 
     -- where it rests, whether its theories agree or not
-    pub rests_apart : RestsWithNumbers t.symbols problem terms held given
+    pub rests_apart : IsSaturatedWithNumbers t.symbols problem terms held given
     rests_apart = record {
       formulas = formulas;
       listed = s.listed.each;
@@ -141,7 +141,7 @@ module _ (t : TableView) (differ : AreDifferent t.terms) (x : Search) (v : Theor
       pub taken : TakeNumbersOf number terms
       taken f ts u i j e = (h.ready.atoms_are.closed (app (Apply f) ts) i u j, heads u (shares.arguments f ts u i j e))
 
-      pub rests : RestsOnNumbers t.symbols problem terms held given
+      pub rests : IsSaturatedOnNumbers t.symbols problem terms held given
       rests = record {
         rests = rests_apart;
         shared = shared;

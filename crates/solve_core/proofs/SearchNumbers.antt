@@ -1,4 +1,4 @@
--- Numbers of terms where a search rests: what a theory of numbers may be asked, and that zeros do where no term is a number.
+-- Numbers of terms where a search is saturated: what a theory of numbers may be asked, and that zeros do where no term is a number.
 use Rattle.std.proofs.Common.{◌≡◌, ◌≢◌, ℕ, Bool, true, false, List, [], ◌∷◌, length, get_or, map, All, Contains, refl, sym, ap, ◌∙◌, subst}
 use Rattle.std.specs.Prelude.{Some, replicate}
 use Rattle.std.proofs.lemmas.Bool.{and_parts}
@@ -21,7 +21,7 @@ use Rattle.term_core.proofs.TermsExtend.{clause_at-kept}
 use Rattle.proof_log.specs.Theories.{TheoryView, IsTermIn, IsAtomIn, IsTheoryOver}
 use Rattle.search_loop.specs.declared.search.Search.{Search}
 use Rattle.search_loop.specs.Search.{SearchFits}
-use Rattle.search_loop.specs.Asking.{HasRested}
+use Rattle.search_loop.specs.Asking.{HasSaturated}
 use Rattle.search_loop.proofs.SearchReady.{Ids, atom_in, all_of_atoms}
 use Rattle.congruence_closure.specs.Closure.{TellClasses}
 use Rattle.congruence.specs.Views.{AreEqualBy}
@@ -52,13 +52,13 @@ same_number : (q : Fraction) (ts : List Term) → replicate (length ts) q ≡ ma
 same_number q [] = refl
 same_number q (t ∷ ts) = ap (λ (qs : List Fraction). q ∷ qs) (same_number q ts)
 
-module _ (t : TableView) (x : Search) (v : TheoryView) (agreed : Type 0) (h : HasRested t x v agreed) where
+module _ (t : TableView) (x : Search) (v : TheoryView) (agreed : Type 0) (h : HasSaturated t x v agreed) where
   abbrev ids : List TermId
   ids = x.terms.items
 
   -- what the theory holds and watches is over the table
-  pub over_rested : IsTheoryOver t v
-  over_rested = record {
+  pub over_saturated : IsTheoryOver t v
+  over_saturated = record {
     terms = subst (All (IsTermIn t)) (sym h.terms) h.ready.atoms_are.there;
     closed = subst (λ (is : List TermId). IsClosed (clause_at t is)) (sym h.terms) h.ready.atoms_are.closed;
     atoms = subst (λ (ls : List Lit). All (λ (l : Lit). IsAtomIn t l.term) ls) (sym h.held) (λ k d lt. atom_in t x h.ready (get_or x.trail.literals k d).term (all_of_atoms t x h.ready (get_or x.trail.literals k d) (Contains-get_or x.trail.literals k d lt)));
@@ -66,8 +66,8 @@ module _ (t : TableView) (x : Search) (v : TheoryView) (agreed : Type 0) (h : Ha
 
   -- where no term is a number, literals say nothing of numbers
   module _ (plain : (u : Term) → Contains (clause_at t ids) u → sort_of u ≢ Number) where
-    nothing_said : (l : Lit) → Contains x.trail.literals l → HoldsAt (λ (u : Term). zero_fraction) (literal_at t l)
-    nothing_said l i c e left right =
+    nothing_assigned : (l : Lit) → Contains x.trail.literals l → HoldsAt (λ (u : Term). zero_fraction) (literal_at t l)
+    nothing_assigned l i c e left right =
         let own = left_of l.positive (term_at t l.term) c e in
         let spoken : Contains (clause_at t ids) (term_at t l.term) = to_image (term_at t) ids l.term (h.ready.atoms_are.chosen.among l.term (all_of_atoms t x h.ready l i)) in
         absurd (plain c.left (h.ready.atoms_are.closed (term_at t l.term) spoken c.left own.there) own.number)
@@ -78,7 +78,7 @@ module _ (t : TableView) (x : Search) (v : TheoryView) (agreed : Type 0) (h : Ha
         number = λ u. zero_fraction;
         reduced = λ u. zero-reduced;
         hold = subst (λ (ls : List Lit). All (HoldsAt (λ (u : Term). zero_fraction)) (map (literal_at t) ls)) (sym h.held)
-            (All-map (HoldsAt (λ (u : Term). zero_fraction)) (literal_at t) x.trail.literals (λ k d lt. nothing_said (get_or x.trail.literals k d) (Contains-get_or x.trail.literals k d lt)));
+            (All-map (HoldsAt (λ (u : Term). zero_fraction)) (literal_at t) x.trail.literals (λ k d lt. nothing_assigned (get_or x.trail.literals k d) (Contains-get_or x.trail.literals k d lt)));
         are = e ∙ ap (λ (n : ℕ). replicate n zero_fraction) (sym (length-map ids (term_at t))) ∙ same_number zero_fraction (clause_at t ids);
         tell = tell;
         count = count;

@@ -11,7 +11,7 @@ use Rattle.spec_derivations.specs.Orders.{whole_terms}
 use Rattle.spec_causes.specs.Reached.{between}
 use Rattle.spec_causes.specs.Counts.{is_arithmetic, arithmetic_in, most_runs, AreFewRuns}
 use Rattle.spec_causes.specs.Causes.{NeedsMore}
-use Rattle.spec_causes.proofs.Wider.{strains_over_more, needs_over_more}
+use Rattle.spec_causes.proofs.Wider.{overflows_over_more, needs_over_more}
 use Rattle.ratio128.specs.Meant.{overflow}
 use Rattle.term_core.specs.declared.ids.TermId.{TermId}
 use Rattle.term_core.specs.Tables.{TableView, AreDifferent, IsIn, term_at, clause_at}
@@ -23,15 +23,15 @@ use Rattle.sat_budget.specs.Budgets.{StopsBy, AreSpent}
 use Rattle.proof_log.specs.Logs.{IsLogOf}
 use Rattle.proof_log.specs.Theories.{TheoryView, IsTermIn, terms_watched, CameTo}
 use Rattle.simplex.specs.Views.{SimplexView}
-use Rattle.simplex.specs.Coming.{standing_of, CameBy, StoppedBy, IsStrainAt}
+use Rattle.simplex.specs.Coming.{term_tableau_of, CameBy, StoppedBy, IsOverflowAt}
 use Rattle.search_loop.specs.declared.search.Search.{Search}
 use Rattle.search_loop.specs.declared.cdcl.Answer.{Answer}
 use Rattle.search_loop.specs.declared.cdcl.Answer.TheVariants.{Unknown}
-use Rattle.search_loop.specs.Stops.{IsStrained, reckoning, ArePivotsSpent}
+use Rattle.search_loop.specs.Stops.{IsOverflowed, reckoning, ArePivotsSpent}
 use Rattle.search_loop.specs.Search.{SearchFits}
 use Rattle.search_loop.specs.Paying.{atoms_of, most, IsPaid}
 use Rattle.search_loop.specs.Rounds.{IsSearch, Continues, ShowsAnswer}
-use Rattle.search_loop.specs.Asking.{HasRested, HasStopped, OnStop, state}
+use Rattle.search_loop.specs.Asking.{HasSaturated, HasStopped, OnStop, state}
 use Rattle.search_loop.proofs.SearchPays.{from_filter, terms_once}
 use Rattle.search_loop.proofs.SearchGrown.{spoken}
 use Rattle.search_loop.proofs.SearchRounds.{shows_on}
@@ -81,36 +81,36 @@ module _ (t : TableView) (x : Search) (problem : Problem) (s : IsSearch t proble
 
     -- what it came to is a place where it can be stopped
     pub stopped_there : CameIn → IsStoppedIn
-    stopped_there (n, le, c) = (m, omega arith, record { runs = c.runs; stopped = between c.runs x.budget.exchanges (standing_of t v) c.reached; few = runs_within n le c })
+    stopped_there (n, le, c) = (m, omega arith, record { runs = c.runs; stopped = between c.runs x.budget.exchanges (term_tableau_of t v) c.reached; few = runs_within n le c })
 
     -- an operation of it over some of them leaves the bound
-    strained_over : (ts : List Term) → AreAmong ts (whole_terms problem) → IsStoppedIn → (e : Strain) → IsStrainAt t ts e v
-        → IsStrained problem (length x.budget.learned) x.budget.exchanges e
-    strained_over ts among (n, le, at) e h =
-        reckoning (standing_of t v) at.runs at.stopped (few at.runs (omega (arith, at.few, le)))
-        (strains_over_more ts (whole_terms problem) among (standing_of t v) (overflow e.wide) h.0) h.1
+    overflowed_over : (ts : List Term) → AreAmong ts (whole_terms problem) → IsStoppedIn → (e : Strain) → IsOverflowAt t ts e v
+        → IsOverflowed problem (length x.budget.learned) x.budget.exchanges e
+    overflowed_over ts among (n, le, at) e h =
+        reckoning (term_tableau_of t v) at.runs at.stopped (few at.runs (omega (arith, at.few, le)))
+        (overflows_over_more ts (whole_terms problem) among (term_tableau_of t v) (overflow e.wide) h.0) h.1
 
     -- where a term comes to be watched, and in a check or in a number of a model
-    pub watching_strained : IsStoppedIn → (n : ℕ) (e : Strain) → IsStrainAt t (clause_at t (take n x.terms.items)) e v
-        → IsStrained problem (length x.budget.learned) x.budget.exchanges e
-    watching_strained at n = strained_over (clause_at t (take n x.terms.items)) (spoken_front n) at
+    pub watching_overflowed : IsStoppedIn → (n : ℕ) (e : Strain) → IsOverflowAt t (clause_at t (take n x.terms.items)) e v
+        → IsOverflowed problem (length x.budget.learned) x.budget.exchanges e
+    watching_overflowed at n = overflowed_over (clause_at t (take n x.terms.items)) (spoken_front n) at
 
-    pub checking_strained : IsStoppedIn → (watched : List TermId) → watched ≡ x.terms.items → (e : Strain) → IsStrainAt t (clause_at t watched) e v
-        → IsStrained problem (length x.budget.learned) x.budget.exchanges e
-    checking_strained at watched are = strained_over (clause_at t watched) (subst (λ (ids : List TermId). AreAmong (clause_at t ids) (whole_terms problem)) (sym are) (spoken t x problem s)) at
+    pub checking_overflowed : IsStoppedIn → (watched : List TermId) → watched ≡ x.terms.items → (e : Strain) → IsOverflowAt t (clause_at t watched) e v
+        → IsOverflowed problem (length x.budget.learned) x.budget.exchanges e
+    checking_overflowed at watched are = overflowed_over (clause_at t watched) (subst (λ (ids : List TermId). AreAmong (clause_at t ids) (whole_terms problem)) (sym are) (spoken t x problem s)) at
 
     -- spent pivots
     pub pivots_spent : CameIn → (watched : List TermId) → watched ≡ x.terms.items → (n : ℕ)
-        → AreSpent (NeedsMore (clause_at t watched) (standing_of t v)) x.budget n → ArePivotsSpent problem x.budget n
+        → AreSpent (NeedsMore (clause_at t watched) (term_tableau_of t v)) x.budget n → ArePivotsSpent problem x.budget n
     pivots_spent (k, le, came) watched are n h = record {
       limit = h.1;
       spent = record {
         count = h.2;
-        standing = standing_of t v;
+        standing = term_tableau_of t v;
         runs = came.runs;
         reached = came.reached;
         few = few came.runs (runs_within k le came);
-        more = needs_over_more (clause_at t watched) (whole_terms problem) (subst (λ (ids : List TermId). AreAmong (clause_at t ids) (whole_terms problem)) (sym are) (spoken t x problem s)) (standing_of t v) h.0;
+        more = needs_over_more (clause_at t watched) (whole_terms problem) (subst (λ (ids : List TermId). AreAmong (clause_at t ids) (whole_terms problem)) (sym are) (spoken t x problem s)) (term_tableau_of t v) h.0;
       };
     }
 
@@ -143,12 +143,12 @@ watching_paid P t ts v es count l a is stops.Memory never h = tt
 -- a stop where a term comes to be watched
 pub watching_stops : (t : TableView) (x : Search) → AreDifferent t.terms → SearchFits t x → (v : SimplexView) (n : ℕ) (stop : Stop)
     → ((ts : List Term) → AreAmong (clause_at t x.terms.items) ts → HasStoppedAt t ts v stop x.budget.exchanges (most t x x))
-    → StopsBy (λ e. IsStrainAt t (clause_at t (take n x.terms.items)) e v) (λ _. ⊥) stop → IsStoppedBy (state t x) (state t x) stop
+    → StopsBy (λ e. IsOverflowAt t (clause_at t (take n x.terms.items)) e v) (λ _. ⊥) stop → IsStoppedBy (state t x) (state t x) stop
 watching_stops t x differ ready v n (stops.Strained e) came h = record {
   right = ready.right;
   limits = (refl, refl);
   shows = λ problem s. (
-    watching_strained t x problem s v (most t x x) (are_few t x problem s differ ready (length x.budget.learned)) (came (whole_terms problem) (spoken t x problem s)) n e h,
+    watching_overflowed t x problem s v (most t x x) (are_few t x problem s differ ready (length x.budget.learned)) (came (whole_terms problem) (spoken t x problem s)) n e h,
     learning_shows t problem x (Unknown (reasons.Overflow e)) (λ steps. inl steps) ready.right s,
   );
 }
@@ -156,7 +156,7 @@ watching_stops t x differ ready v n (stops.Pivots m) came h = absurd h
 watching_stops t x differ ready v n stops.Memory came h = tt
 
 module _ (t w : TableView) (x y : Search) where
-  -- a stop where the search rests, by what computes the numbers of a model
+  -- a stop where the search is saturated, by what computes the numbers of a model
   pub numbers_stop : Continues t w x y → IsLogOf w y.log → (stop : Stop) → StopsBy (λ s. ShowsAnswer w w y y (Unknown (reasons.Overflow s))) (λ _. ⊥) stop → IsStoppedBy (state t x) (state w y) stop
   numbers_stop on right (stops.Strained e) shows = record { right = right; limits = on.limits; shows = shows_on t w w x y y (Unknown (reasons.Overflow e)) on shows }
   numbers_stop on right (stops.Pivots n) never = absurd never
@@ -165,12 +165,12 @@ module _ (t w : TableView) (x y : Search) where
   -- and one of the rounds of a search, for each of its reasons
   pub rounds_stop : AreDifferent t.terms → SearchFits t x → (V : TheoryView) (v : SimplexView) (P : Type 0) (stop : Stop)
       → ((ts : List Term) → AreAmong (clause_at t x.terms.items) ts → HasStoppedAt w ts v stop y.budget.exchanges (most t x y)) → OnStop (P × HasStopped (state t x) (state w y) V) stop
-      → StopsBy (λ e. IsStrainAt w (terms_watched w V) e v) (AreSpent (NeedsMore (terms_watched w V) (standing_of w v)) y.budget) stop → IsStoppedBy (state t x) (state w y) stop
+      → StopsBy (λ e. IsOverflowAt w (terms_watched w V) e v) (AreSpent (NeedsMore (terms_watched w V) (term_tableau_of w v)) y.budget) stop → IsStoppedBy (state t x) (state w y) stop
   rounds_stop differ ready V v P (stops.Strained e) came h strain = record {
     right = h.1.right;
     limits = h.1.continues.limits;
     shows = λ problem s. let z = h.1.continues.search problem s in (
-      checking_strained w y problem z v (most t x y) (are_few t x problem s differ ready (length y.budget.learned)) (came (whole_terms problem) (spoken t x problem s)) V.watched h.1.terms e strain,
+      checking_overflowed w y problem z v (most t x y) (are_few t x problem s differ ready (length y.budget.learned)) (came (whole_terms problem) (spoken t x problem s)) V.watched h.1.terms e strain,
       learning_shows w problem y (Unknown (reasons.Overflow e)) (λ steps. inl steps) h.1.right z,
     );
   }
@@ -184,13 +184,13 @@ module _ (t w : TableView) (x y : Search) where
   }
   rounds_stop differ ready V v P stops.Memory came h none = tt
 
--- a stop by what computes the numbers of a model is shown where the search rests
+-- a stop by what computes the numbers of a model is shown where the search is saturated
 pub model_stops : (t : TableView) (x : Search) (V : TheoryView) (v : SimplexView) → V ≡ v.theory → V.watched ≡ x.terms.items → AreDifferent t.terms → SearchFits t x → HasCome t x v → (stop : Stop)
-    → StopsBy (λ e. IsStrainAt t (terms_watched t v.theory) e v) (λ _. ⊥) stop → StopsBy (λ e. ShowsAnswer t t x x (Unknown (reasons.Overflow e))) (λ _. ⊥) stop
+    → StopsBy (λ e. IsOverflowAt t (terms_watched t v.theory) e v) (λ _. ⊥) stop → StopsBy (λ e. ShowsAnswer t t x x (Unknown (reasons.Overflow e))) (λ _. ⊥) stop
 model_stops t x V v same watched differ ready come (stops.Strained e) strain = λ problem s.
     let watches = ap (λ (z : TheoryView). z.watched) (sym same) ∙ watched in
     let few = are_few t x problem s differ ready (length x.budget.learned) in (
-      checking_strained t x problem s v (most t x x) few (stopped_there t x problem s v (most t x x) few (come (whole_terms problem) (spoken t x problem s))) v.theory.watched watches e strain,
+      checking_overflowed t x problem s v (most t x x) few (stopped_there t x problem s v (most t x x) few (come (whole_terms problem) (spoken t x problem s))) v.theory.watched watches e strain,
       learning_shows t problem x (Unknown (reasons.Overflow e)) (λ steps. inl steps) ready.right s,
     )
 model_stops t x V v same watched differ ready come (stops.Pivots n) never = absurd never
@@ -205,6 +205,6 @@ stopped_on t u w x y z on (stops.Strained e) h = answered_on t u w x y z on (Unk
 stopped_on t u w x y z on (stops.Pivots n) h = answered_on t u w x y z on (Unknown (reasons.Pivots n)) h
 stopped_on t u w x y z on stops.Memory h = tt
 
--- a search that rests with more rests with less
-pub rests_with : {A B : Type 0} (t : TableView) (x : Search) (v : TheoryView) → (A → B) → HasRested t x v A → HasRested t x v B
+-- a saturated search with more rests with less
+pub rests_with : {A B : Type 0} (t : TableView) (x : Search) (v : TheoryView) → (A → B) → HasSaturated t x v A → HasSaturated t x v B
 rests_with t x v f h = record { ready = h.ready; held = h.held; terms = h.terms; assigned = h.assigned; satisfied = h.satisfied; agrees = f h.agrees }

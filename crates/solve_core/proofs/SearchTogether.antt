@@ -1,4 +1,4 @@
--- What is found of shared terms where a search rests: numbers and classes that hold together, or pairs of whose equalities it does not speak.
+-- What is found of shared terms where a search is saturated: numbers and classes that hold together, or pairs of whose equalities it does not speak.
 use Rattle.std.proofs.Common.{◌≡◌, ◌<◌, ℕ, List, ◌++◌, length, take, get_or, All, Contains, sym, ◌∙◌, subst, arith, length-append}
 use Rattle.std.specs.Prelude.{◌↔◌}
 use Rattle.std.proofs.lemmas.List.{length-take-le}
@@ -11,7 +11,7 @@ use Rattle.spec_congruence.specs.Congruence.{IsFine}
 use Rattle.spec_derivations.specs.Problems.{Problem, known_terms, subterms_in}
 use Rattle.spec_derivations.specs.Orders.{whole_terms}
 use Rattle.spec_valuations.specs.Classes.{class_in, IsEqualityAmong}
-use Rattle.spec_valuations.specs.Resting.{TheoryValues, RestsWithNumbers}
+use Rattle.spec_valuations.specs.Saturation.{TheoryValues, IsSaturatedWithNumbers}
 use Rattle.term_core.specs.declared.ids.TermId.{TermId}
 use Rattle.term_core.specs.Tables.{TableView, AreDifferent, clause_at}
 use Rattle.clause_literals.specs.Literals.{IsConsistent}
@@ -23,10 +23,10 @@ use Rattle.simplex.specs.Numbers.{HoldApart}
 use Rattle.agreement.specs.declared.agreeing.Shared.{Shared}
 use Rattle.agreement.specs.Agreeing.{Agree, IsDifferingPair, ArePairs}
 use Rattle.search_loop.specs.declared.search.Search.{Search}
-use Rattle.search_loop.specs.Asking.{HasRested}
+use Rattle.search_loop.specs.Asking.{HasSaturated}
 use Rattle.solve_core.specs.Answering.{HoldTogether}
 use Rattle.solve_core.specs.Sharing.{IsAskedOf, IsOpen, AreOpen}
-use Rattle.solve_core.specs.Agreeing.{AreSaid}
+use Rattle.solve_core.specs.Agreeing.{AreTheoryValues}
 use Rattle.solve_core.proofs.SearchAgreed.{front_tell, front_are, all_together, pair_apart, all_shared, classes_together, pair_open}
 
 -- what the laws say
@@ -37,16 +37,16 @@ abbrev pub AreAllLinear : Type 0
 AreAllLinear = (q : Problem) → All IsLinear (known_terms q) → (u : Term) → Contains (whole_terms q) u → IsLinear u
 
 abbrev pub ApplyNothingMore : Type 0
-ApplyNothingMore = (q : Problem) → ((e : Term) → Contains q.beside e → IsEqualityAmong (subterms_in q) e) → (f : Symbol) (us : Terms) → Contains (whole_terms q) (app (Apply f) us) → Contains (subterms_in q) (app (Apply f) us)
+ApplyNothingMore = (q : Problem) → ((e : Term) → Contains q.interface e → IsEqualityAmong (subterms_in q) e) → (f : Symbol) (us : Terms) → Contains (whole_terms q) (app (Apply f) us) → Contains (subterms_in q) (app (Apply f) us)
 
 abbrev pub SidesAgree : Type 0
-SidesAgree = (symbols : List Symbol) (q : Problem) (ts : List Term) (ls : List Literal) (b : TheoryValues) → RestsWithNumbers symbols q ts ls b → (s u : Term) → Contains ts (pair Equal s u) → sort_of s ≡ Number
+SidesAgree = (symbols : List Symbol) (q : Problem) (ts : List Term) (ls : List Literal) (b : TheoryValues) → IsSaturatedWithNumbers symbols q ts ls b → (s u : Term) → Contains ts (pair Equal s u) → sort_of s ≡ Number
     → (b.class s ≡ b.class u) ↔ (number_at b.number s ≡ number_at b.number u)
 
-module _ (t : TableView) (differ : AreDifferent t.terms) (x : Search) (v : TheoryView) (agreed : Type 0) (h : HasRested t x v agreed) (ids : List TermId) (p : Problem) (a : IsAskedOf t ids p x)
+module _ (t : TableView) (differ : AreDifferent t.terms) (x : Search) (v : TheoryView) (agreed : Type 0) (h : HasSaturated t x v agreed) (ids : List TermId) (p : Problem) (a : IsAskedOf t ids p x)
     (consistent : IsConsistent x.trail.literals) (fine : IsFine (terms_watched t v) (literals_held t v)) (place : HavePlaces) (linear : AreAllLinear) (classes : List ℕ) (tell : TellClasses (AreEqualBy t v) (x.terms.items ++ ids) classes) (count : length classes ≡ length (x.terms.items ++ ids))
     (w : SimplexView) (same : v ≡ w.theory) (xs : List Fraction) (n : HoldApart t w (clause_at t (x.terms.items ++ ids)) (clause_at t ids) xs)
-    (said : List Shared) (are_said : AreSaid ids classes xs (length x.terms.items) said) where
+    (assigned_values : List Shared) (are_assigned : AreTheoryValues ids classes xs (length x.terms.items) assigned_values) where
   abbrev own : List TermId
   own = x.terms.items
 
@@ -60,9 +60,9 @@ module _ (t : TableView) (differ : AreDifferent t.terms) (x : Search) (v : Theor
   told = front_tell t v own ids classes tell n.number xs n.are
 
   -- where they agree
-  pub agreed_together : ApplyNothingMore → Agree said → (ns : List ℕ) → ns ≡ front → (qs : List Fraction) → qs ≡ take (length own) xs → HoldTogether t own v ns qs
+  pub agreed_together : ApplyNothingMore → Agree assigned_values → (ns : List ℕ) → ns ≡ front → (qs : List Fraction) → qs ≡ take (length own) xs → HoldTogether t own v ns qs
   agreed_together nothing_more agree ns is qs are =
-      let together = all_together t v own ids classes tell n.number xs n.are said are_said agree in
+      let together = all_together t v own ids classes tell n.number xs n.are assigned_values are_assigned agree in
       subst (λ (ms : List ℕ). HoldTogether t own v ms qs) (sym is) (record {
         values = record {
           number = n.number;
@@ -79,10 +79,10 @@ module _ (t : TableView) (differ : AreDifferent t.terms) (x : Search) (v : Theor
       })
 
   -- where they do not
-  pub differ_open : SidesAgree → (pairs : List (TermId × TermId)) → ArePairs said pairs → 0 < length pairs → AreOpen t ids p pairs
+  pub differ_open : SidesAgree → (pairs : List (TermId × TermId)) → ArePairs assigned_values pairs → 0 < length pairs → AreOpen t ids p pairs
   differ_open sides pairs each some = (λ k d lt. one_open (get_or pairs k d) (each k d lt), some)
     where
-      one_open : (y : TermId × TermId) → IsDifferingPair said y.0 y.1 → IsOpen t ids p y
+      one_open : (y : TermId × TermId) → IsDifferingPair assigned_values y.0 y.1 → IsOpen t ids p y
       one_open y q =
-          let apart = pair_apart t v own ids classes tell n.number xs n.are said are_said y.0 y.1 q in
+          let apart = pair_apart t v own ids classes tell n.number xs n.are assigned_values are_assigned y.0 y.1 q in
           pair_open t differ x v agreed h ids p a consistent fine front told place linear n.number n.reduced hold n.heads sides y apart.0 apart.1.0 apart.1.1

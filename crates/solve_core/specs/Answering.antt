@@ -67,7 +67,7 @@ pub record HoldTogether (t : TableView) (ids : List TermId) (v : TheoryView) (cl
 
 -- both theories agree to literals over terms, and the values keep the bounds
 abbrev pub AgreeBoth : List Term → List Literal → CombinedView → Type 0
-AgreeBoth ts ls v = (IsFine ts ls × (v.congruence.now.settled ≡ true)) × (HaveForms ls × IsFeasible ls × KeepsBounds v.simplex)
+AgreeBoth ts ls v = (IsFine ts ls × (v.congruence.now.saturated ≡ true)) × (HaveForms ls × IsFeasible ls × KeepsBounds v.simplex)
 
 -- linear arithmetic came of all terms that the search speaks of, among any others, by the exchanges that are kept, in no more runs
 -- than are paid for

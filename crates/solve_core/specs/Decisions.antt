@@ -19,7 +19,7 @@ use Rattle.solve_core.specs.Forms.{FindsOverflow}
 use Rattle.solve_core.specs.declared.outcome.Outcome.{Outcome}
 
 -- An operation left the bound before a search began.
-pub record IsStrainedBy (limits : Limits) (w : Wide) (d : Outcome) : Type 0 where
+pub record IsOverflowedBy (limits : Limits) (w : Wide) (d : Outcome) : Type 0 where
   -- the answer tells the operation, without a basis
   pub strain : Strain
   pub answer : d.answer ≡ Unknown (Overflow strain)
@@ -36,24 +36,24 @@ pub record IsJustified (t : TableView) (p : Problem) (limits : Limits) (d : Outc
   pub log_right : IsLogOf t d.log
   -- the budget has the limits
   pub limits_are : HasLimits limits d.budget
-  -- no more exchanges were kept than it allows
+  -- no more pivots were kept than it allows
   pub within : length d.budget.exchanges ≤ d.budget.pivots
   -- and no more clauses were learned
   pub learned_within : length d.budget.learned ≤ d.budget.limit
   -- each atom has a form; or the answer is the overflow of the first that has none, and nothing else was done
-  pub forms : FindsOverflow t p None ⊎ ((w : Wide) × FindsOverflow t p (Some w) × IsStrainedBy limits w d)
+  pub forms : FindsOverflow t p None ⊎ ((w : Wide) × FindsOverflow t p (Some w) × IsOverflowedBy limits w d)
   -- the answer shows what it should
   pub evidence : HasEvidence t p d.log d.budget d.answer
   -- and so do the log and what was learned
   pub learning : IsLearning t p d.log d.answer d.budget.learned
 
--- Terms that are asserted are decided: with equalities of shared terms beside them, the answer has its evidence.
+-- Terms that are asserted are decided: with interface equalities, the answer has its evidence.
 pub record HasDecision (t : TableView) (ts : List Term) (limits : Limits) (d : Outcome) : Type 0 where
   -- those equalities
-  pub beside : List Term
-  pub equalities : All (IsSharedEquality (subterms_in (asserting ts))) beside
+  pub interface : List Term
+  pub equalities : All (IsSharedEquality (subterms_in (asserting ts))) interface
   -- the evidence
-  pub justified : IsJustified t (speaking ts beside) limits d
+  pub justified : IsJustified t (speaking ts interface) limits d
 
 -- What a solver keeps of its last decision.
 pub record SolverView : Type 0 where

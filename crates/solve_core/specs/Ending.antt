@@ -17,7 +17,7 @@ use Rattle.solve_core.specs.declared.answering.Round.TheVariants.{Answered, Diff
 use Rattle.solve_core.specs.Sharing.{IsAskedOf, AreOpen}
 use Rattle.solve_core.specs.Answering.{IsAnswered}
 
--- P is so of the answer; or the pairs are open, whatever problem with equalities of shared terms beside was asked before
+-- P is so of the answer; or the pairs are open, whatever problem with interface equalities was asked before
 abbrev pub AnswersOrDiffers : (old new : SearchState) → List TermId → (Answer → Type 0) → Round → Type 0
 AnswersOrDiffers old new ids P (Answered a) = P a
 AnswersOrDiffers old new ids P (Differ pairs) = (p : Problem) → IsAskedOf old.table ids p old.search → AreOpen new.table ids p pairs.items
@@ -26,9 +26,9 @@ AnswersOrDiffers old new ids P (Differ pairs) = (p : Problem) → IsAskedOf old.
 abbrev pub EndsRound : (old new : SearchState) → List TermId → Round → Type 0
 EndsRound old new ids = AnswersOrDiffers old new ids (IsAnswered old new)
 
--- so it is where the search rests
-abbrev pub RestsRound : TableView → Search → List TermId → Round → Type 0
-RestsRound t x ids = AnswersOrDiffers (state t x) (state t x) ids (ShowsAnswer t t x x)
+-- so it is where the search is saturated
+abbrev pub SaturatesRound : TableView → Search → List TermId → Round → Type 0
+SaturatesRound t x ids = AnswersOrDiffers (state t x) (state t x) ids (ShowsAnswer t t x x)
 
 -- what is answered to a stop: its reason, or that memory ran out
 abbrev pub AnswersStop : Stop → Result Round NoMemory → Type 0

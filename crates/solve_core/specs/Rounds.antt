@@ -37,12 +37,12 @@ missing (t ∷ ts) us = (if has_term us t then 0 else 1) + missing ts us
 pub record Stage : Type 0 where
   -- the table
   pub table : TableView
-  -- the numbers of the terms beside
-  pub beside : List TermId
+  -- the numbers of the interface equalities
+  pub interface : List TermId
 
 -- how many equalities of shared terms are not beside
 abbrev pub unspoken_at : List TermId → Stage → ℕ
-unspoken_at shared s = missing (equalities_of (clause_at s.table shared)) (clause_at s.table s.beside)
+unspoken_at shared s = missing (equalities_of (clause_at s.table shared)) (clause_at s.table s.interface)
 
 -- A round may begin for terms that are asserted, with these shared terms.
 pub record IsOpenFor (roots shared : List TermId) (s : Stage) : Type 0 where
@@ -54,12 +54,12 @@ pub record IsOpenFor (roots shared : List TermId) (s : Stage) : Type 0 where
   -- these are shared among their subterms
   pub are_shared : AreSharedOf s.table (subterms_in (asserting (clause_at s.table roots))) shared
   -- those beside are formulas
-  pub beside_in : AreFormulasIn s.table s.beside
+  pub interface_in : AreFormulasIn s.table s.interface
   -- and equalities of shared terms
-  pub equalities : All (IsSharedEquality (subterms_in (asserting (clause_at s.table roots)))) (clause_at s.table s.beside)
+  pub equalities : All (IsSharedEquality (subterms_in (asserting (clause_at s.table roots)))) (clause_at s.table s.interface)
 
--- A round gave no answer: more equalities are beside.
-pub record HasMoreBeside (roots shared : List TermId) (old new : Stage) : Type 0 where
+-- A round gave no answer: there are more interface equalities.
+pub record HasMoreInterface (roots shared : List TermId) (old new : Stage) : Type 0 where
   -- another one may begin
   pub ready : IsOpenFor roots shared new
   -- fewer equalities are left
@@ -68,4 +68,4 @@ pub record HasMoreBeside (roots shared : List TermId) (old new : Stage) : Type 0
 -- what comes of a round: a decision; or more equalities
 abbrev pub IsRound : (roots shared : List TermId) → Limits → (old new : Stage) → Option Outcome → Type 0
 IsRound roots shared limits old new (Some d) = HasDecision new.table (clause_at new.table roots) limits d
-IsRound roots shared limits old new None = HasMoreBeside roots shared old new
+IsRound roots shared limits old new None = HasMoreInterface roots shared old new

@@ -51,14 +51,14 @@ pub record AddsSharedTerms (t : TableView) (old new : List TermId) (ts : List Te
   -- and these are the terms
   pub are : clause_at t added ≡ ts
 
--- A search is asked a problem with equalities of shared terms beside, and the numbers are those of the shared terms.
+-- A search is asked a problem with interface equalities, and the numbers are those of the shared terms.
 pub record IsAskedOf (t : TableView) (ids : List TermId) (p : Problem) (x : Search) : Type 0 where
   -- it is asked the problem
   pub asked : IsSearch t p x
   -- these are shared
   pub shared : AreSharedOf t (subterms_in p) ids
   -- and those beside are their equalities
-  pub beside : All (IsSharedEquality (subterms_in p)) p.beside
+  pub interface : All (IsSharedEquality (subterms_in p)) p.interface
 
 -- Two of the numbers, of different terms, of whose equality a search of a problem does not speak.
 pub record IsOpen (t : TableView) (ids : List TermId) (p : Problem) (x : TermId × TermId) : Type 0 where

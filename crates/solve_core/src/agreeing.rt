@@ -1,4 +1,4 @@
-//! Whether the theories agree where a search rests.
+//! Whether the theories agree where a search is saturated.
 
 ghost use Rattle.std.specs.Prelude.{◌≡◌, ◌+◌, ◌++◌, length, map, IfOk, IfErr};
 ghost use Rattle.spec_derivations.specs.Problems.{Problem};
@@ -8,11 +8,11 @@ ghost use Rattle.proof_log.specs.Theories.{terms_watched, literals_held};
 ghost use Rattle.congruence_relation.specs.Relation.{AreFactsOf};
 ghost use Rattle.congruence.specs.Views.{theory_of};
 ghost use Rattle.simplex.specs.Checks.{Suits};
-ghost use Rattle.simplex.specs.Coming.{IsStrainAt};
-ghost use Rattle.search_loop.specs.Asking.{HasRested};
+ghost use Rattle.simplex.specs.Coming.{IsOverflowAt};
+ghost use Rattle.search_loop.specs.Asking.{HasSaturated};
 ghost use Rattle.solve_core.specs.Answering.{AgreeBoth};
 ghost use Rattle.solve_core.specs.Sharing.{IsAskedOf};
-ghost use Rattle.solve_core.specs.Agreeing.{AreSaid, FindsAgreement};
+ghost use Rattle.solve_core.specs.Agreeing.{AreTheoryValues, FindsAgreement};
 
 use crate::modelling::TheoryAssignment;
 use crate::sharing::is_declared;
@@ -21,14 +21,14 @@ use combined::Combined;
 use sat_budget::Stop;
 use search_loop::Search;
 use spec_valuations::laws::{
-    equalities_beside_apply_nothing_more, listed_terms_have_their_places_class,
+    interface_equalities_apply_nothing_more, listed_terms_have_their_places_class,
     sides_of_equalities_agree, terms_of_linear_checks_are_linear,
 };
 use std::alloc::Global;
 use term_core::{TermId, TermTable};
 use world_io::NoMemory;
 
-/// What is found where a search rests.
+/// What is found where a search is saturated.
 #[derive(Drop)]
 pub(crate) enum AgreementFound {
     /// The theories agree on shared terms. This they say of the search's terms.
@@ -80,13 +80,13 @@ fn shared_of(
     alloc: Global,
     table: &TermTable,
     shared: &[TermId],
-    said: &TheoryAssignment,
+    assigned_values: &TheoryAssignment,
     from: usize,
 ) -> Result<Vec<Shared>, NoMemory>
-    requires classes { length said.now.classes.items ≡ from + length shared.now }
-    requires numbers { length said.now.numbers.items ≡ from + length shared.now }
-    ensures { IfOk result (λ xs. AreSaid shared.now said.now.classes.items
-        (map fraction said.now.numbers.items) from xs.items) }
+    requires classes { length assigned_values.now.classes.items ≡ from + length shared.now }
+    requires numbers { length assigned_values.now.numbers.items ≡ from + length shared.now }
+    ensures { IfOk result (λ xs. AreTheoryValues shared.now assigned_values.now.classes.items
+        (map fraction assigned_values.now.numbers.items) from xs.items) }
 {
     let arguments = argument_marks(alloc, table)?;
     let mut xs = Vec::new(alloc);
@@ -94,14 +94,14 @@ fn shared_of(
         xs.push(Shared {
             term: shared[at],
             is_argument: is_marked(&arguments, shared[at]),
-            class: said.classes[from + at],
-            value: Delta::number(said.numbers[from + at]),
+            class: assigned_values.classes[from + at],
+            value: Delta::number(assigned_values.numbers[from + at]),
         })?;
     }
     Ok(xs)
 }
 
-/// Finds whether the theories agree on shared terms where a search rests. Each shared term gets a number, and by these numbers and those
+/// Finds whether the theories agree on shared terms where a search is saturated. Each shared term gets a number, and by these numbers and those
 /// of all other terms the literals hold. They agree where two shared terms have one number exactly where they have one class.
 ///
 /// `Memory` comes where memory runs out, `Strained` where an operation leaves 128 bits that computes a number, and `Pivots` never.
@@ -112,7 +112,7 @@ pub(crate) fn agreement(
     theory: &Combined,
     shared: &[TermId],
 ) -> Result<AgreementFound, Stop>
-    requires rested { HasRested table.now search.now (theory_of theory.now.congruence)
+    requires search_saturated { HasSaturated table.now search.now (theory_of theory.now.congruence)
         (AgreeBoth (terms_watched table.now (theory_of theory.now.congruence))
         (literals_held table.now (theory_of theory.now.congruence)) theory.now) }
     requires congruence { AreFactsOf table.now theory.now.congruence.now.facts }
@@ -120,13 +120,13 @@ pub(crate) fn agreement(
     requires asked { (p : Problem) × IsAskedOf table.now shared.now p search.now }
     ensures found { IfOk result (FindsAgreement table.now search.now (theory_of theory.now.congruence) shared.now) }
     ensures stops { IfErr result (StopsBy
-        (λ s. IsStrainAt table.now (terms_watched table.now theory.now.simplex.theory) s
+        (λ s. IsOverflowAt table.now (terms_watched table.now theory.now.simplex.theory) s
         theory.now.simplex) (λ _. ⊥)) }
 {
     terms_of_linear_checks_are_linear();
     listed_terms_have_their_places_class();
     sides_of_equalities_agree();
-    equalities_beside_apply_nothing_more();
+    interface_equalities_apply_nothing_more();
     theory.parts_hold_the_same();
     table.ids_are_unique();
     table.symbols().are_declared();
@@ -134,15 +134,15 @@ pub(crate) fn agreement(
     let terms = joined(search.alloc, &search.terms, shared)?;
     let numbers = theory.simplex().numbers(table, &terms, shared)?;
     let classes = theory.congruence().classes(search.alloc, &terms)?;
-    let mut said = TheoryAssignment { classes, numbers };
+    let mut assigned_values = TheoryAssignment { classes, numbers };
     let count = search.terms.len();
-    let mut xs = shared_of(search.alloc, table, shared, &said, count)?;
+    let mut xs = shared_of(search.alloc, table, shared, &assigned_values, count)?;
     match agree(search.alloc, xs.as_mut_slice())? {
         Agreement::Pairs(pairs) => Ok(AgreementFound::Differ(pairs)),
         Agreement::Agreed => {
-            said.classes.truncate(count);
-            said.numbers.truncate(count);
-            Ok(AgreementFound::Agreed(said))
+            assigned_values.classes.truncate(count);
+            assigned_values.numbers.truncate(count);
+            Ok(AgreementFound::Agreed(assigned_values))
         }
     }
 }

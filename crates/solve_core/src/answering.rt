@@ -14,10 +14,10 @@ ghost use Rattle.simplex.specs.Checks.{Suits};
 ghost use Rattle.simplex.specs.Coming.{CameBy};
 ghost use Rattle.search_loop.specs.declared.cdcl.Answer.TheVariants.{Unknown};
 ghost use Rattle.search_loop.specs.Rounds.{BeginsSearch, ShowsAnswer};
-ghost use Rattle.search_loop.specs.Asking.{HasRested, state};
+ghost use Rattle.search_loop.specs.Asking.{HasSaturated, state};
 ghost use Rattle.solve_core.specs.Sharing.{IsAskedOf};
 ghost use Rattle.solve_core.specs.Answering.{HasNumber, AgreeBoth, HasCome, IsAnswered, IsStoppedBy};
-ghost use Rattle.solve_core.specs.Ending.{EndsRound, RestsRound, AnswersStop};
+ghost use Rattle.solve_core.specs.Ending.{EndsRound, SaturatesRound, AnswersStop};
 
 use crate::agreeing::{AgreementFound, agreement};
 use crate::bounding::relate_bounds;
@@ -26,7 +26,7 @@ use crate::sharing::is_number;
 use crate::truths::truth_values;
 use combined::Combined;
 use congruence::Congruence;
-use proof_log::laws::logs_stand_in_grown_tables;
+use proof_log::laws::logs_hold_in_grown_tables;
 use sat_budget::{Reason, Stop};
 use search_loop::{Answer, End, Search, watch_all};
 use term_core::{TermId, TermTable};
@@ -94,7 +94,7 @@ fn answer_classes(search: &mut Search, table: &mut TermTable) -> Result<Answer, 
     ensures declared { declared_in table.new ≡ declared_in table.old }
     ensures answered { IfOk result (IsAnswered (state table.old search.old) (state table.new search.new)) }
 {
-    logs_stand_in_grown_tables();
+    logs_hold_in_grown_tables();
     let truths = truth_values(search.alloc, table)?;
     let mut theory = Congruence::new(search.alloc, table, truths)?;
     search_classes(search, table, &mut theory)
@@ -123,13 +123,13 @@ fn search_classes(
         return Err(NoMemory);
     };
     match end {
-        End::Rests => {
+        End::Saturated => {
             table.ids_are_unique();
             table.symbols().are_declared();
             let classes = theory.classes(search.alloc, &search.terms)?;
             let numbers = zeros(search.alloc, search.terms.len())?;
-            let said = TheoryAssignment { classes, numbers };
-            let model = model(search, table, &said)?;
+            let assigned_values = TheoryAssignment { classes, numbers };
+            let model = model(search, table, &assigned_values)?;
             Ok(Answer::Sat(model))
         }
         End::Refuted(step) => Ok(Answer::Unsat(step)),
@@ -150,7 +150,7 @@ fn answer_numbers(
     ensures ends { IfOk result (EndsRound (state table.old search.old) (state table.new search.new) shared.now) }
 {
     relate_bounds(search, table)?;
-    logs_stand_in_grown_tables();
+    logs_hold_in_grown_tables();
     let truths = truth_values(search.alloc, table)?;
     let mut theory = Combined::new(search.alloc, table, truths)?;
     match search_with(search, table, &mut theory, shared) {
@@ -187,39 +187,39 @@ fn search_with(
     let ended = search.run(table, theory);
     theory.parts_hold_the_same();
     match ended {
-        Ok(End::Rests) => answer_rested(search, table, theory, shared),
+        Ok(End::Saturated) => answer_saturated(search, table, theory, shared),
         Ok(End::Refuted(step)) => Ok(Round::Answered(Answer::Unsat(step))),
         Ok(End::Stopped(reason)) => Ok(Round::Answered(Answer::Unknown(reason))),
         Err(stop) => Err(stop),
     }
 }
 
-/// Makes the model of a search that rests with both theories, where they agree.
+/// Makes the model of a saturated search with both theories, where they agree.
 ///
 /// `Memory` comes where memory runs out, `Strained` where an operation leaves 128 bits that computes a number, and `Pivots` never.
-fn answer_rested(
+fn answer_saturated(
     search: &Search,
     table: &TermTable,
     theory: &Combined,
     shared: &[TermId],
 ) -> Result<Round, Stop>
-    requires rested { HasRested table.now search.now (theory_of theory.now.congruence)
+    requires search_saturated { HasSaturated table.now search.now (theory_of theory.now.congruence)
         (AgreeBoth (terms_watched table.now (theory_of theory.now.congruence))
         (literals_held table.now (theory_of theory.now.congruence)) theory.now) }
     requires congruence { AreFactsOf table.now theory.now.congruence.now.facts }
     requires simplex { Suits theory.now.simplex table.now }
     requires came { HasCome table.now search.now theory.now.simplex }
     requires asked { (p : Problem) × IsAskedOf table.now shared.now p search.now }
-    ensures ends { IfOk result (RestsRound table.now search.now shared.now) }
-    ensures strained { IfErr result (StopsBy (λ s. ShowsAnswer table.now table.now search.now search.now
+    ensures ends { IfOk result (SaturatesRound table.now search.now shared.now) }
+    ensures overflowed { IfErr result (StopsBy (λ s. ShowsAnswer table.now table.now search.now search.now
         (Unknown (Overflow s))) (λ _. ⊥)) }
 {
     theory.parts_hold_the_same();
     table.ids_are_unique();
     match agreement(search, table, theory, shared)? {
         AgreementFound::Differ(pairs) => Ok(Round::Differ(pairs)),
-        AgreementFound::Agreed(said) => {
-            let model = model(search, table, &said)?;
+        AgreementFound::Agreed(assigned_values) => {
+            let model = model(search, table, &assigned_values)?;
             Ok(Round::Answered(Answer::Sat(model)))
         }
     }

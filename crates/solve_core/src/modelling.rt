@@ -1,4 +1,4 @@
-//! The model where a search rests.
+//! The model where a search is saturated.
 
 ghost use Rattle.std.specs.Prelude.{◌≡◌, map, replicate, IfOk};
 ghost use Rattle.spec_congruence.specs.Congruence.{IsFine};
@@ -7,7 +7,7 @@ ghost use Rattle.ratio128.specs.Meant.{fraction};
 ghost use Rattle.proof_log.specs.Theories.{TheoryView, terms_watched, literals_held};
 ghost use Rattle.search_loop.specs.declared.cdcl.Answer.TheVariants.{Sat};
 ghost use Rattle.search_loop.specs.Rounds.{ShowsAnswer};
-ghost use Rattle.search_loop.specs.Asking.{HasRested};
+ghost use Rattle.search_loop.specs.Asking.{HasSaturated};
 ghost use Rattle.solve_core.specs.Answering.{HoldTogether};
 
 use ratio128::Ratio;
@@ -15,7 +15,7 @@ use search_loop::Search;
 use search_model::laws::{made_models_are_those_of_numbers, made_models_stand};
 use search_model::model_of;
 use spec_valuations::laws::{
-    listed_terms_have_their_places_class, searches_that_rest_on_numbers_have_models,
+    listed_terms_have_their_places_class, searches_saturated_on_numbers_have_models,
     terms_of_linear_checks_are_linear,
 };
 use std::alloc::Global;
@@ -41,23 +41,23 @@ pub(crate) fn zeros(alloc: Global, count: usize) -> Result<Vec<Ratio>, NoMemory>
     Ok(list)
 }
 
-/// Makes a model of the terms where the search rests: by the truths of its literals, by the classes of the theory of equality, and by
+/// Makes a model of the terms where the search is saturated: by the truths of its literals, by the classes of the theory of equality, and by
 /// a number for each of the terms, in their order. By these numbers the literals hold, and they agree with the classes on shared terms.
 ///
 /// `NoMemory` comes where its tables find no memory.
 pub(crate) fn model(
     search: &Search,
     table: &TermTable,
-    said: &TheoryAssignment,
+    assigned_values: &TheoryAssignment,
 ) -> Result<Interp, NoMemory>
-    requires rested { (v : TheoryView)
-        × HasRested table.now search.now v (IsFine (terms_watched table.now v) (literals_held table.now v))
-        × HoldTogether table.now search.now.terms.items v said.now.classes.items (map fraction said.now.numbers.items) }
+    requires search_saturated { (v : TheoryView)
+        × HasSaturated table.now search.now v (IsFine (terms_watched table.now v) (literals_held table.now v))
+        × HoldTogether table.now search.now.terms.items v assigned_values.now.classes.items (map fraction assigned_values.now.numbers.items) }
     ensures { IfOk result (λ interp. ShowsAnswer table.now table.now search.now search.now (Sat interp)) }
 {
     listed_terms_have_their_places_class();
     terms_of_linear_checks_are_linear();
-    searches_that_rest_on_numbers_have_models();
+    searches_saturated_on_numbers_have_models();
     made_models_stand();
     made_models_are_those_of_numbers();
     table.ids_are_unique();
@@ -67,8 +67,8 @@ pub(crate) fn model(
         search.alloc,
         table,
         &search.terms,
-        &said.classes,
-        &said.numbers,
+        &assigned_values.classes,
+        &assigned_values.numbers,
         &search.trail,
     )
 }

@@ -4,7 +4,7 @@ ghost use Rattle.std.specs.Prelude.{◌≡◌, IfOk, OnErr};
 ghost use Rattle.search_loop.specs.Answered.{AreAnswered};
 ghost use Rattle.term_core.specs.Tables.{declared_in, Extends, clause_at};
 ghost use Rattle.proof_log.specs.Logs.{AreFormulasIn};
-ghost use Rattle.solve_core.specs.Decisions.{IsStrainedBy, HasDecision};
+ghost use Rattle.solve_core.specs.Decisions.{IsOverflowedBy, HasDecision};
 ghost use Rattle.solve_core.specs.Rounds.{IsOpenFor, IsRound};
 
 use crate::answering::{Round, answer};
@@ -29,7 +29,7 @@ pub struct Outcome {
     pub answer: Answer,
     /// The clauses of the terms, what was learned, and how they are derived.
     pub log: ProofLog,
-    /// The clauses that were learned and the exchanges that were made, and how many might have been.
+    /// The clauses that were learned and the pivots that were made, and how many might have been.
     pub budget: Budget,
 }
 
@@ -65,8 +65,8 @@ pub fn decide(
 }
 
 /// The outcome where an operation leaves 128 bits before a search begins: with no basis, no log, and nothing spent.
-fn strained(alloc: Global, wide: Wide, limits: &Limits) -> Result<Outcome, NoMemory>
-    ensures { IfOk result (IsStrainedBy limits.now wide) }
+fn overflowed(alloc: Global, wide: Wide, limits: &Limits) -> Result<Outcome, NoMemory>
+    ensures { IfOk result (IsOverflowedBy limits.now wide) }
 {
     let basis = Basis {
         variables: Vec::new(alloc),
@@ -84,12 +84,12 @@ fn strained(alloc: Global, wide: Wide, limits: &Limits) -> Result<Outcome, NoMem
 #[derive(Drop)]
 struct PassedOn {
     /// The equalities of shared terms of which the next one speaks.
-    beside: Vec<TermId>,
+    interface: Vec<TermId>,
     /// For each variable the sign that it had last. No answer rests on signs.
     signs: Vec<bool>,
 }
 
-/// Searches once, with the terms beside that there are. Where the theories do not agree, it gives `None`, and equalities of shared
+/// Searches once, with the interface equalities that there are. Where the theories do not agree, it gives `None`, and equalities of shared
 /// terms come beside of which this search did not speak.
 fn round(
     alloc: Global,
@@ -99,18 +99,18 @@ fn round(
     passed: &mut PassedOn,
     limits: &Limits,
 ) -> Result<Option<Outcome>, NoMemory>
-    requires ready { IsOpenFor roots.now shared.now (record { table = table.old; beside = passed.old.beside.items }) }
+    requires ready { IsOpenFor roots.now shared.now (record { table = table.old; interface = passed.old.interface.items }) }
     ensures grown { Extends table.old table.new }
     ensures declared { declared_in table.new ≡ declared_in table.old }
     ensures round { IfOk result (IsRound roots.now shared.now limits.now
-        (record { table = table.old; beside = passed.old.beside.items })
-        (record { table = table.new; beside = passed.new.beside.items })) }
+        (record { table = table.old; interface = passed.old.interface.items })
+        (record { table = table.new; interface = passed.new.interface.items })) }
 {
     empty_logs_are_right();
-    let mut search = match begin(alloc, table, roots, &passed.beside, limits) {
+    let mut search = match begin(alloc, table, roots, &passed.interface, limits) {
         Ok(search) => search,
         Err(ClauseStop::Wide(wide)) => {
-            let outcome = strained(alloc, wide, limits)?;
+            let outcome = overflowed(alloc, wide, limits)?;
             return Ok(Some(outcome));
         }
         Err(ClauseStop::Memory) => return Err(NoMemory),
@@ -118,9 +118,9 @@ fn round(
     search.decider.recall(&passed.signs);
     match answer(&mut search, table, shared)? {
         Round::Differ(pairs) => {
-            add_equalities(alloc, table, &pairs, &mut passed.beside)?;
+            add_equalities(alloc, table, &pairs, &mut passed.interface)?;
             passed.signs = search.decider.into_signs();
-            affirm(&mut passed.signs, &passed.beside)?;
+            affirm(&mut passed.signs, &passed.interface)?;
             Ok(None)
         }
         Round::Answered(answer) => {
@@ -150,11 +150,11 @@ fn decided(
 {
     empty_logs_are_right();
     if let Some(wide) = first_overflow(alloc, table, roots)? {
-        return strained(alloc, wide, limits);
+        return overflowed(alloc, wide, limits);
     }
     let shared = shared_terms(alloc, table, roots)?;
     let mut passed = PassedOn {
-        beside: Vec::new(alloc),
+        interface: Vec::new(alloc),
         signs: Vec::new(alloc),
     };
     'rounds: loop {

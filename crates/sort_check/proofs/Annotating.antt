@@ -27,7 +27,7 @@ use Rattle.term_reader.proofs.Tables.{keeps_same}
 use Rattle.sort_check.specs.declared.frames.Opened.TheVariants.{Annotates}
 use Rattle.sort_check.specs.declared.frames.Frame.{Frame}
 use Rattle.sort_check.specs.Bindings.{bound_at}
-use Rattle.sort_check.specs.Naming.{NamesStand, annotated_meant, HasNamed}
+use Rattle.sort_check.specs.Naming.{NamesMean, annotated_meant, HasNamed}
 use Rattle.sort_check.specs.Reads.{HasFault}
 use Rattle.sort_check.specs.Walks.{readings_in, Level, first_term, closes, IsUnder, IsWaiting, HasTexts, Here, AllMean, terms_of_definitions, IsWalk, with_frame}
 use Rattle.sort_check.proofs.Rows.{closed_reading}
@@ -56,8 +56,8 @@ module _ (w : Setting) (root : Level) (h : Here) (f : Frame) (k : IsWalk w root 
   abbrev pub words_given : Answer (List Definition)
   words_given = made_by w known (annotated_as w k.inner.base.bound at (tree_meant text) (first_term k.done)) (named_words a_keyword (trees_meant attributes))
 
-  pub names_stand : NamesStand h.table h.scope known
-  names_stand = record { sorts = k.stands.sorts; functions = k.stands.functions; count = k.stands.count }
+  pub names_mean : NamesMean h.table h.scope known
+  names_mean = record { sorts = k.stands.sorts; functions = k.stands.functions; count = k.stands.count }
 
   -- the code's words for it
   pub meant : (id d : TermId) (may : Bool) → id ≡ get_or h.values f.from d → ((t : TableView) (at : ℕ) (u : Term) → may ≡ (annotated_as w (bound_at t h.bound) at (tree_meant text) u).may_name)
@@ -94,7 +94,7 @@ module _ (w : Setting) (root : Level) (h : Here) (f : Frame) (k : IsWalk w root 
       let after : AreWellSorted (with_definitions s (o.begun ++ x.made)) = text_keeps_sorts w s l.base.bound o.tree _ around (closed_reading w l k.inner f (row_read w root h f k) x o (row_is w root h f k) read) in
       let sorted : AreWellSorted (with_definitions k.inner.base.signature x.made) = subst AreWellSorted (sym (known_then w root h f k x.made ∙ with_both l.base.signature o.made (o.begun ++ x.made))) after in
       let both : with_definitions k.inner.base.signature x.made ≡ with_definitions known ds = with_both k.inner.base.signature k.made ds in
-      let stand : NamesStand h.table v (with_definitions k.inner.base.signature x.made) = subst (NamesStand h.table v) (sym both) g.stands in
+      let stand : NamesMean h.table v (with_definitions k.inner.base.signature x.made) = subst (NamesMean h.table v) (sym both) g.stands in
       close_goes w root h f k x h.table v h.bound (get_or h.values f.from d) nums (k.total ++ ds) read (keeps_same h.table) one.1.0 one.1.1
       (record { sorts = stand.sorts; functions = stand.functions; count = stand.count; sorted = sorted })
       k.bound_there (k.bound ∙ under) waits

@@ -13,7 +13,7 @@ use Rattle.term_reader.specs.declared.faults.ReadError.{ReadError}
 use Rattle.term_reader.specs.Heads.{ReturnsTerm}
 use Rattle.term_reader.specs.Scopes.{ScopeMeans}
 use Rattle.term_reader.proofs.Tables.{keeps_same}
-use Rattle.term_reader.proofs.Standing.{stands_kept}
+use Rattle.term_reader.proofs.OverTable.{meaning_kept}
 use Rattle.sort_check.specs.declared.applied.Called.{Called}
 use Rattle.sort_check.specs.declared.frames.Opened.TheVariants.{Applies, Body}
 use Rattle.sort_check.specs.declared.frames.Frame.{Frame}
@@ -49,7 +49,7 @@ module _ (w : Setting) (root : Level) (h : Here) (f : Frame) (k : IsWalk w root 
         let under : k.inner.base.bound ≡ l.base.bound = subst (λ p. IsUnder p l.base.bound k.inner.base.bound) opened o.bound in
         let waits : k.inner.waiting ≡ l.waiting = subst (λ p. IsWaiting p l.waiting k.inner.waiting) opened o.waiting in
         close_goes w root h f k x t h.scope h.bound id h.named k.total read a.keeps a.ends.0 refl
-        (stands_kept h.table t a.keeps h.scope known k.stands)
+        (meaning_kept h.table t a.keeps h.scope known k.stands)
         (in_kept h.table t a.keeps h.bound.terms k.bound_there)
         (bound_kept h.table t a.keeps h.bound k.bound_there ∙ k.bound ∙ under) waits
         k.known (mean_kept h.table t a.keeps h.named (terms_of_definitions k.total) k.named)

@@ -31,8 +31,8 @@ use Rattle.term_reader.specs.declared.scope.Macro.{Macro}
 use Rattle.term_reader.specs.declared.scope.Function.TheVariants.{Defined}
 use Rattle.term_reader.specs.declared.faults.ReadError.{ReadError}
 use Rattle.term_reader.specs.Building.{KeepsTable, MeansTerm}
-use Rattle.term_reader.specs.Scopes.{ScopeView, ScopeMeans, IsMacro, SortStands, sort_under}
-use Rattle.term_reader.proofs.Standing.{known_last, function_added}
+use Rattle.term_reader.specs.Scopes.{ScopeView, ScopeMeans, IsMacro, SortMeans, sort_under}
+use Rattle.term_reader.proofs.OverTable.{known_last, function_added}
 use Rattle.sort_check.specs.Reads.{Room, within, roomy_definitions, Store, HasFault, EndsDefinition}
 use Rattle.sort_check.specs.Rows.{EndsRoom}
 use Rattle.sort_check.specs.Defining.{parameters_at, HasMade}
@@ -126,7 +126,7 @@ module _ (w : Setting) (s : Signature) (d : Parts) where
               let both = with_both s r.made (this ∷ []) in
               subst (ScopeMeans t (record v { names = v.names ++ n ∷ []; functions = v.functions ++ Defined m ∷ [] })) (sym both)
               (record {
-                sorts = λ k. subst (SortStands t (sort_under v k)) (sym (sort_same made (defined this) k)) (h.sorts k);
+                sorts = λ k. subst (SortMeans t (sort_under v k)) (sym (sort_same made (defined this) k)) (h.sorts k);
                 functions = function_added t v made n (Defined m) (defined this) long refl h.functions none macro;
                 count = omega (arith, h.count, length-append v.names (n ∷ []), length-append made (definition this ∷ []));
                 sorted = subst AreWellSorted both (definition_keeps_sorts w s d (r.made ++ this ∷ []) sorts whole_read);

@@ -14,7 +14,7 @@ use Rattle.term_core.specs.Tables.{TableView}
 use Rattle.term_reader.specs.declared.scope.Macro.{Macro}
 use Rattle.term_reader.specs.declared.scope.Function.{Function}
 use Rattle.term_reader.specs.declared.scope.Function.TheVariants.{Declared, Defined}
-use Rattle.term_reader.specs.Scopes.{ScopeView, IsMacro, FunctionStands, function_under, ScopeMeans}
+use Rattle.term_reader.specs.Scopes.{ScopeView, IsMacro, FunctionMeans, function_under, ScopeMeans}
 use Rattle.sort_check.specs.Applied.{IsUsable}
 
 -- the function of a name over symbols, if there is one
@@ -32,14 +32,14 @@ known_over symbols (of_function k ∷ ds) n h = go (bytes_eq (known_name k) n) h
     go false one later = later
 
 module _ (t : TableView) (v : ScopeView) (s : Signature) (h : ScopeMeans t v s) (n : Name) where
-  stands_for : (f : Option Function) → function_under v n ≡ f → FunctionStands t f (known_as s n)
-  stands_for f e = subst (λ o. FunctionStands t o (known_as s n)) e (h.functions n)
+  stands_for : (f : Option Function) → function_under v n ≡ f → FunctionMeans t f (known_as s n)
+  stands_for f e = subst (λ o. FunctionMeans t o (known_as s n)) e (h.functions n)
 
   -- a name that stands for nothing is not known
   pub not_known : function_under v n ≡ None → known_as s n ≡ None
   not_known e = go (known_as s n) (stands_for None e)
     where
-      go : (o : Option Known) → FunctionStands t None o → o ≡ None
+      go : (o : Option Known) → FunctionMeans t None o → o ≡ None
       go None g = refl
       go (Some k) g = absurd g
 
@@ -47,7 +47,7 @@ module _ (t : TableView) (v : ScopeView) (s : Signature) (h : ScopeMeans t v s) 
   pub symbol_known : (id : SymbolId) → function_under v n ≡ Some (Declared id) → IsSymbol t.symbols id × (known_as s n ≡ Some (declared (symbol_at t.symbols id)))
   symbol_known id e = go (known_as s n) (stands_for (Some (Declared id)) e)
     where
-      go : (o : Option Known) → FunctionStands t (Some (Declared id)) o → IsSymbol t.symbols id × (o ≡ Some (declared (symbol_at t.symbols id)))
+      go : (o : Option Known) → FunctionMeans t (Some (Declared id)) o → IsSymbol t.symbols id × (o ≡ Some (declared (symbol_at t.symbols id)))
       go None g = absurd g
       go (Some (declared f)) g = (g.0, ap (λ x. Some (declared x)) (sym g.1))
       go (Some (defined d)) g = absurd g
@@ -66,7 +66,7 @@ module _ (t : TableView) (v : ScopeView) (s : Signature) (h : ScopeMeans t v s) 
   pub macro_known : (m : Macro) → function_under v n ≡ Some (Defined m) → IsKnownAs m
   macro_known m e = go (known_as s n) refl (stands_for (Some (Defined m)) e) (known_over (symbols_in s) s n (recursion_from_All (IsDeclaredOver (symbols_in s)) s h.sorted))
     where
-      go : (o : Option Known) → known_as s n ≡ o → FunctionStands t (Some (Defined m)) o → KnownOver (symbols_in s) o → IsKnownAs m
+      go : (o : Option Known) → known_as s n ≡ o → FunctionMeans t (Some (Defined m)) o → KnownOver (symbols_in s) o → IsKnownAs m
       go None q g k = absurd g
       go (Some (declared f)) q g k = absurd g
       go (Some (defined d)) q g k = record { definition = d; known = q; macro = g; sorted = k.term.sorted }

@@ -23,12 +23,12 @@ use Rattle.term_core.specs.declared.ids.TermId.{TermId}
 use Rattle.term_core.specs.Tables.{TableView}
 use Rattle.term_reader.specs.declared.scope.Macro.{Macro}
 use Rattle.term_reader.specs.declared.scope.Function.TheVariants.{Defined}
-use Rattle.term_reader.specs.Scopes.{ScopeView, IsMacro, SortStands, sort_under}
-use Rattle.term_reader.proofs.Standing.{function_added}
+use Rattle.term_reader.specs.Scopes.{ScopeView, IsMacro, SortMeans, sort_under}
+use Rattle.term_reader.proofs.OverTable.{function_added}
 use Rattle.term_reader.specs.declared.faults.ReadError.{ReadError}
 use Rattle.term_reader.specs.declared.faults.ReadError.TheVariants.{Fault, Memory}
 use Rattle.term_reader.specs.Names.{located_of}
-use Rattle.sort_check.specs.Naming.{NamesStand, HasNamed, wanted_word, or_keyword, next_word, listed_word}
+use Rattle.sort_check.specs.Naming.{NamesMean, HasNamed, wanted_word, or_keyword, next_word, listed_word}
 use Rattle.sort_check.specs.Reads.{HasFault}
 use Rattle.sort_check.specs.Walks.{AllMean, terms_of_definitions}
 use Rattle.sort_check.proofs.Rows.{with_no}
@@ -45,7 +45,7 @@ keyword_is : (b : Bool) → a_keyword ≡ or_keyword (cond b (Some a_keyword) No
 keyword_is true = refl
 keyword_is false = refl
 
--- a name stands next
+-- a name is next
 words_wanted : (next : Next) (t : Tree) (ts : Trees) (x : Word) → wanted_word next t ≡ Some x → named_words next (more t ts) ≡ x ∷ named_words (next_word next t) ts
 words_wanted a_name (atom at k n) ts x e = λ i. is i ∷ named_words (keyword_is (is_name k) i) ts
   where
@@ -57,7 +57,7 @@ words_wanted a_value (list at us end) ts x e = cc
 words_wanted a_keyword (atom at k n) ts x e = cc
 words_wanted a_keyword (list at us end) ts x e = cc
 
--- no name stands next
+-- no name is next
 words_other : (next : Next) (t : Tree) (ts : Trees) → wanted_word next t ≡ None → named_words next (more t ts) ≡ named_words (next_word next t) ts
 words_other a_name (atom at k n) ts e = cc
 words_other a_name (list at us end) ts e = refl
@@ -84,7 +84,7 @@ no_words a_keyword = refl
 no_words a_value = refl
 no_words a_name = refl
 
--- the word that stands next, and those after it
+-- the word that is next, and those after it
 pub words_next : (next : Next) (t : Tree) (ts : Trees) → named_words next (more t ts) ≡ listed_word (wanted_word next t) ++ named_words (next_word next t) ts
 words_next next t ts = go (wanted_word next t) refl
   where
@@ -127,16 +127,16 @@ module _ (w : Setting) where
     -- with those that are left they come to all
     pub same : made_by w s a all ≡ (made_by w (with_definitions s made) a left >>= λ es. Ok (made ++ es))
     -- the scope has them
-    pub stands : NamesStand t v (with_definitions s made)
+    pub stands : NamesMean t v (with_definitions s made)
     -- and so do the numbers of their terms
     pub named : (us : List Term) → AllMean t before us → AllMean t ids (us ++ terms_of_definitions made)
 
-  pub naming_begins : (s : Signature) (a : Annotated) (all : List Word) (t : TableView) (v : ScopeView) (ids : List TermId) → NamesStand t v s → IsNaming s a all all t v ids ids
+  pub naming_begins : (s : Signature) (a : Annotated) (all : List Word) (t : TableView) (v : ScopeView) (ids : List TermId) → NamesMean t v s → IsNaming s a all all t v ids ids
   unfolding ◌>>=◌
   naming_begins s a all t v ids h = record {
     made = [];
     same = go (made_by w s a all) ∙ ap (λ x. made_by w x a all >>= λ es. Ok ([] ++ es)) (sym (with_no s));
-    stands = subst (NamesStand t v) (sym (with_no s)) h;
+    stands = subst (NamesMean t v) (sym (with_no s)) h;
     named = λ us k. subst (AllMean t ids) (sym (append-nil us)) k;
   }
     where
@@ -154,7 +154,7 @@ module _ (w : Setting) where
           ∙ ap (λ b. (b >>= λ ds. made_by w (with_definitions (with_definitions s h.made) ds) a xs >>= λ es. Ok (ds ++ es)) >>= λ es. Ok (h.made ++ es)) k.read
           ∙ go (made_by w (with_definitions (with_definitions s h.made) k.made) a xs)
           ∙ ap (λ y. made_by w y a xs >>= λ es. Ok ((h.made ++ k.made) ++ es)) (sym (with_both s h.made k.made));
-      stands = subst (NamesStand t new) (sym (with_both s h.made k.made)) k.stands;
+      stands = subst (NamesMean t new) (sym (with_both s h.made k.made)) k.stands;
       named = λ us all_us. subst (AllMean t nums) (append_assoc us (terms_of_definitions h.made) (terms_of_definitions k.made) ∙ ap (λ ts. us ++ ts) (sym (map-append (λ (d : Definition). d.term) h.made k.made))) (k.named (us ++ terms_of_definitions h.made) (h.named us all_us));
     }
       where
@@ -169,11 +169,11 @@ module _ (w : Setting) where
         ∙ ap (λ b. (b >>= λ ds. made_by w (with_definitions (with_definitions s h.made) ds) a xs >>= λ es. Ok (ds ++ es)) >>= λ es. Ok (h.made ++ es)) wrong
 
   -- no name is given
-  pub none_given : (s : Signature) (a : Annotated) (t : TableView) (v : ScopeView) (ids : List TermId) → NamesStand t v s → HasNamed t s v (ids, ids) (made_by w s a [])
+  pub none_given : (s : Signature) (a : Annotated) (t : TableView) (v : ScopeView) (ids : List TermId) → NamesMean t v s → HasNamed t s v (ids, ids) (made_by w s a [])
   unfolding made_by
-  none_given s a t v ids h = record { made = []; read = refl; stands = subst (NamesStand t v) (sym (with_no s)) h; named = λ us k. subst (AllMean t ids) (sym (append-nil us)) k }
+  none_given s a t v ids h = record { made = []; read = refl; stands = subst (NamesMean t v) (sym (with_no s)) h; named = λ us k. subst (AllMean t ids) (sym (append-nil us)) k }
 
-  -- the first fault of the word that stands next
+  -- the first fault of the word that is next
   pub naming_stops : (s : Signature) (a : Annotated) (all : List Word) (o : Option Word) (xs : List Word) (t : TableView) (v : ScopeView) (before ids : List TermId) (h : IsNaming s a all (listed_word o ++ xs) t v before ids) (stop : ReadError)
       → HasFault (made_by w (with_definitions s h.made) a (listed_word o)) stop → HasFault (made_by w s a all) stop
   naming_stops s a all o xs t v before ids h (Fault f) e = naming_fault s a all o xs t v before ids h (located_of f) e
@@ -226,13 +226,13 @@ module _ (w : Setting) (s : Signature) (t : TableView) (a : Annotated) (x : Word
       ap (λ b. b >>= λ n. require a.may_name a.at BadShape >>= λ may. made_by w (with_definitions s (naming n a ∷ [])) a [] >>= λ ds. Ok (naming n a ∷ ds)) e
       ∙ ap (λ b. require b a.at BadShape >>= λ u. made_by w (with_definitions s (naming n a ∷ [])) a [] >>= λ ds. Ok (naming n a ∷ ds)) may
 
-  pub given_stands : (v : ScopeView) → NamesStand t v s → (n : Name) → new_name w is_taken x ≡ Ok n → (m : Macro) → IsMacro t m (naming n a) → length v.names ≡ length v.functions
-      → NamesStand t (record v { names = v.names ++ n ∷ []; functions = v.functions ++ Defined m ∷ [] }) (with_definitions s (naming n a ∷ []))
+  pub given_stands : (v : ScopeView) → NamesMean t v s → (n : Name) → new_name w is_taken x ≡ Ok n → (m : Macro) → IsMacro t m (naming n a) → length v.names ≡ length v.functions
+      → NamesMean t (record v { names = v.names ++ n ∷ []; functions = v.functions ++ Defined m ∷ [] }) (with_definitions s (naming n a ∷ []))
   given_stands v h n e m macro long =
       let free = new_is_free w is_taken x n e in
       let none : known_as s n ≡ None = ap (known_as s) (sym free.same) ∙ no_known (known_as s x.bytes) (or_false_right (is_of_theory x.bytes) (is_some (known_as s x.bytes)) (or_false_left (is_function s x.bytes) (is_own w.own x.bytes) free.free)) in
       record {
-        sorts = λ k. subst (SortStands t (sort_under v k)) (sym (sort_same s (defined (naming n a)) k)) (h.sorts k);
+        sorts = λ k. subst (SortMeans t (sort_under v k)) (sym (sort_same s (defined (naming n a)) k)) (h.sorts k);
         functions = function_added t v s n (Defined m) (defined (naming n a)) long refl h.functions none macro;
         count = omega (arith, h.count, length-append v.names (n ∷ []), length-append s (definition (naming n a) ∷ []));
       }

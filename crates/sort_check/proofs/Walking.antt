@@ -17,7 +17,7 @@ use Rattle.term_core.specs.declared.ids.TermId.{TermId}
 use Rattle.term_core.specs.Tables.{TableView, term_at, IsIn, AreIn}
 use Rattle.term_reader.specs.Building.{KeepsTable}
 use Rattle.term_reader.specs.Scopes.{ScopeView, ScopeMeans}
-use Rattle.term_reader.proofs.Standing.{stands_kept}
+use Rattle.term_reader.proofs.OverTable.{meaning_kept}
 use Rattle.term_reader.specs.declared.faults.ReadError.{ReadError}
 use Rattle.term_reader.specs.declared.faults.ReadError.TheVariants.{Fault, Memory}
 use Rattle.term_reader.specs.Names.{located_of}
@@ -48,7 +48,7 @@ module _ (w : Setting) (root : Level) where
   atom_goes h k t at kind n after id is keeps there e =
       let made_is : k.made ++ [] ≡ k.made = append-nil k.made in
       let read : reading w (known_after (row_of h k)) k.inner.base.bound (atom at kind n) ≡ Ok (plain_reading (term_at t id)) = ap (λ a. a >>= λ u. Ok (plain_reading u)) e in
-      let stands = stands_kept h.table t keeps h.scope (with_definitions k.inner.base.signature k.made) k.stands in
+      let stands = meaning_kept h.table t keeps h.scope (with_definitions k.inner.base.signature k.made) k.stands in
       record {
         inner = k.inner;
         made = k.made;
@@ -218,7 +218,7 @@ module _ (w : Setting) (root : Level) (h : Here) (f : Frame) (k : IsWalk w root 
   pub row_values : AllMean h.table (drop f.from h.values) k.done
   row_values = mean_back h.table h.values k.inner.below k.done f.from (popped w root h f k).opens.from k.values
 
-  -- they stand there
+  -- they are there
   pub row_inside : f.from ≤ length h.values
   row_inside = omega (arith, (popped w root h f k).opens.from, mean_long h.table h.values (k.inner.below ++ k.done) k.values, length-append k.inner.below k.done)
 

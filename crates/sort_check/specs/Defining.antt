@@ -13,7 +13,7 @@ use Rattle.term_core.specs.Symbols.{HaveSortsIn, sorts_meant}
 use Rattle.term_core.specs.Tables.{TableView, AreIn}
 use Rattle.term_reader.specs.declared.faults.ReadError.{ReadError}
 use Rattle.sort_check.specs.Bindings.{BindingsView, bound_at, paired}
-use Rattle.sort_check.specs.Reads.{Store, StandsWith, HasFault}
+use Rattle.sort_check.specs.Reads.{Store, ScopeMeansWith, HasFault}
 use Rattle.sort_check.specs.Walks.{AllMean, terms_of_definitions}
 
 -- names with sorts of a table, oldest first
@@ -46,7 +46,7 @@ pub record HasMade (s : Signature) (new : Store) (answer : Answer (List Definiti
   -- it is that
   pub read : answer ≡ Ok definitions
   -- it is there
-  pub stands : StandsWith new s definitions
+  pub stands : ScopeMeansWith new s definitions
   -- the numbers of its terms
   pub terms : AllMean new.table ids (terms_of_definitions definitions)
 

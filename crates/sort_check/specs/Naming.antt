@@ -12,17 +12,17 @@ use Rattle.term_core.specs.declared.ids.TermId.{TermId}
 use Rattle.term_core.specs.Tables.{TableView, term_at}
 use Rattle.term_reader.specs.declared.faults.ReadError.{ReadError}
 use Rattle.term_reader.specs.Forms.{next_after}
-use Rattle.term_reader.specs.Scopes.{ScopeView, SortStands, FunctionStands, sort_under, function_under}
+use Rattle.term_reader.specs.Scopes.{ScopeView, SortMeans, FunctionMeans, sort_under, function_under}
 use Rattle.sort_check.specs.declared.naming.Annotated as code
 use Rattle.sort_check.specs.Reads.{HasFault}
 use Rattle.sort_check.specs.Walks.{AllMean, terms_of_definitions}
 
 -- In a table the scope has the names of a signature.
-pub record NamesStand (t : TableView) (v : ScopeView) (s : Signature) : Type 0 where
+pub record NamesMean (t : TableView) (v : ScopeView) (s : Signature) : Type 0 where
   -- the names of sorts
-  pub sorts : (n : Name) → SortStands t (sort_under v n) (sort_as s n)
+  pub sorts : (n : Name) → SortMeans t (sort_under v n) (sort_as s n)
   -- the names of functions
-  pub functions : (n : Name) → FunctionStands t (function_under v n) (known_as s n)
+  pub functions : (n : Name) → FunctionMeans t (function_under v n) (known_as s n)
   -- as many names are declared and defined
   pub count : length v.sort_names + length v.names ≡ length s
 
@@ -37,7 +37,7 @@ pub record HasNamed (t : TableView) (s : Signature) (new : ScopeView) (ids : Lis
   -- they are those
   pub read : answer ≡ Ok made
   -- the scope has them
-  pub stands : NamesStand t new (with_definitions s made)
+  pub stands : NamesMean t new (with_definitions s made)
   -- so do the numbers of terms that got names
   pub named : (us : List Term) → AllMean t ids.0 us → AllMean t ids.1 (us ++ terms_of_definitions made)
 
@@ -46,7 +46,7 @@ abbrev pub EndsNaming : TableView → Signature → ScopeView → List TermId ×
 EndsNaming t s new ids answer (Ok u) = HasNamed t s new ids answer
 EndsNaming t s new ids answer (Err stop) = HasFault answer stop
 
--- the word that stands where a name is wanted
+-- the word that is where a name is wanted
 abbrev pub wanted_word : Next → Tree → Option Word
 wanted_word a_name (atom at k n) = Some (record { at = at; kind = k; bytes = n })
 wanted_word next t = None

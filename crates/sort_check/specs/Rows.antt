@@ -8,7 +8,7 @@ use Rattle.term_core.specs.declared.ids.TermId.{TermId}
 use Rattle.term_reader.specs.declared.faults.ReadError.{ReadError}
 use Rattle.term_reader.specs.Building.{MeansTerm}
 use Rattle.sort_check.specs.Walks.{AllMean, terms_of_definitions}
-use Rattle.sort_check.specs.Reads.{Store, StandsWith, HasFault}
+use Rattle.sort_check.specs.Reads.{Store, ScopeMeansWith, HasFault}
 
 -- The row is read, by the numbers of its terms and of the terms that got names.
 pub record HasRow (s : Signature) (new : Store) (answer : Answer Readings) (ids : List TermId × List TermId) : Type 0 where
@@ -19,7 +19,7 @@ pub record HasRow (s : Signature) (new : Store) (answer : Answer Readings) (ids 
   -- the numbers of its terms
   pub terms : AllMean new.table ids.0 readings.terms
   -- what it defines is there
-  pub stands : StandsWith new s readings.made
+  pub stands : ScopeMeansWith new s readings.made
   -- the numbers of the terms that it defines
   pub named : AllMean new.table ids.1 (terms_of_definitions readings.made)
 
@@ -37,7 +37,7 @@ pub record HasOne (s : Signature) (new : Store) (answer : Answer Reading) (x : T
   -- the number of its term
   pub term : MeansTerm new.table reading.term x.0
   -- what it defines is there
-  pub stands : StandsWith new s reading.made
+  pub stands : ScopeMeansWith new s reading.made
   -- the numbers of the terms that it defines
   pub named : AllMean new.table x.1 (terms_of_definitions reading.made)
 

@@ -224,7 +224,7 @@ ContinuesWalk w old new r = (root : Level) → IsWalk w root old → EndsStep w 
 abbrev pub with_frame : Here → Frame → Here
 with_frame h f = record h { frames = h.frames ++ f ∷ []; rest = none }
 
--- What is left of a `let`: its bindings and its body, and what stands after it; so many names waited before its own.
+-- What is left of a `let`: its bindings and its body, and what is after it; so many names waited before its own.
 pub record Let : Type 0 where
   -- the bindings
   pub bindings : Trees
@@ -232,7 +232,7 @@ pub record Let : Type 0 where
   pub body : Tree
   -- how many names waited before
   pub waited : ℕ
-  -- what stands after it
+  -- what is after it
   pub after : Trees
 
 -- so it is by the cursors of the code

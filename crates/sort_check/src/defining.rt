@@ -157,7 +157,7 @@ fn read_whole(
     match read_body(alloc, table, scope, inner, &names, &sorts, sort, parts.body) {
         Err(stop) => Err(stop),
         Ok((id, mut named)) => {
-            scope.each_name_stands_for_something();
+            scope.each_name_means_something();
             let definition = Macro {
                 parameters: sorts,
                 result: sort,

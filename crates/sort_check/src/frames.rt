@@ -33,7 +33,7 @@ pub struct Frame<'a> {
     pub opened: Opened<'a>,
     /// How many terms were read before them.
     pub from: usize,
-    /// What stands after the list, in the row around it.
+    /// What is after the list, in the row around it.
     pub after: Trees<'a>,
 }
 

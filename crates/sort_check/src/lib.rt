@@ -1,7 +1,7 @@
 //! Reads the texts of terms and definitions into a table of terms and a scope: what they are read as by the definitions,
 //! or their first fault.
 //!
-//! A text is read from left to right. Nothing recurses: open lists stand in a row.
+//! A text is read from left to right. Nothing recurses: open lists are in a row.
 #![tactic(auto)]
 
 mod applied;

@@ -243,7 +243,7 @@ fn is_left(bound: &Bindings, search: &mut NameSearch<'_>) -> Result<bool, NoMemo
 
 /// Tells whether one of the bound names occurs free in a text.
 ///
-/// Time goes with the text, and nothing recurses. `NoMemory` may come where a list stands in it.
+/// Time goes with the text, and nothing recurses. `NoMemory` may come where a list is in it.
 /// Source: SMT-LIB 2.6, section 3.6.
 pub fn mentions(alloc: Global, bound: &Bindings, text: Trees<'_>) -> Result<bool, NoMemory>
     ensures { IfOk result (λ yes. (t : TableView) → yes

@@ -14,7 +14,7 @@ ghost use Rattle.term_reader.specs.Forms.{next_meant};
 ghost use Rattle.term_reader.specs.Names.{setting_meant};
 ghost use Rattle.term_reader.specs.Scopes.{Widens};
 ghost use Rattle.sort_check.specs.Bindings.{bound_at};
-ghost use Rattle.sort_check.specs.Naming.{NamesStand, annotated_meant, EndsNaming, wanted_word, next_word, listed_word};
+ghost use Rattle.sort_check.specs.Naming.{NamesMean, annotated_meant, EndsNaming, wanted_word, next_word, listed_word};
 
 use crate::bindings::Bindings;
 use crate::mentions::mentions;
@@ -62,7 +62,7 @@ pub fn may_name(
 
 /// Tells whether a name is a theory's, or a function's of the scope.
 pub fn is_function(scope: &Scope, name: &[u8]) -> bool
-    ensures { (t : TableView) (s : Signature) → NamesStand t scope.now s → result ≡ is_function s name.now }
+    ensures { (t : TableView) (s : Signature) → NamesMean t scope.now s → result ≡ is_function s name.now }
 {
     if let Some(_) = TheoryHead::named(name) {
         return true;
@@ -75,7 +75,7 @@ pub fn is_function(scope: &Scope, name: &[u8]) -> bool
 
 // Whether a name is a theory's, a function's of the scope, or the one whose body is read.
 fn is_known(scope: &Scope, setting: Setting<'_>, name: &[u8]) -> bool
-    ensures { (t : TableView) (s : Signature) → NamesStand t scope.now s
+    ensures { (t : TableView) (s : Signature) → NamesMean t scope.now s
         → result ≡ (is_function s name.now || is_own (setting_meant setting.entry).own name.now) }
 {
     if let Some(_) = TheoryHead::named(name) {
@@ -101,12 +101,12 @@ fn give_name(
     named: &mut Vec<TermId>,
 ) -> Result<(), ReadError>
     requires { IsIn table.now term.id }
-    ensures ends { (s : Signature) (text : Tree) → NamesStand table.now scope.old s
+    ensures ends { (s : Signature) (text : Tree) → NamesMean table.now scope.old s
         → EndsNaming table.now s scope.new (named.old.items, named.new.items)
         (made_by (setting_meant setting.entry) s (annotated_meant table.now text term) (word_view word.entry ∷ [])) result }
     ensures widens { Widens scope.old scope.new }
 {
-    scope.each_name_stands_for_something();
+    scope.each_name_means_something();
     let taken = is_known(scope, setting, word.bytes);
     match new_name(setting, taken, word) {
         Err(fault) => Err(ReadError::Fault(fault)),
@@ -130,7 +130,7 @@ fn give_name(
     }
 }
 
-/// Says the word that stands where a name is wanted.
+/// Says the word that is where a name is wanted.
 fn word_wanted(next: NextAttribute, item: Trees<'_>) -> Option<Word<'_>>
     ensures { option_map word_view result ≡ wanted_word (next_meant next) (tree_meant item.entry) }
 {
@@ -154,7 +154,7 @@ fn next_wanted(next: NextAttribute, item: Trees<'_>) -> NextAttribute
     }
 }
 
-// Gives a term the name that stands next, where one is wanted there.
+// Gives a term the name that is next, where one is wanted there.
 fn give_wanted(
     alloc: Global,
     table: &TermTable,
@@ -165,7 +165,7 @@ fn give_wanted(
     named: &mut Vec<TermId>,
 ) -> Result<(), ReadError>
     requires { IsIn table.now term.id }
-    ensures ends { (s : Signature) (text : Tree) → NamesStand table.now scope.old s
+    ensures ends { (s : Signature) (text : Tree) → NamesMean table.now scope.old s
         → EndsNaming table.now s scope.new (named.old.items, named.new.items)
         (made_by (setting_meant setting.entry) s (annotated_meant table.now text term) (listed_word (option_map word_view word.entry)))
         result }
@@ -188,7 +188,7 @@ pub fn name_term(
     named: &mut Vec<TermId>,
 ) -> Result<(), ReadError>
     requires { IsIn table.now term.id }
-    ensures ends { (s : Signature) (text : Tree) → NamesStand table.now scope.old s
+    ensures ends { (s : Signature) (text : Tree) → NamesMean table.now scope.old s
         → EndsNaming table.now s scope.new (named.old.items, named.new.items)
         (made_by (setting_meant setting.entry) s (annotated_meant table.now text term)
         (named_words a_keyword (trees_meant attributes.entry))) result }

@@ -69,7 +69,7 @@ pub fn term(
     ensures grows { StoreGrows (store table.old scope.old) (store table.new scope.new) }
     ensures same { OnErr result (IsSame (store table.old scope.old) (store table.new scope.new)) }
 {
-    scope.each_name_stands_for_something();
+    scope.each_name_means_something();
     let count = table.len();
     let sorts = scope.sorts_len();
     let names = scope.len();
@@ -107,7 +107,7 @@ pub fn terms(
     ensures grows { StoreGrows (store table.old scope.old) (store table.new scope.new) }
     ensures same { OnErr result (IsSame (store table.old scope.old) (store table.new scope.new)) }
 {
-    scope.each_name_stands_for_something();
+    scope.each_name_means_something();
     let count = table.len();
     let sorts = scope.sorts_len();
     let names = scope.len();
@@ -144,7 +144,7 @@ pub fn define(
     ensures grows { StoreGrows (store table.old scope.old) (store table.new scope.new) }
     ensures same { OnErr result (IsSame (store table.old scope.old) (store table.new scope.new)) }
 {
-    scope.each_name_stands_for_something();
+    scope.each_name_means_something();
     let count = table.len();
     let sorts = scope.sorts_len();
     let names = scope.len();

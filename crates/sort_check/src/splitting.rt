@@ -7,7 +7,7 @@ ghost use Rattle.sort_check.specs.Splitting.{first_binding, let_parts, binding_m
 
 use smt_sexpr::{Trees, Word, list_first, list_inside, split, want_end, word_first};
 
-/// Takes the first binding off: its name, its term, and the bindings after it; `None` where no binding stands first.
+/// Takes the first binding off: its name, its term, and the bindings after it; `None` where no binding is first.
 ///
 /// The term is alone. Source: SMT-LIB 2.6, section 3.6.1.
 #[tactic(auto, unfolding(crate::specs::Splitting::first_binding))]

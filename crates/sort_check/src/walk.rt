@@ -70,7 +70,7 @@ fn open<'a>(walk: &mut Walk<'a>, frame: Frame<'a>, row: Trees<'a>) -> Result<(),
     Ok(())
 }
 
-// The atom that stands next.
+// The atom that is next.
 fn read_atom<'a>(
     alloc: Global,
     table: &mut TermTable,
@@ -226,7 +226,7 @@ fn open_annotated<'a>(
     )
 }
 
-// The list at an offset that stands next.
+// The list at an offset that is next.
 fn open_list<'a>(
     setting: Setting<'_>,
     walk: &mut Walk<'a>,
@@ -410,7 +410,7 @@ fn close<'a>(
     }
 }
 
-// The text that stands next, before others.
+// The text that is next, before others.
 fn read_next<'a>(
     alloc: Global,
     table: &mut TermTable,

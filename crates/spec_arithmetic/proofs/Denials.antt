@@ -12,7 +12,7 @@ use Rattle.spec_arithmetic.proofs.General.{same_some}
 use Rattle.spec_arithmetic.proofs.Differences.{IsAtMostZero, IsBelowZero, less_true, less_false, at_most_true, at_most_false, same_true}
 use Rattle.spec_arithmetic.proofs.Reals.{IsReal, first_argument, second_argument}
 
--- how a number stands to 0
+-- how a number compares with 0
 abbrev pub Stands : Relation → Fraction → Type 0
 Stands is_nought x = x ≡ zero_fraction
 Stands is_below x = IsBelowZero x

@@ -21,7 +21,7 @@ use Rattle.spec_arithmetic.proofs.FormValues.{IsProper, adding_fair, combined_va
 use Rattle.spec_arithmetic.proofs.FormTerms.{constant_value}
 use Rattle.spec_arithmetic.proofs.Denials.{Stands}
 
--- A part whose form stands to 0 as it says.
+-- A part whose form compares with 0 as it says.
 pub record IsPart (n : Term → Fraction) (p : Part) : Type 0 where
   pub stands : Stands p.relation (form_value n p.form)
   pub proper : IsProper n p.form
@@ -70,7 +70,7 @@ weighted_strictly turned is_at_most c x h e = absurd (true≢false (sym e))
 weighted_strictly true is_below c x h e = times-below _ x (unsigned_abs c.num) refl (size_positive c (not-true _ e)) h
 weighted_strictly false is_below c x h e = times-below _ x (unsigned_abs c.num) refl (size_positive c (not-true _ e)) h
 
--- A sum that stands to 0 as its parts do.
+-- A sum that compares with 0 as its parts do.
 pub record IsSum (n : Term → Fraction) (strict : Bool) (f : Form) : Type 0 where
   pub proper : IsProper n f
   pub at_most : IsAtMostZero (form_value n f)

@@ -7,14 +7,14 @@ use Rattle.spec_sorts.specs.Terms.{Number, same_sort, Not, Equal, Less, AtMost, 
 use Rattle.spec_arithmetic.specs.Signs.{is_zero, is_above_zero, size}
 use Rattle.spec_arithmetic.specs.Forms.{Answer, Form, Fault, constant_form, adding, combined, scaled, difference}
 
--- How a form stands to 0.
+-- How a form compares with 0.
 pub data Relation : Type 0 where
   -- it is 0, it is below 0, or it is at most 0
   is_nought is_below is_at_most : Relation
 
--- What the negation of a literal says: how the difference of two terms stands to 0.
+-- What the negation of a literal says: how the difference of two terms compares with 0.
 pub record Negation : Type 0 where
-  -- how it stands to 0
+  -- how it compares with 0
   pub relation : Relation
   -- the atom of both terms
   pub atom : Term
@@ -76,7 +76,7 @@ numbered ((n, malformed) ∷ rest) = numbered rest
 
 -- What a literal brings to the sum.
 pub record Part : Type 0 where
-  -- how its form stands to 0 where the literal is false
+  -- how its form compares with 0 where the literal is false
   pub relation : Relation
   -- its form
   pub form : Form

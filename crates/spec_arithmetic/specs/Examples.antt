@@ -81,7 +81,7 @@ at_most s t = pair AtMost s t
 abbrev pub equal_example : Term → Term → Term
 equal_example s t = pair Equal s t
 
--- variables stand in the order in which they come, constants are added, and what comes to 0 is dropped
+-- variables are in the order in which they come, constants are added, and what comes to 0 is dropped
 pub ordered : form (of Plus (natural 1 ∷ y ∷ product (natural 2) x ∷ y ∷ natural 3 ∷ [])) ≡ Ok (record { constant = whole (pos 4); variables = (y, whole (pos 2)) ∷ (x, whole (pos 2)) ∷ [] })
 unfolding forms_on_literals
 ordered = refl
@@ -202,7 +202,7 @@ pub argument_more : la_generic (negated (less x y) ∷ negated (less y x) ∷ []
 unfolding forms_on_literals clauses_on_literals
 argument_more = refl
 
--- an equality as it stands is none of its literals, and one of another sort neither
+-- an equality as it is is none of its literals, and one of another sort neither
 pub positive_equality : la_generic (equal_example x y ∷ negated (less x y) ∷ []) (arguments (codes "1 1")) ≡ Err shape
 unfolding forms_on_literals clauses_on_literals
 positive_equality = refl

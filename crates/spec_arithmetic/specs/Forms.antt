@@ -90,7 +90,7 @@ changed change f =
     each_number change f.variables >>= λ vs.
     Ok (record { constant = c; variables = vs })
 
--- a form multiplied by a number, which stands on the left of each product
+-- a form multiplied by a number, which is on the left of each product
 abbrev pub scaled : Fraction → Form → Answer Form
 scaled c f = changed (λ k. multiplied c k) f
 

@@ -15,7 +15,7 @@ use Rattle.spec_tableaux.proofs.Groups.{inner_two}
 use Rattle.spec_tableaux.proofs.Signs.{zero_product}
 use Rattle.spec_strains.specs.Points.{point_in}
 use Rattle.spec_strains.specs.Halves.{at_number}
-use Rattle.spec_causes.specs.Standing.{Standing, owner_in, AreOwned}
+use Rattle.spec_causes.specs.TermTableau.{TermTableau, owner_in, AreOwned}
 use Rattle.spec_causes.specs.Shared.{AreOwnedEntries, ends, owned, left_out, IsValueOf}
 
 -- a pair without an infinitesimal part is its base
@@ -45,7 +45,7 @@ adds_nothing k reduced x y none =
     (ap (λ z. numbers.plus (numbers.times c z) y) none ∙ ap (λ z. numbers.plus z y) (l.product_commutative c numbers.zero ∙ zero_product numbers l c) ∙ l.sum_zero y)
 
 -- terms have these numbers where the infinitesimal is e: those of the variables that stand for them, and 0 where none does
-module _ (e : Number) (s : Standing) (n : Term → Number) (standing : AreOwned s.owners n (λ y. at_number e (point_in s.values y)))
+module _ (e : Number) (s : TermTableau) (n : Term → Number) (standing : AreOwned s.owners n (λ y. at_number e (point_in s.values y)))
     (others : (u : Term) → ((y : ℕ) → owner_in s.owners y ≡ Some u → ⊥) → n u ≡ numbers.zero) where
   abbrev numbered : Term → Fraction
   numbered u = (n u).fraction

@@ -16,10 +16,10 @@ use Rattle.spec_tableaux.specs.Rows.{Entry, sum_of}
 use Rattle.spec_tableaux.specs.Numbers.{Number, numbers}
 use Rattle.spec_tableaux.proofs.Numbers.{number_is}
 use Rattle.spec_strains.specs.Points.{deltas, point_in}
-use Rattle.spec_causes.specs.Standing.{Standing, owner_in, IsEntryOf}
+use Rattle.spec_causes.specs.TermTableau.{TermTableau, owner_in, IsEntryOf}
 use Rattle.spec_causes.specs.Shared.{AreOwnedEntries, ends, owned, left_out, IsValueOf}
 
--- a variable stands for a term, or none does
+-- a variable means a term, or none does
 owner_or_none : (owners : List (Option Term)) (u : Term) → ((y : ℕ) × (owner_in owners y ≡ Some u)) ⊎ ((y : ℕ) → owner_in owners y ≡ Some u → ⊥)
 owner_or_none [] u = inr nobody
   where
@@ -93,7 +93,7 @@ module _ (owners : List (Option Term)) (once : (y z : ℕ) (w : Term) → owner_
   entries_once _ fs _ (left_out x es xs none more) h = entries_once es fs xs more (first_left_out owners x none fs xs h)
 
 -- a term of sort Real has a value
-pub has_value : (symbols : List Symbol) (s : Standing) (u : Term) (f : Form) → IsWellSorted symbols [] u → sort_of u ≡ Real → form u ≡ Ok f → (p : Pair Number) × IsValueOf s u p
+pub has_value : (symbols : List Symbol) (s : TermTableau) (u : Term) (f : Form) → IsWellSorted symbols [] u → sort_of u ≡ Real → form u ≡ Ok f → (p : Pair Number) × IsValueOf s u p
 has_value symbols s u f sorted real has =
     let proper = (form_number symbols (λ w. zero_fraction) (λ w. zero-reduced) u f has (record { term = sorted; sort = real })).proper in
     let gs = owned_entries s.owners (number_at (λ w. zero_fraction)) f.variables proper.variables in
@@ -112,7 +112,7 @@ has_value symbols s u f sorted real has =
     )
 
 -- and no other
-pub one_value : (s : Standing) (u : Term) (p q : Pair Number) → ((y z : ℕ) (w : Term) → owner_in s.owners y ≡ Some w → owner_in s.owners z ≡ Some w → y ≡ z)
+pub one_value : (s : TermTableau) (u : Term) (p q : Pair Number) → ((y z : ℕ) (w : Term) → owner_in s.owners y ≡ Some w → owner_in s.owners z ≡ Some w → y ≡ z)
     → IsValueOf s u p → IsValueOf s u q → p ≡ q
 one_value s u p q once a b =
     let one : a.form_of ≡ b.form_of = same_ok a.form_of b.form_of (sym a.has ∙ b.has) in

@@ -11,7 +11,7 @@ use Rattle.spec_tableaux.specs.Ranges.{Range}
 use Rattle.spec_tableaux.specs.Numbers.{Number, numbers}
 use Rattle.spec_strains.specs.Points.{Ranges}
 use Rattle.spec_simplex.specs.Constraints.{Relation, below, at_most, equals, at_least, above, Constraint, constraint_of, form_of}
-use Rattle.spec_causes.specs.Standing.{Standing, owner_in, AreOwned}
+use Rattle.spec_causes.specs.TermTableau.{TermTableau, owner_in, AreOwned}
 
 -- A side on which a variable is bounded.
 pub data Side : Type 0 where
@@ -49,7 +49,7 @@ tilt_by side false = numbers.zero
 
 -- Wherever the rows hold, the variables of a form come to the factor, which is not 0, times the variable y; if this stands for a row, to it
 -- or to its opposite.
-pub record IsMultiple (s : Standing) (f : Form) (factor : Number) (y : ℕ) : Type 0 where
+pub record IsMultiple (s : TermTableau) (f : Form) (factor : Number) (y : ℕ) : Type 0 where
   pub nonzero : numbers.is_zero factor ≡ false
   pub there : y < length s.owners
   pub unit : owner_in s.owners y ≡ None → (factor ≡ numbers.one) ⊎ (factor ≡ numbers.opposite numbers.one)
@@ -57,7 +57,7 @@ pub record IsMultiple (s : Standing) (f : Form) (factor : Number) (y : ℕ) : Ty
       → variables_value (λ u. (n u).fraction) f.variables ≡ (numbers.times factor (v y)).fraction
 
 -- A literal bounds the variable y on a side: its form is a multiple of y but for a constant.
-pub record IsBound (s : Standing) (l : Literal) (y : ℕ) (side : Side) (b : Pair Number) : Type 0 where
+pub record IsBound (s : TermTableau) (l : Literal) (y : ℕ) (side : Side) (b : Pair Number) : Type 0 where
   -- what the literal says
   pub constraint : Constraint
   pub says : constraint_of l ≡ Some constraint
@@ -78,7 +78,7 @@ pub record IsBound (s : Standing) (l : Literal) (y : ℕ) (side : Side) (b : Pai
   }
 
 -- Each bound of the ranges is one that a literal states whose atom is among terms.
-pub record AreBounds (ts : List Term) (s : Standing) (ranges : Ranges) : Type 0 where
+pub record AreBounds (ts : List Term) (s : TermTableau) (ranges : Ranges) : Type 0 where
   -- the literals
   pub literals : List Literal
   pub atoms : All (λ l. Contains ts l.atom) literals

@@ -11,18 +11,18 @@ use Rattle.spec_tableaux.specs.Rows.{Entry}
 use Rattle.spec_tableaux.specs.Numbers.{Number, numbers}
 use Rattle.spec_strains.specs.Deltas.{delta_evaluated}
 use Rattle.spec_strains.specs.Points.{deltas, Ranges, point_in, delta_in}
-use Rattle.spec_strains.specs.Strains.{Strains, StrainsNew}
+use Rattle.spec_strains.specs.CheckOverflows.{CheckOverflows, OverflowsNew}
 use Rattle.spec_strains.specs.Runs.{WantsMore}
-use Rattle.spec_strains.specs.Halves.{is_less, IsSteeper, halfway, StrainsNumber}
+use Rattle.spec_strains.specs.Halves.{is_less, IsSteeper, halfway, OverflowsNumber}
 use Rattle.spec_simplex.specs.Constraints.{Constraint, constraint_of, form_of}
-use Rattle.spec_causes.specs.Standing.{Standing, owner_in, state_in, AreEntriesOf}
-use Rattle.spec_causes.specs.Shared.{IsSharedAmong, StrainsTerm, IsSharedValue, AreSharedValues}
+use Rattle.spec_causes.specs.TermTableau.{TermTableau, owner_in, state_in, AreEntriesOf}
+use Rattle.spec_causes.specs.Shared.{IsSharedAmong, OverflowsTerm, IsSharedValue, AreSharedValues}
 use Rattle.spec_causes.specs.Bounds.{AreBounds}
 use Rattle.spec_causes.specs.Reached.{IsFormAmong}
-use Rattle.spec_causes.specs.Reasons.{Conflicts, StrainsReasons}
+use Rattle.spec_causes.specs.Reasons.{Conflicts, OverflowsReasons}
 
 -- The form of an atom among terms comes to the overflow o.
-pub record StrainsForm (ts : List Term) (o : Overflow) : Type 0 where
+pub record OverflowsForm (ts : List Term) (o : Overflow) : Type 0 where
   -- the atom
   pub atom : Term
   pub there : Contains ts atom
@@ -70,46 +70,46 @@ pub record IsEpsilon (ranges : Ranges) (v : ℕ → Pair Number) (apart : List (
 abbrev pub AreWithin : Ranges → (ℕ → Pair Number) → Type 0
 AreWithin ranges v = (y : ℕ) → is_within deltas ranges v y ≡ true
 
--- The value of a variable that stands for a term, where the infinitesimal is e, comes to the overflow o.
-pub record StrainsValueAt (e : Number) (s : Standing) (o : Overflow) : Type 0 where
+-- The value of a variable that means a term, where the infinitesimal is e, comes to the overflow o.
+pub record OverflowsValueAt (e : Number) (s : TermTableau) (o : Overflow) : Type 0 where
   pub variable : ℕ
   pub term : Term
   pub stands : owner_in s.owners variable ≡ Some term
   pub leaves : delta_evaluated (delta_in (point_in s.values variable)) e.fraction ≡ Err o
 
 -- An operation of simplex over terms comes to the overflow o where it stands.
-pub data StrainsAt (ts : List Term) (s : Standing) (o : Overflow) : Type 0 where
+pub data OverflowsAt (ts : List Term) (s : TermTableau) (o : Overflow) : Type 0 where
   -- the form of an atom
-  forming : StrainsForm ts o → StrainsAt ts s o
+  forming : OverflowsForm ts o → OverflowsAt ts s o
   -- the bound of an atom whose form has one variable: minus the constant, over its coefficient
   bounding : (f : Form) → IsFormAmong ts f → (u : Term) (k : Fraction) → f.variables ≡ (u, k) ∷ []
-      → divided (opposite f.constant) k ≡ Err o → StrainsAt ts s o
+      → divided (opposite f.constant) k ≡ Err o → OverflowsAt ts s o
   -- the row of an atom, or its value
   adding_row : (f : Form) → IsFormAmong ts f → (gs : List (Entry Number)) → AreEntriesOf s.owners gs f.variables
-      → StrainsNew (state_in s) gs o → StrainsAt ts s o
+      → OverflowsNew (state_in s) gs o → OverflowsAt ts s o
   -- a step of a check
-  checking : (ranges : Ranges) → AreBounds ts s ranges → Strains ranges (state_in s) o → StrainsAt ts s o
+  checking : (ranges : Ranges) → AreBounds ts s ranges → CheckOverflows ranges (state_in s) o → OverflowsAt ts s o
   -- the reasons for a conflict
   explaining : (ranges : Ranges) → (bounds : AreBounds ts s ranges) → (up : Bool) (es : List (Entry Number))
-      → Conflicts ranges (state_in s) up es → StrainsReasons s bounds.literals ranges up es o → StrainsAt ts s o
+      → Conflicts ranges (state_in s) up es → OverflowsReasons s bounds.literals ranges up es o → OverflowsAt ts s o
   -- the value of a shared term
-  valuing : (u : Term) → IsSharedAmong ts u → StrainsTerm s u o → StrainsAt ts s o
+  valuing : (u : Term) → IsSharedAmong ts u → OverflowsTerm s u o → OverflowsAt ts s o
   -- a number for the infinitesimal, with some values of shared terms kept apart
   finding : (ranges : Ranges) → AreBounds ts s ranges → AreWithin ranges (point_in s.values)
       → (apart : List (Pair Number)) → AreSharedValues ts s apart
-      → StrainsNumber ranges (point_in s.values) apart o → StrainsAt ts s o
+      → OverflowsNumber ranges (point_in s.values) apart o → OverflowsAt ts s o
   -- a value where the infinitesimal is such a number
   evaluating : (ranges : Ranges) → AreBounds ts s ranges → AreWithin ranges (point_in s.values)
       → (apart : List (Pair Number)) → AreSharedValues ts s apart
-      → (e : Number) → IsEpsilon ranges (point_in s.values) apart e → StrainsValueAt e s o → StrainsAt ts s o
+      → (e : Number) → IsEpsilon ranges (point_in s.values) apart e → OverflowsValueAt e s o → OverflowsAt ts s o
   -- the value of a shared term there
   evaluating_shared : (ranges : Ranges) → AreBounds ts s ranges → AreWithin ranges (point_in s.values)
       → (apart : List (Pair Number)) → AreSharedValues ts s apart
       → (e : Number) → IsEpsilon ranges (point_in s.values) apart e
-      → (p : Pair Number) → IsSharedValue ts s p → delta_evaluated (delta_in p) e.fraction ≡ Err o → StrainsAt ts s o
+      → (p : Pair Number) → IsSharedValue ts s p → delta_evaluated (delta_in p) e.fraction ≡ Err o → OverflowsAt ts s o
 
 -- Under some bounds that literals state simplex needs a further exchange over terms where it stands.
-pub record NeedsMore (ts : List Term) (s : Standing) : Type 0 where
+pub record NeedsMore (ts : List Term) (s : TermTableau) : Type 0 where
   -- the bounds
   pub ranges : Ranges
   pub bounds : AreBounds ts s ranges

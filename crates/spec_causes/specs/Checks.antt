@@ -7,10 +7,10 @@ use Rattle.spec_sorts.specs.Literals.{Clause}
 use Rattle.spec_arithmetic.specs.Contradictions.{given, wide, la_generic}
 use Rattle.spec_derivations.specs.Problems.{Problem, subterms_in}
 use Rattle.spec_derivations.specs.Orders.{whole_terms}
-use Rattle.spec_causes.specs.Standing.{Standing}
+use Rattle.spec_causes.specs.TermTableau.{TermTableau}
 use Rattle.spec_causes.specs.Reached.{IsReached, IsStoppedAt}
 use Rattle.spec_causes.specs.Counts.{AreFewRuns}
-use Rattle.spec_causes.specs.Causes.{StrainsForm, StrainsAt, NeedsMore}
+use Rattle.spec_causes.specs.Causes.{OverflowsForm, OverflowsAt, NeedsMore}
 
 -- that s and t are equal, and s is not at most t, is not judged by the rule `la_generic` within the bound on numbers, with these weights
 abbrev pub LeavesOrder : Term → Term → Clause → Fraction → Overflow → Type 0
@@ -26,14 +26,14 @@ pub record IsOverflowAmong (terms : List Term) (o : Overflow) : Type 0 where
       ⊎ LeavesOrder left right (pair AtMost right left ∷ []) (opposite one_fraction) o
 
 -- An operation of a search of a problem comes to the overflow o, where l clauses are learned and these exchanges are kept.
-pub data IsStrained (p : Problem) (l : ℕ) (es : List (ℕ × ℕ)) (o : Overflow) : Type 0 where
+pub data IsOverflowed (p : Problem) (l : ℕ) (es : List (ℕ × ℕ)) (o : Overflow) : Type 0 where
   -- the form of an atom among the subterms, before it begins
-  forming : l ≡ 0 → es ≡ [] → StrainsForm (subterms_in p) o → IsStrained p l es o
+  forming : l ≡ 0 → es ≡ [] → OverflowsForm (subterms_in p) o → IsOverflowed p l es o
   -- the orders of an equality among the terms of which the search speaks, before it begins
-  ordering : l ≡ 0 → es ≡ [] → IsOverflowAmong (whole_terms p) o → IsStrained p l es o
+  ordering : l ≡ 0 → es ≡ [] → IsOverflowAmong (whole_terms p) o → IsOverflowed p l es o
   -- an operation of simplex over these terms, where it is stopped after these exchanges, in few runs
-  reckoning : (s : Standing) (runs : ℕ) → IsStoppedAt (whole_terms p) runs es s → AreFewRuns (whole_terms p) l runs
-      → StrainsAt (whole_terms p) s o → IsStrained p l es o
+  reckoning : (s : TermTableau) (runs : ℕ) → IsStoppedAt (whole_terms p) runs es s → AreFewRuns (whole_terms p) l runs
+      → OverflowsAt (whole_terms p) s o → IsOverflowed p l es o
 
 -- The budget of n exchanges is spent on these, and a further one is needed where they lead, under some bounds that literals state. So many
 -- clauses are learned.
@@ -41,7 +41,7 @@ pub record ArePivotsSpent (p : Problem) (n l : ℕ) (es : List (ℕ × ℕ)) : T
   -- so many were made
   pub count : length es ≡ n
   -- they lead here, in few runs
-  pub standing : Standing
+  pub standing : TermTableau
   pub runs : ℕ
   pub reached : IsReached (whole_terms p) runs es standing
   pub few : AreFewRuns (whole_terms p) l runs

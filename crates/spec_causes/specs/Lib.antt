@@ -1,5 +1,5 @@
 -- Why a check about numbers is not decided.
-pub mod Standing
+pub mod TermTableau
 pub mod Shared
 pub mod Bounds
 pub mod Reached

@@ -8,9 +8,9 @@ use Rattle.spec_tableaux.specs.Spaces.{Pair}
 use Rattle.spec_tableaux.specs.Rows.{Entry, Row}
 use Rattle.spec_tableaux.specs.Numbers.{Number, numbers}
 use Rattle.spec_strains.specs.Points.{Ranges}
-use Rattle.spec_strains.specs.Runs.{SettlesBelow, Ran, RanShort}
+use Rattle.spec_strains.specs.Runs.{UpdatesBelow, Ran, RanShort}
 use Rattle.spec_simplex.specs.Constraints.{Constraint, constraint_of, form_of}
-use Rattle.spec_causes.specs.Standing.{Standing, nothing_yet, owner_in, with_slack, with_sum, moved_to, state_in, AreEntriesOf}
+use Rattle.spec_causes.specs.TermTableau.{TermTableau, nothing_yet, owner_in, with_slack, with_sum, moved_to, state_in, AreEntriesOf}
 use Rattle.spec_causes.specs.Bounds.{AreBounds}
 
 -- The form is that of an atom among terms.
@@ -29,35 +29,35 @@ IsLonger gs = (g : Entry Number) → gs ≡ g ∷ [] → numbers.is_zero g.coeff
 
 -- Simplex comes to this over terms, where these exchanges were made in all its checks of bounds together, oldest first, each a leaving and
 -- an entering variable. Those of one check are a run, and there are no more runs than so many: an empty one may be counted or not.
-pub data IsReached (ts : List Term) : ℕ → List (ℕ × ℕ) → Standing → Type 0 where
+pub data IsReached (ts : List Term) : ℕ → List (ℕ × ℕ) → TermTableau → Type 0 where
   -- it begins with nothing
   beginning : IsReached ts 0 [] nothing_yet
   -- a variable comes for a term of an atom's form for which none stands yet
-  naming : (n : ℕ) (es : List (ℕ × ℕ)) (s : Standing) → IsReached ts n es s
+  naming : (n : ℕ) (es : List (ℕ × ℕ)) (s : TermTableau) → IsReached ts n es s
       → (f : Form) → IsFormAmong ts f → (u : Term) (k : Fraction) → Contains f.variables (u, k)
       → ((y : ℕ) → owner_in s.owners y ≡ Some u → ⊥) → IsReached ts n es (with_slack s u)
   -- a row comes for the variables of an atom's form that is no multiple of one
-  summing : (n : ℕ) (es : List (ℕ × ℕ)) (s : Standing) → IsReached ts n es s
+  summing : (n : ℕ) (es : List (ℕ × ℕ)) (s : TermTableau) → IsReached ts n es s
       → (f : Form) → IsFormAmong ts f → (gs : List (Entry Number)) → AreEntriesOf s.owners gs f.variables
       → IsLonger gs → IsReached ts n es (with_sum s gs)
   -- a check goes to these bounds, and makes no exchange: no run is counted
-  resting : (n : ℕ) (es : List (ℕ × ℕ)) (s : Standing) → IsReached ts n es s
+  resting : (n : ℕ) (es : List (ℕ × ℕ)) (s : TermTableau) → IsReached ts n es s
       → (ranges : Ranges) → AreBounds ts s ranges → (rs : List (Row Number)) (vs : List (Pair Number))
       → length vs ≡ length s.values → Ran ranges (state_in s) (state_in (moved_to s rs vs)) es es → IsReached ts n es (moved_to s rs vs)
   -- a check goes to these bounds, and then makes a run of exchanges, as the rule says: one is counted
-  checking : (n : ℕ) (old new : List (ℕ × ℕ)) (s : Standing) → IsReached ts n old s
+  checking : (n : ℕ) (old new : List (ℕ × ℕ)) (s : TermTableau) → IsReached ts n old s
       → (ranges : Ranges) → AreBounds ts s ranges → (rs : List (Row Number)) (vs : List (Pair Number))
       → length vs ≡ length s.values → Ran ranges (state_in s) (state_in (moved_to s rs vs)) old new → IsReached ts (suc n) new (moved_to s rs vs)
 
 -- It is stopped there: with all its exchanges made, or in a step of a check.
-pub data IsStoppedAt (ts : List Term) : ℕ → List (ℕ × ℕ) → Standing → Type 0 where
+pub data IsStoppedAt (ts : List Term) : ℕ → List (ℕ × ℕ) → TermTableau → Type 0 where
   -- with all its exchanges made
-  between : (n : ℕ) (es : List (ℕ × ℕ)) (s : Standing) → IsReached ts n es s → IsStoppedAt ts n es s
+  between : (n : ℕ) (es : List (ℕ × ℕ)) (s : TermTableau) → IsReached ts n es s → IsStoppedAt ts n es s
   -- in a check, on its way to the bounds that nonbasic variables violate
-  settling : (n : ℕ) (es : List (ℕ × ℕ)) (s : Standing) → IsReached ts n es s
+  updating_nonbasic : (n : ℕ) (es : List (ℕ × ℕ)) (s : TermTableau) → IsReached ts n es s
       → (ranges : Ranges) → AreBounds ts s ranges → (m : ℕ) (rs : List (Row Number)) (vs : List (Pair Number))
-      → length vs ≡ length s.values → SettlesBelow ranges m (state_in s) (state_in (moved_to s rs vs)) → IsStoppedAt ts n es (moved_to s rs vs)
+      → length vs ≡ length s.values → UpdatesBelow ranges m (state_in s) (state_in (moved_to s rs vs)) → IsStoppedAt ts n es (moved_to s rs vs)
   -- in a check, where the rule says a further exchange, which is kept before it is made
-  exchanging : (n : ℕ) (old new : List (ℕ × ℕ)) (s : Standing) → IsReached ts n old s
+  exchanging : (n : ℕ) (old new : List (ℕ × ℕ)) (s : TermTableau) → IsReached ts n old s
       → (ranges : Ranges) → AreBounds ts s ranges → (rs : List (Row Number)) (vs : List (Pair Number))
       → length vs ≡ length s.values → RanShort ranges (state_in s) (state_in (moved_to s rs vs)) old new → IsStoppedAt ts (suc n) new (moved_to s rs vs)

@@ -12,8 +12,8 @@ use Rattle.spec_tableaux.specs.Numbers.{Number, numbers}
 use Rattle.spec_strains.specs.Deltas.{delta_added}
 use Rattle.spec_strains.specs.Deltas as exact
 use Rattle.spec_strains.specs.Points.{deltas, point_in, delta_in}
-use Rattle.spec_strains.specs.Strains.{StrainsValue}
-use Rattle.spec_causes.specs.Standing.{Standing, owner_in, IsEntryOf}
+use Rattle.spec_strains.specs.CheckOverflows.{OverflowsValue}
+use Rattle.spec_causes.specs.TermTableau.{TermTableau, owner_in, IsEntryOf}
 
 -- A term of sort Real is shared among terms: functions and arithmetic both speak of it.
 pub data IsSharedAmong (ts : List Term) : Term → Type 0 where
@@ -36,13 +36,13 @@ pub data AreOwnedEntries (owners : List (Option Term)) : List (Entry Number) →
       → AreOwnedEntries owners es xs → AreOwnedEntries owners es (x ∷ xs)
 
 -- The sum of terms with coefficients where simplex stands. One for which no variable of simplex stands counts as 0.
-pub record IsSumAt (s : Standing) (xs : List (Term × Fraction)) (p : Pair Number) : Type 0 where
+pub record IsSumAt (s : TermTableau) (xs : List (Term × Fraction)) (p : Pair Number) : Type 0 where
   pub entries : List (Entry Number)
   pub are : AreOwnedEntries s.owners entries xs
   pub is : p ≡ sum_of deltas (point_in s.values) entries
 
 -- The value of a term where simplex stands: the sum of its form's variables, and the constant.
-pub record IsValueOf (s : Standing) (u : Term) (p : Pair Number) : Type 0 where
+pub record IsValueOf (s : TermTableau) (u : Term) (p : Pair Number) : Type 0 where
   pub form_of : Form
   pub has : form u ≡ Ok form_of
   pub sum : Pair Number
@@ -52,35 +52,35 @@ pub record IsValueOf (s : Standing) (u : Term) (p : Pair Number) : Type 0 where
   pub is : p ≡ deltas.plus sum (record { base = constant; tilt = numbers.zero })
 
 -- these are values of those terms, in order
-abbrev pub AreValuesOf : Standing → List Term → List (Pair Number) → Type 0
+abbrev pub AreValuesOf : TermTableau → List Term → List (Pair Number) → Type 0
 AreValuesOf s [] [] = Unit {0}
 AreValuesOf s (u ∷ us) (p ∷ ps) = IsValueOf s u p × AreValuesOf s us ps
 AreValuesOf s _ _ = ⊥
 
 -- The sum of terms with coefficients comes to the overflow o.
-pub record StrainsSumAt (s : Standing) (xs : List (Term × Fraction)) (o : Overflow) : Type 0 where
+pub record OverflowsSumAt (s : TermTableau) (xs : List (Term × Fraction)) (o : Overflow) : Type 0 where
   pub entries : List (Entry Number)
   pub are : AreOwnedEntries s.owners entries xs
-  pub strains : StrainsValue (point_in s.values) entries o
+  pub may_overflow : OverflowsValue (point_in s.values) entries o
 
 -- The value of a term comes to the overflow o.
-pub data StrainsTerm (s : Standing) (u : Term) (o : Overflow) : Type 0 where
+pub data OverflowsTerm (s : TermTableau) (u : Term) (o : Overflow) : Type 0 where
   -- its form does
-  in_form : (fault : Fault) → form u ≡ Err fault → fault.overflow ≡ o → StrainsTerm s u o
+  in_form : (fault : Fault) → form u ≡ Err fault → fault.overflow ≡ o → OverflowsTerm s u o
   -- the sum of the form's variables does
-  in_sum : (f : Form) → form u ≡ Ok f → StrainsSumAt s f.variables o → StrainsTerm s u o
+  in_sum : (f : Form) → form u ≡ Ok f → OverflowsSumAt s f.variables o → OverflowsTerm s u o
   -- this sum and the constant do
   by_constant : (f : Form) → form u ≡ Ok f → (sum : Pair Number) → IsSumAt s f.variables sum
-      → delta_added (delta_in sum) (exact.number f.constant) ≡ Err o → StrainsTerm s u o
+      → delta_added (delta_in sum) (exact.number f.constant) ≡ Err o → OverflowsTerm s u o
 
 -- It is the value of a term that is shared among terms.
-pub record IsSharedValue (ts : List Term) (s : Standing) (p : Pair Number) : Type 0 where
+pub record IsSharedValue (ts : List Term) (s : TermTableau) (p : Pair Number) : Type 0 where
   pub term : Term
   pub shared : IsSharedAmong ts term
   pub value : IsValueOf s term p
 
 -- so is each of these
-abbrev pub AreSharedValues : List Term → Standing → List (Pair Number) → Type 0
+abbrev pub AreSharedValues : List Term → TermTableau → List (Pair Number) → Type 0
 AreSharedValues ts s ps = (p : Pair Number) → Contains ps p → IsSharedValue ts s p
 
 -- no term is shared among terms

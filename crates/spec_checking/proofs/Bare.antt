@@ -138,7 +138,7 @@ atom_more s t b at Text n u e = absurd (answer (refused at BadShape) u e)
 atom_more s t b at Keyword n u e = absurd (answer (refused at BadShape) u e)
 atom_more s t b at word_kind n u e = absurd (answer (refused at Reserved) u e)
 
--- a new name may stand in a proof too
+-- a new name may be in a proof too
 name_again : (w : Setting) (taken : Name → Bool) (x : Word) (n : Name) → new_name w taken x ≡ Ok n → new_name proof taken x ≡ Ok n
 unfolding require
 name_again w taken x n e =

@@ -1,4 +1,4 @@
--- Each fault of a verdict stands in the proof's text, or at its end.
+-- Each fault of a verdict is in the proof's text, or at its end.
 use Rattle.std.proofs.Common.{◌≡◌, ◌≤◌, ◌<◌, ℕ, Bool, true, false, cond, List, [], ◌∷◌, ◌++◌, length, Some, inl, inr, refl, sym, ◌∙◌, subst, append_assoc, length-take, arith}
 use Rattle.std.specs.Prelude.{codes}
 use Rattle.std.specs.Str.{bytes_eq}
@@ -16,9 +16,9 @@ use Rattle.spec_proofs.specs.Faults.{Fault}
 use Rattle.spec_checking.specs.Commands.{known_at}
 use Rattle.spec_proofs.specs.Texts.{behind_unsat, begins_listed, Ending, complete, broken, left_over, EndsRow, EndsBehind, EndsList, AreCommands, proof_lexemes, ending_fault}
 use Rattle.spec_checking.specs.Accepted.{IsJudged, IsVerdict, no_such_check}
-use Rattle.spec_checking.proofs.Offsets.{first_stands}
+use Rattle.spec_checking.proofs.Offsets.{first_within}
 
--- that trees stand in their text, and first faults
+-- that trees are in their text, and first faults
 abbrev pub TreesLaw : Type 0
 TreesLaw = (text : List ℕ) (at : ℕ) (earlier rest : List (ℕ × Lexeme)) (ts : Trees) → lexemes_from text at ≡ earlier ++ (spelled_all ts ++ rest) → AllOffsetsOf (λ n. (at ≤ n) × (n < length text)) ts
 
@@ -120,7 +120,7 @@ module _ (trees_law : TreesLaw) (faults_law : FaultsLaw) (text : List ℕ) where
   pub judged_in : (c : Check) (f : Fault) → IsJudged c text (Some f) → IsIn f.offset
   judged_in c f j =
       let inside = commands_in (begins_listed (proof_lexemes text)) (proof_lexemes text) j.commands j.ending (behind_word all) j.read in
-      first_stands IsIn (Some term_limit) (known_at c) (length text) (ending_fault (is_long text) j.ending) j.commands f (omega arith) (ending_in (is_long text) j.ending limit_in inside.1) inside.0 j.fault
+      first_within IsIn (Some term_limit) (known_at c) (length text) (ending_fault (is_long text) j.ending) j.commands f (omega arith) (ending_in (is_long text) j.ending limit_in inside.1) inside.0 j.fault
 
   pub verdict_in : (script : List ℕ) (k : ℕ) (f : Fault) → IsVerdict script k text (Some f) → IsIn f.offset
   verdict_in script k f (inl x) = judged_in x.0 f x.2

@@ -61,7 +61,7 @@ at_column column kind = Some (1, column, kind)
 abbrev pub behind_assume : List ℕ → List ℕ
 behind_assume text = codes "(assume h1 p)\n" ++ text
 
--- words and names may stand between bars, and a command's name is any symbol
+-- words and names may be between bars, and a command's name is any symbol
 pub names_of_commands : unread (codes "(|assume| |h1| |p|)(|step| t1 (|cl| p) :rule |weakening| :premises (h1))" ∷ codes "(assume and p)(assume @x p)(step .y (cl p) :rule reordering :premises (and))" ∷ []) ≡ None ∷ None ∷ []
 unfolding proofs_on_literals read_commands
 names_of_commands = refl

@@ -50,7 +50,7 @@ pub asserted_there : known.asserted ≡ p ∷ negated p ∷ []
 unfolding proofs_on_literals
 asserted_there = refl
 
--- what stands in the first list
+-- what is in the first list
 abbrev pub first_items : Trees → Trees
 first_items none = none
 first_items (more (atom at k n) ts) = first_items ts

@@ -54,19 +54,19 @@ unfoldable mutual
   named_in_all none = []
   named_in_all (more t ts) = named_in t ++ named_in_all ts
 
--- one of the words stands at an offset
-abbrev pub one_stands_at : List Word → ℕ → Bool
-one_stands_at [] at = false
-one_stands_at (w ∷ ws) at = w.at == at || one_stands_at ws at
+-- one of the words is at an offset
+abbrev pub one_is_at : List Word → ℕ → Bool
+one_is_at [] at = false
+one_is_at (w ∷ ws) at = w.at == at || one_is_at ws at
 
--- what a fault of a text is in a proof, by whether it stands at a name that is given to a term: that this is known already has a kind of its own
+-- what a fault of a text is in a proof, by whether it is at a name that is given to a term: that this is known already has a kind of its own
 abbrev pub kind_by : Bool → TextFault → ProofKind
 kind_by true Twice = TwiceName
 kind_by given f = term_kind f
 
 -- the fault of a text in a proof, where words are the names that are given to terms
 abbrev pub fault_among : List Word → Located → Fault
-fault_among words f = fault_at f.offset (kind_by (one_stands_at words f.offset) f.fault)
+fault_among words f = fault_at f.offset (kind_by (one_is_at words f.offset) f.fault)
 
 -- what is read of a text, where words are the names that are given to terms
 unfoldable pub in_proof : {A : Type 0} → List Word → Answer A → Read A
@@ -127,7 +127,7 @@ unfoldable pub premises_of : Known → Trees → Read (List Clause)
 premises_of k none = Ok []
 premises_of k (more t ts) = premise_of k t >>= λ c. premises_of k ts >>= λ cs. Ok (c ∷ cs)
 
--- a command by its shape, which stands at an offset, within a limit
+-- a command by its shape, which is at an offset, within a limit
 unfoldable pub read_shape : Option ℕ → Known → ℕ → Shape → Read Command
 read_shape limit k at (assumes h t) = do
   n ← fresh_name k h

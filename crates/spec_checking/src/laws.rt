@@ -107,9 +107,9 @@ pub fn satisfied_scripts_have_a_model()
     spec_sorts::values_have_their_terms_sort();
 }
 
-/// States that the fault of a command of a proof stands at the offset of one of its atoms or lists: that of reading it,
+/// States that the fault of a command of a proof is at the offset of one of its atoms or lists: that of reading it,
 /// and that of a command that is read and is not right.
-pub fn faults_stand_in_their_command()
+pub fn faults_are_in_their_command()
     ensures reading { (limit : Option ℕ) (k : Known) (t : Tree) (f : Fault) → command_of limit k t ≡ Err f
         → HasOffset t f.offset }
     ensures judging { (limit : Option ℕ) (k : Known) (t : Tree) (c : Command) → command_of limit k t ≡ Ok c
@@ -117,12 +117,12 @@ pub fn faults_stand_in_their_command()
 {}
 
 /// States that the fault of a verdict lies in the proof, or at its end.
-pub fn faults_stand_in_their_proof()
+pub fn faults_are_in_their_proof()
     ensures { (script proof : List ℕ) (k : ℕ) (f : Fault) → IsVerdict script k proof (Some f)
         → f.offset ≤ length proof }
 {
-    spec_text::laws::trees_stand_in_their_text();
-    spec_text::laws::lexical_faults_stand_in_their_text();
+    spec_text::laws::trees_are_in_their_text();
+    spec_text::laws::lexical_faults_are_in_their_text();
 }
 
 /// States that goodness is not asked in vain. Where no truths of the terms below negations make true what a check asks

@@ -167,7 +167,7 @@ module _ (limit : ℕ) where
       let a = went (command_of t) _ d e in
       performed_kept (offset_of t) s a.first d a.then h
 
-  -- and so is what stands at a check
+  -- and so is what is at a check
   this_kept : (s : Stack) (assumptions : List Assertion) (k : ℕ) (rest : ℕ → Option Check) (c : Check) → IsSoundStack limit s → this_or (record { stack = s; assumptions = assumptions }) k rest ≡ Some c → ((n : ℕ) → rest n ≡ Some c → IsSoundStack limit c.stack) → IsSoundStack limit c.stack
   this_kept s assumptions zero rest c h e later = later zero e
   this_kept s assumptions (suc zero) rest c h e later = let same : record { stack = s; assumptions = assumptions } ≡ c = cc in subst (λ (x : Check). IsSoundStack limit x.stack) same h

@@ -181,7 +181,7 @@ pub misshapen_exit : count_at 1 (codes "(exit 1)(check-sat)") ≡ Some 0
 unfolding commands_on_literals
 misshapen_exit = refl
 
--- names stand in the order of their declaration: those of annotations before the definition that has them, and none of a refused command
+-- names are in the order of their declaration: those of annotations before the definition that has them, and none of a refused command
 pub names_in_order : names_at 1 (codes "(declare-sort U 0)(declare-const p Bool)(define-sort V () U)(assert (! (and (! p :named n) n) :named m))(assert (and (! p :named k) zz))(define-fun f ((x V)) Bool (! p :named j))(check-sat)") ≡ (Some ((0, codes "U") ∷ (0, codes "p") ∷ (0, codes "V") ∷ (0, codes "n") ∷ (0, codes "m") ∷ (0, codes "j") ∷ (0, codes "f") ∷ []))
 unfolding commands_on_literals
 names_in_order = refl

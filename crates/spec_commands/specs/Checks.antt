@@ -9,7 +9,7 @@ use Rattle.spec_sorts.specs.Signatures.{Signature, symbols_in}
 use Rattle.spec_sorts.specs.Meaning.{value_under}
 use Rattle.spec_commands.specs.Stack.{Assertion, Stack, Effect, check, leave, Taken, empty_stack, signature_of, assertions_of, step}
 
--- A check: what stands there, and what it assumes beside that.
+-- A check: what is there, and what it assumes beside that.
 pub record Check : Type 0 where
   -- the stack
   pub stack : Stack

@@ -174,7 +174,7 @@ echo ts = do
 abbrev pub alone : Command → Trees → Option Command
 alone c ts = no_tree ts >>= λ end. Some c
 
--- a command by its word, which stands at an offset
+-- a command by its word, which is at an offset
 abbrev pub command_by : Verb → ℕ → Trees → Option Command
 command_by sets_logic place ts = set_logic ts
 command_by sets_option place ts = set_option ts

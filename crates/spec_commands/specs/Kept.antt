@@ -24,7 +24,7 @@ pub record WasRead (s : Signature) (a : Assertion) : Type 0 where
   -- the names before it, those that it made, and the others are those of the signature
   pub names : s ≡ with_definitions before found.made ++ after
 
--- an assertion as it stands under a signature and a limit
+-- an assertion as it is under a signature and a limit
 pub record IsAsserted (limit : ℕ) (s : Signature) (a : Assertion) : Type 0 where
   -- its term is that of its text
   pub read : WasRead s a

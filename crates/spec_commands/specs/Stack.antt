@@ -1,4 +1,4 @@
--- What stands after commands, and what they answer. Source: SMT-LIB 2.6, sections 4.1.4 and 4.2; the order of faults and the limits are own.
+-- What is after commands, and what they answer. Source: SMT-LIB 2.6, sections 4.1.4 and 4.2; the order of faults and the limits are own.
 use Rattle.std.specs.Prelude.{ℕ, suc, Bool, true, false, not, List, [], ◌∷◌, ◌++◌, map, Option, Some, None, Ok, codes, if◌then◌else◌}
 use Rattle.std.specs.Str.{bytes_eq}
 use Rattle.spec_text.specs.declared.Fault.TheVariants.{BadShape, Reserved, UnknownLogic, WrongMode, Full}
@@ -17,7 +17,7 @@ use Rattle.spec_commands.specs.Commands.{Command, SetLogic, SetOption, SetInfo, 
 
 -- An asserted expression: its text, and the term that it is read as.
 pub record Assertion : Type 0 where
-  -- the text as it stands in the script
+  -- the text as it is in the script
   pub text : Tree
   -- the term that it is read as
   pub term : Term
@@ -155,14 +155,14 @@ pub data Effect : Type 0 where
 pub record Taken : Type 0 where
   -- the answer
   pub effect : Effect
-  -- what stands after it
+  -- what is after it
   pub stack : Stack
 
 -- what is done, with what it leaves
 abbrev pub did : Stack → Taken
 did s = record { effect = done; stack = s }
 
--- an option set to a value: one that is not known changes nothing, whatever the value is; the command stands at an offset
+-- an option set to a value: one that is not known changes nothing, whatever the value is; the command is at an offset
 abbrev pub option_set : ℕ → Stack → Option Key → Option Bool → Answer Taken
 option_set at s (Some k) (Some b) = Ok (did (record s { options = with_option k b s.options }))
 option_set at s (Some k) None = refused at BadShape

@@ -1,4 +1,4 @@
-//! Definitions about scripts of the whole language: the commands by their shape, what stands after them, their first
+//! Definitions about scripts of the whole language: the commands by their shape, what is after them, their first
 //! faults, and what is current at a check.
 //!
 //! Nothing here runs. The functions with empty bodies are laws: what they ensure is proved of the definitions in
@@ -18,13 +18,13 @@ ghost use Rattle.spec_commands.specs.Stack.{Assertion, Stack, check, Taken, empt
 ghost use Rattle.spec_commands.specs.Checks.{Check, asked, IsCurrent, HasNoCheck};
 ghost use Rattle.spec_commands.specs.Kept.{IsSoundStack};
 
-/// States that the fault of a command of a script stands at the offset of one of its atoms or lists.
-pub fn faults_stand_in_their_command()
+/// States that the fault of a command of a script is at the offset of one of its atoms or lists.
+pub fn faults_are_in_their_command()
     ensures { (limit : ℕ) (s : Stack) (t : Tree) (f : Located) → step limit s t ≡ Err f → HasOffset t f.offset }
 {}
 
 /// States that a command of a script asks for a check at the offset of one of its atoms or lists.
-pub fn checks_stand_in_their_command()
+pub fn checks_are_in_their_command()
     ensures { (limit : ℕ) (s : Stack) (t : Tree) (d : Taken) (place : ℕ) (assumptions : List Assertion)
         → step limit s t ≡ Ok d → d.effect ≡ check place assumptions → HasOffset t place }
 {}

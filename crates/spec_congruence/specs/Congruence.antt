@@ -9,7 +9,7 @@ abbrev pub truth_term : Bool → Term
 truth_term true = of True []
 truth_term false = of False []
 
--- the literal that a term is, as it stands or negated
+-- the literal that a term is, as it is or negated
 abbrev pub signed_literal : Term → Bool → Literal
 signed_literal t b = record { atom = t; positive = b }
 

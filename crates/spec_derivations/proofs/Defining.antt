@@ -15,7 +15,7 @@ use Rattle.spec_derivations.proofs.Over.{base_over, bare_among}
 module _ (us : List Term) (closed : IsClosed us) (equalities : (w u : Term) → Contains us w → Contains (branch_equalities w) u → Contains us u) where
   -- a check that asserts all of them: a clause of rules without premises that one gives, and one that is a term alone, are base clauses of it
   abbrev wide : Problem
-  wide = record { asserted = us; assumed = []; beside = [] }
+  wide = record { asserted = us; assumed = []; interface = [] }
 
   same : terms_of_problem wide ≡ us
   same = append-nil us

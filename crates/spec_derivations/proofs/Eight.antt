@@ -31,8 +31,8 @@ abbrev two_open : List Literal → List Literal → Bool
 two_open held [] = false
 two_open held (m ∷ ms) = (open_at held m && list_any (λ n. open_at held n && not (same_literal m n)) ms) || two_open held ms
 
-abbrev settled : List Literal → List Literal → Bool
-settled held clause = list_any (has held) clause || two_open held clause
+abbrev inert : List Literal → List Literal → Bool
+inert held clause = list_any (has held) clause || two_open held clause
 
 either : (p q : Bool) → p || q ≡ true → (p ≡ true) ⊎ (q ≡ true)
 either true q e = inl refl
@@ -55,8 +55,8 @@ two_are held (m ∷ ms) e = elim (either _ _ e) [
   | inr rest ↦ let r = two_are held ms rest in (r.0, r.1, later m ms r.0 r.2, later m ms r.1 r.3, r.4, r.5, r.6)
 ]
 
-settled_is : (held clause : List Literal) → settled held clause ≡ true → ImpliesNothing complement held clause
-settled_is held clause e = elim (either _ _ e) [
+inert_is : (held clause : List Literal) → inert held clause ≡ true → ImpliesNothing complement held clause
+inert_is held clause e = elim (either _ _ e) [
   | inl h ↦ let x = Any-from_list_any (has held) clause h in inl (x.1, (x.0, x.2, x.3), has_there held x.1 x.4)
   | inr h ↦ inr (two_are held clause h)
 ]
@@ -64,11 +64,11 @@ settled_is held clause e = elim (either _ _ e) [
 -- a test of each clause
 abbrev quiet : List Literal → List (List Literal) → Bool
 quiet held [] = true
-quiet held (x ∷ xs) = settled held x && quiet held xs
+quiet held (x ∷ xs) = inert held x && quiet held xs
 
 quiet_all : (held : List Literal) (xs : List (List Literal)) → quiet held xs ≡ true → AllByRecursion (ImpliesNothing complement held) xs
 quiet_all held [] e = tt
-quiet_all held (x ∷ xs) e = let p = and_parts (settled held x) (quiet held xs) e in (settled_is held x p.0, quiet_all held xs p.1)
+quiet_all held (x ∷ xs) e = let p = and_parts (inert held x) (quiet held xs) e in (inert_is held x p.0, quiet_all held xs p.1)
 
 quiet_is : (held : List Literal) (xs : List (List Literal)) → quiet held xs ≡ true → IsQuiet complement xs held
 quiet_is held xs e x x_in = All-contains (ImpliesNothing complement held) xs x (All-from_recursion (ImpliesNothing complement held) xs (quiet_all held xs e)) x_in

@@ -29,8 +29,8 @@ module _ {L : Type 0} (negation : L → L) (decide : (l m : L) → (l ≡ m) ⊎
   ]
 
 -- a settled clause more
-pub settled_keeps : {L : Type 0} (negation : L → L) (premises : List (List L)) (held : List L) (c : List L) → IsQuiet negation premises held → ImpliesNothing negation held c → IsQuiet negation (premises ++ c ∷ []) held
-settled_keeps negation premises held c quiet s d d_in = elim (Contains-push_cases premises c d d_in) [ inl old ↦ quiet d old | inr e ↦ subst (λ x. ImpliesNothing negation held x) e s ]
+pub inert_keeps : {L : Type 0} (negation : L → L) (premises : List (List L)) (held : List L) (c : List L) → IsQuiet negation premises held → ImpliesNothing negation held c → IsQuiet negation (premises ++ c ∷ []) held
+inert_keeps negation premises held c quiet s d d_in = elim (Contains-push_cases premises c d d_in) [ inl old ↦ quiet d old | inr e ↦ subst (λ x. ImpliesNothing negation held x) e s ]
 
 -- fewer clauses
 pub quiet_fewer : {L : Type 0} (negation : L → L) (more fewer : List (List L)) (held : List L) → ((c : List L) → Contains fewer c → Contains more c) → IsQuiet negation more held → IsQuiet negation fewer held

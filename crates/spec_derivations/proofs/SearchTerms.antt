@@ -93,7 +93,7 @@ facts_bare =
 
 -- Why a search speaks of a term.
 pub data IsSpoken (p : Problem) : Term → Type 0 where
-  -- it is a subterm of the check's terms, or of those beside them
+  -- it is a subterm of the check's terms, or of the interface equalities
   below : (u : Term) → Contains (known_subterms p) u → IsSpoken p u
   -- or of the two facts
   of_facts : (u : Term) → Contains (subterms_of truth_facts) u → IsSpoken p u
@@ -150,7 +150,7 @@ module _ (p : Problem) where
   -- the check's subterms are among them
   pub subterms_known : AreAmong (subterms_in p) (known_subterms p)
   subterms_known = (least_of (terms_of_problem p)).least (known_subterms p)
-      (λ t i. (least_of (known_terms p)).there t (Contains-append_right p.beside (terms_of_problem p) t i)) (closed_in (known_terms p))
+      (λ t i. (least_of (known_terms p)).there t (Contains-append_right p.interface (terms_of_problem p) t i)) (closed_in (known_terms p))
 
   pub subterms_spoken : AreAmong (subterms_in p) (search_terms p)
   subterms_spoken t i = known_spoken t (subterms_known t i)

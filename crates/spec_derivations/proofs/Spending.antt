@@ -80,7 +80,7 @@ given_r = unit with_r (is r) (0, omega arith, refl) (2, omega arith, refl) (λ m
 conflict : Conflicts complement (with_r ∷ without_r ∷ []) both
 conflict = false_clause without_r (1, omega arith, refl) (λ m m_in. All-contains (λ n. Given (complement n)) without_r m (All-from_recursion (λ n. Given (complement n)) without_r (given_p, (given_q, (given_r, tt)))) m_in)
 
--- the premises of its steps stand before them
+-- the premises of its steps are before them
 opened : All (λ n. n < 2) (0 ∷ [])
 opened = All-from_recursion (λ n. n < 2) (0 ∷ []) (omega arith, tt)
 

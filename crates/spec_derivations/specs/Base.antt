@@ -28,7 +28,7 @@ abbrev pub choice_clauses : Term → List Clause
 choice_clauses (app Ite (cons c (cons s (cons t nil)))) = if same_sort Truth (sort_of s) then [] else (negated c ∷ pair Equal (app Ite (cons c (cons s (cons t nil)))) s ∷ []) ∷ (c ∷ pair Equal (app Ite (cons c (cons s (cons t nil)))) t ∷ []) ∷ []
 choice_clauses t = []
 
--- the terms that a search speaks of: those of the check and those beside them, the two equalities, and those of the choices in these
+-- the terms that a search speaks of: those of the check and the interface equalities, the two equalities, and those of the choices in these
 abbrev pub spoken_terms : Problem → List Term
 spoken_terms p = known_terms p ++ (truth_facts ++ flat_map branch_equalities (known_subterms p))
 

@@ -11,13 +11,13 @@ use Rattle.spec_derivations.specs.Derivations.{Derivation, assumption, by_rule}
 
 -- terms that are asserted, with others beside them
 abbrev pub speaking : List Term → List Term → Problem
-speaking ts bs = record { asserted = ts; assumed = []; beside = bs }
+speaking ts bs = record { asserted = ts; assumed = []; interface = bs }
 
 -- without others
 abbrev pub asserting : List Term → Problem
 asserting ts = speaking ts []
 
--- the disjunction of the constants, each as it stands or negated
+-- the disjunction of the constants, each as it is or negated
 abbrev pub one_of : Bool → Bool → Bool → Term
 one_of i j k = of Or (signed_term i p ∷ signed_term j q ∷ signed_term k r ∷ [])
 

@@ -18,7 +18,7 @@ pub record IsLearnedFrom (p : Problem) (d : Derivation) (clause : List Literal) 
 
 -- What a literal of a learned clause may be over.
 pub data IsAtomOf (p : Problem) : Term → Type 0 where
-  -- a subterm of sort Bool, of the check's terms or of those beside them, other than the truth values
+  -- a subterm of sort Bool, of the check's terms or of the interface equalities, other than the truth values
   subterm : (t : Term) → Contains (known_subterms p) t → sort_of t ≡ Truth → t ≢ of True [] → t ≢ of False [] → IsAtomOf p t
   -- the equality of a choice between terms of another sort with the first of them
   with_first : (c s t : Term) → Contains (known_subterms p) (of Ite (c ∷ s ∷ t ∷ [])) → sort_of s ≢ Truth → IsAtomOf p (pair Equal (of Ite (c ∷ s ∷ t ∷ [])) s)

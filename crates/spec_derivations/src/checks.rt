@@ -16,10 +16,10 @@ use crate::laws::derivations_are_sound;
 /// States that a check has no model where the empty clause is derived from its terms. The derivation's clauses have
 /// formulas over the declared symbols. So where a search has derived that clause, `unsat` is right.
 pub fn derived_empty_clauses_leave_no_model()
-    ensures { (limit : ℕ) (script : List ℕ) (k : ℕ) (c : Check) (beside : List Term) (d : Derivation) (n : ℕ)
+    ensures { (limit : ℕ) (script : List ℕ) (k : ℕ) (c : Check) (interface : List Term) (d : Derivation) (n : ℕ)
         → IsCurrent limit script k c → IsDerivation d
         → All (λ x. All (IsFormulaOver (symbols_in (signature_of c.stack))) (conclusion x)) d
-        → IsDerivedFrom (terms_of_problem (problem_of c beside)) d n → conclusion_at d n ≡ []
+        → IsDerivedFrom (terms_of_problem (problem_of c interface)) d n → conclusion_at d n ≡ []
         → HasNoModel limit script k }
 {
     derivations_are_sound();

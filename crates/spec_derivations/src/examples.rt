@@ -33,7 +33,7 @@ pub fn base_clauses_are_stated()
     ensures assumed { base_clauses (record {
       asserted = [];
       assumed = p_or_not_q ∷ [];
-      beside = p_then_q_else_r ∷ [];
+      interface = p_then_q_else_r ∷ [];
     })
         ≡ (negated p_or_not_q ∷ p ∷ negated q ∷ [])
         ∷ (p_or_not_q ∷ negated p ∷ [])
@@ -71,9 +71,9 @@ pub fn order_clauses_are_stated()
     ensures orders { order_clauses (pair AtMost a b) ≡ [] }
 {}
 
-/// States what a search speaks of where a term stands beside those that are asserted: of it, and of the equalities of its
+/// States what a search speaks of where a term is beside those that are asserted: of it, and of the equalities of its
 /// choices. It is not asserted, so a constant brings no clause.
-pub fn terms_beside_are_spoken_of()
+pub fn interface_terms_are_spoken_of()
     ensures itself { Contains (search_terms (speaking [] (equals_chosen ∷ []))) equals_chosen }
     ensures choice { Contains (search_terms (speaking [] (equals_chosen ∷ []))) (of Equal (chosen ∷ a ∷ [])) }
     ensures no_clause { search_clauses (speaking [] (p ∷ [])) ≡ search_clauses (asserting []) }
@@ -83,7 +83,7 @@ pub fn terms_beside_are_spoken_of()
 /// choice between numbers with its first branch, and the orders of both. They speak of no truth value, and of no number as
 /// such.
 pub fn atoms_are_found()
-    ensures beside { IsAtomOf (speaking [] (p_or_not_q ∷ [])) p }
+    ensures interface { IsAtomOf (speaking [] (p_or_not_q ∷ [])) p }
     ensures choice { IsAtomOf (asserting (equals_chosen ∷ [])) (of Equal (chosen ∷ a ∷ [])) }
     ensures order { IsAtomOf (asserting (equals_chosen ∷ [])) (of AtMost (a ∷ chosen ∷ [])) }
     ensures no_truth_value { (k : Problem) → IsAtomOf k (of True []) → ⊥ }

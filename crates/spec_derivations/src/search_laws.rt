@@ -12,7 +12,7 @@ ghost use Rattle.spec_derivations.specs.Base.{search_terms, search_clauses};
 ghost use Rattle.spec_derivations.specs.Orders.{order_facts, whole_terms, whole_clauses};
 ghost use Rattle.spec_derivations.specs.Spent.{IsAtomOf};
 
-/// States which terms a search speaks of. They are the subterms of the check's terms, of those beside them and of the
+/// States which terms a search speaks of. They are the subterms of the check's terms, of the interface equalities and of the
 /// two facts about truth values, and the equalities of choices with their branches. With a term its arguments are among
 /// them. Those of sort Bool that stand for themselves are atoms of the check, but for the truth values and the two
 /// facts. Of formulas over symbols they are well sorted.

@@ -1,4 +1,4 @@
--- Equalities that a step gives as reasons, and what follows from them. Source: Alethe specification, rules of equality; that a reason may stand in either direction is own.
+-- Equalities that a step gives as reasons, and what follows from them. Source: Alethe specification, rules of equality; that a reason may be in either direction is own.
 use Rattle.std.specs.Prelude.{◌≡◌, ◌≢◌, ◌⊎◌, ⊤, List, [], ◌∷◌, Option, Some, None, Contains}
 use Rattle.spec_sorts.specs.Terms.{Not, Equal, Term, app, nil, cons, list_of, pair}
 use Rattle.spec_sorts.specs.Literals.{Clause}

@@ -15,7 +15,7 @@ pub fn equality_rules_are_sound()
 {}
 
 /// States that of premises only those of one literal count, and how many there are. So where a premise has none or several, another
-/// that has none or several may stand in its place.
+/// that has none or several may be in its place.
 pub fn premises_count_by_their_one_literal()
     ensures { (rule : EqualityRule) (premises others : List Clause) (clause : Clause)
         → map alone premises ≡ map alone others → IsEquating rule premises clause → IsEquating rule others clause }

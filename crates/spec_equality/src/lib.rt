@@ -9,7 +9,7 @@ pub mod laws;
 mod rule_names;
 
 /// Names a rule of equality and functions by which a step follows. Which steps it takes says `IsEquating`. A reason is an
-/// equality that may stand in either direction. Source: Alethe specification, rules; the two of `ite` are own.
+/// equality that may be in either direction. Source: Alethe specification, rules; the two of `ite` are own.
 #[derive(Clone, Copy, Debug, PartialEq, Eq)]
 pub enum EqualityRule {
     /// `eq_reflexive`: a term is equal to itself.

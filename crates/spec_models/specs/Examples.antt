@@ -75,7 +75,7 @@ function = refl
 abbrev pub one_row : Interpretation
 one_row = record { table = λ n. record { rows = record { arguments = truth true ∷ []; value = element (codes "U") 0 } ∷ []; default = element (codes "U") 1 } }
 
--- its condition stands alone
+-- its condition is alone
 pub one_condition : model_text one_row (record { name = codes "g"; parameters = Truth ∷ []; result = Declared (codes "U") } ∷ []) ≡ codes "(\n  (define-fun g ((@x0 Bool)) U (ite (= @x0 true) (as @e0 U) (as @e1 U)))\n)\n"
 unfolding numeral
 one_condition = refl

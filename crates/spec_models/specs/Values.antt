@@ -44,7 +44,7 @@ numeral_tree n = atom 0 Numeral (numeral n)
 abbrev pub symbol_tree : Name → Tree
 symbol_tree n = atom 0 Quoted n
 
--- a symbol can have the name: bytes that may stand between bars
+-- a symbol can have the name: bytes that may be between bars
 abbrev pub IsName : Name → Type 0
 IsName n = Consists is_in_bars n
 

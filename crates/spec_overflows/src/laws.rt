@@ -9,7 +9,7 @@ ghost use Rattle.spec_arithmetic.specs.Forms.{Fault, form, difference};
 ghost use Rattle.spec_arithmetic.specs.Contradictions.{Coefficient, given, too_wide, wide, la_generic};
 ghost use Rattle.spec_tableaux.specs.Rows.{Entry, Row};
 ghost use Rattle.spec_tableaux.specs.Numbers.{Number};
-ghost use Rattle.spec_tableaux.specs.Strains.{Overflows, StrainsExchange, StrainsSum};
+ghost use Rattle.spec_tableaux.specs.CheckOverflows.{Overflows, OverflowsExchange, OverflowsSum};
 ghost use Rattle.spec_simplex.specs.Constraints.{Constraint, form_of};
 ghost use Rattle.spec_overflows.specs.Overflows.{IsOverflow};
 
@@ -47,10 +47,10 @@ pub fn numbers_fail_by_overflows()
     ensures quotient { (x y : Number) (o : Overflow) → Overflows divided x y o → IsOverflow o }
 {}
 
-/// States that where an exchange of two variables comes to an overflow, or a row more does, an operation leaves the
+/// States that where an pivot of two variables comes to an overflow, or a row more does, an operation leaves the
 /// bound.
 pub fn tableaux_fail_by_overflows()
-    ensures exchange { (rs : List (Row Number)) (b x : ℕ) (o : Overflow) → StrainsExchange rs b x o → IsOverflow o }
-    ensures row { (rs : List (Row Number)) (gs : List (Entry Number)) (o : Overflow) → StrainsSum rs gs o
+    ensures exchange { (rs : List (Row Number)) (b x : ℕ) (o : Overflow) → OverflowsExchange rs b x o → IsOverflow o }
+    ensures row { (rs : List (Row Number)) (gs : List (Entry Number)) (o : Overflow) → OverflowsSum rs gs o
         → IsOverflow o }
 {}

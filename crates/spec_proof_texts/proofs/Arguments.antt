@@ -53,7 +53,7 @@ pub record Knows (g : Signature) (told : Told) (s : Signature) : Type 0 where
   -- none has a parameter
   pub whole : (t : Term) → Contains told.terms t → filled [] t ≡ t
 
--- Terms among which those are that can stand in place.
+-- Terms among which those are that can be in place.
 pub record Holds (g : Signature) (told : Told) (us : List Term) : Type 0 where
   pub truths : (b : Bool) → Contains us (truth_term b)
   pub constants : (f : Symbol) → Contains (symbols_in g) f → Contains us (constant_term f)
@@ -159,7 +159,7 @@ module _ (g : Signature) (own : AreScriptNames g) (told : Told) where
         joined (reading w s [] (moved at (argument_tree a))) _ (plain_reading t) (record { made = []; terms = t ∷ ts }) (argument_read a t (head_same e) at)
         (joined (readings w (s ++ []) [] us) _ (record { made = []; terms = ts }) (record { made = []; terms = t ∷ ts }) (ap (λ x. readings w x [] us) (append-nil s) ∙ arguments_read items ts (tail_same e) next) refl)
 
-  -- they are among those that can stand in place
+  -- they are among those that can be in place
   module _ (us : List Term) (holds : Holds g told us) where
     pub argument_held : (a : Argument) (items : List Argument) (t : Term) → term_told g told a ≡ Some t → Contains (us ++ number_terms (a ∷ items)) t
     argument_held (truth b) items t e = Contains-append_left us (number_terms items) t (subst (Contains us) (same_Some _ _ e) (holds.truths b))

@@ -1,4 +1,4 @@
--- The numbers of what is marked, and what stands under them.
+-- The numbers of what is marked, and what is under them.
 use Rattle.std.proofs.Common.{◌≡◌, ℕ, zero, suc, ◌+◌, ◌<◌, Bool, true, false, ◌&&◌, List, [], ◌∷◌, ◌++◌, length, get_or, Option, Some, None, refl, sym, ap, ◌∙◌, subst, arith}
 use Rattle.std.specs.List.{slice_get}
 use Rattle.std.proofs.lemmas.Bool.{false≢true}
@@ -31,7 +31,7 @@ picked_same (b ∷ bs) [] x e = absurd (omega (arith, e))
 picked_same (true ∷ bs) (y ∷ xs) x e = ap (λ ys. y ∷ ys) (picked_same bs xs x (omega (arith, e)))
 picked_same (false ∷ bs) (y ∷ xs) x e = picked_same bs xs x (omega (arith, e))
 
--- a marked one stands under its number
+-- a marked one is under its number
 pub has_number : {A : Type 0} (n : ℕ) (bs : List Bool) (xs : List A) (j : ℕ) (x : A) → get_or bs j false ≡ true → slice_get xs j ≡ Some x → (i : ℕ) × (get_or (counted (suc n) bs) j None ≡ Some (suc (i + n))) × (slice_get (picked bs xs) i ≡ Some x)
 has_number n [] xs j x e h = absurd (false≢true e)
 has_number n (b ∷ bs) [] j x e h = absurd (none-some x h)
@@ -144,7 +144,7 @@ steps_more (true ∷ bs) (by_rule r ps given c ∷ xs) true (by_rule q us gs w) 
 steps_more (true ∷ bs) (by_rule r ps given c ∷ xs) false x e = ap (λ ys. c ∷ ys) (steps_more bs xs false x (omega (arith, e)))
 steps_more (false ∷ bs) (y ∷ xs) b x e = steps_more bs xs b x (omega (arith, e))
 
--- a marked inference stands under its number, among the assumes or among the steps
+-- a marked inference is under its number, among the assumes or among the steps
 abbrev pub IsNumbered : (h t : ℕ) → List Bool → Derivation → Option ℕ → Inference → Type 0
 IsNumbered h t bs xs number («assumption» u) = (i : ℕ) × (number ≡ Some (suc (i + h))) × (slice_get (assumes_of bs xs) i ≡ Some (u ∷ []))
 IsNumbered h t bs xs number (by_rule r ps given c) = (i : ℕ) × (number ≡ Some (suc (i + t))) × (slice_get (steps_of bs xs) i ≡ Some c)

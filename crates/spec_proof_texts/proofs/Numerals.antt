@@ -1,4 +1,4 @@
--- Each number that is printed stands in the text, as a numeral or a decimal at the least.
+-- Each number that is printed is in the text, as a numeral or a decimal at the least.
 use Rattle.std.proofs.Common.{◌≡◌, ℕ, zero, suc, ◌+◌, Bool, true, false, cond, List, [], ◌∷◌, ◌++◌, length, map, All, pos, negsuc, ℤ, refl, ap, arith}
 use Rattle.std.specs.Prelude.{◌≤◌, codes, nat_eq}
 use Rattle.spec_text.specs.declared.Kind.{Kind}
@@ -104,7 +104,7 @@ lines_counted (defines d ∷ ls) = omega (arith, arguments_counted d.arguments, 
 lines_counted (assumes n a ∷ ls) = omega (arith, arguments_counted (a ∷ []), lines_counted ls)
 lines_counted (steps s ∷ ls) = omega (arith, arguments_counted s.literals, lines_counted ls)
 
--- a text of lines has one reading, up to what numbers stand in it
+-- a text of lines has one reading, up to what numbers are in it
 pub text_counted : (lines : List Line) (commands : Trees) → All IsWritableLine lines → IsWholeText (proof_text lines) commands → numbers_in lines ≤ numerals_in commands
 text_counted lines commands h whole =
     let listed = begins_listed (all_lexemes (proof_text lines)) in

@@ -387,7 +387,7 @@ module _ (limit : ℕ) where
       let p = command_prints t a.first words a.was in
       performed_named limit (offset_of t) size (weight t) p.0 p.1 s a.first d p.2 a.then h
 
-  -- and so is what stands at a check
+  -- and so is what is at a check
   this_named : (size : ℕ) (s : Stack) (assumptions : List Assertion) (k : ℕ) (rest : ℕ → Option Check) (c : Check) → IsNamed size s → this_or (record { stack = s; assumptions = assumptions }) k rest ≡ Some c → ((n : ℕ) → rest n ≡ Some c → IsNamed size c.stack) → IsNamed size c.stack
   this_named size s assumptions zero rest c h e later = later zero e
   this_named size s assumptions (suc zero) rest c h e later = let same : record { stack = s; assumptions = assumptions } ≡ c = cc in subst (λ (x : Check). IsNamed size x.stack) same h

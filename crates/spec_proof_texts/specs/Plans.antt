@@ -13,12 +13,12 @@ pub record Plan : Type 0 where
   -- of the inferences, the numbers of their assumes and steps
   pub inferences : List (Option ℕ)
 
--- the number of a term, by the first place that it stands at
+-- the number of a term, by the first place that it is at
 abbrev pub number_of : List Term → List (Option ℕ) → Term → Option ℕ
 number_of (t ∷ ts) (n ∷ ns) u = if same_term t u then n else number_of ts ns u
 number_of _ _ u = None
 
--- a term without a number stands in place; no other head than these stands without arguments
+-- a term without a number is in place; no other head than these stands without arguments
 abbrev pub in_place : Term → Argument
 in_place (app True ts) = truth true
 in_place (app (Literal q) ts) = number q

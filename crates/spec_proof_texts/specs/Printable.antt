@@ -1,4 +1,4 @@
--- Derivations that can be printed: the terms that they need, in a row where each stands after its arguments, can be read under a signature.
+-- Derivations that can be printed: the terms that they need, in a row where each is after its arguments, can be read under a signature.
 use Rattle.std.specs.Prelude.{◌≡◌, ℕ, ◌<◌, true, List, Contains, Some, None}
 use Rattle.std.specs.List.{slice_get}
 use Rattle.spec_sorts.specs.Terms.{Truth, Head, Literal, Term, app, sort_of}
@@ -25,7 +25,7 @@ pub record IsPrintable (g : Signature) (t : Term) : Type 0 where
 pub record ArePrintable (g : Signature) (terms : List Term) (d : Derivation) (n : ℕ) : Type 0 where
   -- no term stands twice
   pub apart : (i j : ℕ) (t : Term) → slice_get terms i ≡ Some t → slice_get terms j ≡ Some t → i ≡ j
-  -- the arguments of each stand before it
+  -- the arguments of each are before it
   pub before : (k : ℕ) (t u : Term) → slice_get terms k ≡ Some t → Contains (arguments_of t) u → (j : ℕ) × (j < k) × (slice_get terms j ≡ Some u)
   -- each that is needed can be printed
   pub each : (t : Term) → IsPrinted d n t → IsPrintable g t

@@ -83,7 +83,7 @@ numerals_by Numeral = 1
 numerals_by Decimal = 1
 numerals_by k = 0
 
--- how many numbers are in what is read: each numeral and each decimal counts, as often as it stands there
+-- how many numbers are in what is read: each numeral and each decimal counts, as often as it is there
 abbrev mutual
   -- in a tree
   pub numerals_of : Tree → ℕ

@@ -64,7 +64,7 @@ pub fn printed_proofs_are_read()
         × SameTrees (trees_of (map line_tree lines)) commands }
 {}
 
-/// States that each number that is printed stands in the text, as a numeral or a decimal at the least. So the text has
+/// States that each number that is printed is in the text, as a numeral or a decimal at the least. So the text has
 /// no fewer of these than numbers are printed in its lines.
 pub fn printed_numbers_are_numerals()
     ensures writable { (lines : List Line) (commands : Trees) → All IsWritableLine lines
@@ -88,7 +88,7 @@ pub fn right_lines_are_good()
 {}
 
 /// States that the commands of a script leave names that can be printed. None is there at first, and a command that
-/// stands in a text leaves such names where those before it can be printed.
+/// is in a text leaves such names where those before it can be printed.
 pub fn commands_leave_script_names()
     ensures first { AreScriptNames (signature_of empty_stack) }
     ensures next { (limit : ℕ) (s : Stack) (text : List ℕ) (from : ℕ) (t : Tree) (rest : List (ℕ × Lexeme)) (d : Taken)

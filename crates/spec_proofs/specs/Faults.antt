@@ -35,7 +35,7 @@ fault_number Wide = 9
 fault_number (Term f) = 10
 fault_number NoSuchCheck = 11
 
--- Why a proof isn't accepted, with the offset that it stands at.
+-- Why a proof isn't accepted, with the offset that it is at.
 pub record Fault : Type 0 where
   -- the offset in the proof
   pub offset : ℕ

@@ -29,7 +29,7 @@ pub data Ending : Type 0 where
   -- a tree, after the list of commands
   left_over : ℕ → Ending
 
--- after commands that stand in no list
+-- after commands that are in no list
 abbrev pub EndsRow : ℕ → List (ℕ × Lexeme) → Ending → Type 0
 EndsRow end rest complete = rest ≡ []
 EndsRow end rest (broken f) = IsBroken end 0 rest f
@@ -41,7 +41,7 @@ EndsBehind end after complete = after ≡ []
 EndsBehind end after (broken f) = IsBroken end 0 after f
 EndsBehind end after (left_over at) = (t : Tree) × (rest : List (ℕ × Lexeme)) × AreTrees 0 after (more t none) rest × (offset_of t ≡ at)
 
--- after commands that stand in a list: its end and what is after it, or what cannot be read
+-- after commands that are in a list: its end and what is after it, or what cannot be read
 abbrev pub EndsList : ℕ → List (ℕ × Lexeme) → Ending → Type 0
 EndsList end rest e = ((at : ℕ) × (after : List (ℕ × Lexeme)) × (rest ≡ (at, closes) ∷ after) × EndsBehind end after e) ⊎ ((f : Located) × IsBroken end 1 rest f × (e ≡ broken f))
 

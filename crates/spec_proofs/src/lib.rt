@@ -1,4 +1,4 @@
-//! Definitions about proofs that stand below terms: the names of rules, resolution, the texts of proofs, and faults.
+//! Definitions about proofs that are below terms: the names of rules, resolution, the texts of proofs, and faults.
 #![tactic(auto)]
 
 ghost use Rattle.std.specs.Prelude.{◌≡◌};
@@ -135,12 +135,12 @@ pub enum Rule {
     LaTotality,
 }
 
-/// Names a literal by an argument of a term: the argument as it stands, or its negation.
+/// Names a literal by an argument of a term: the argument as it is, or its negation.
 #[derive(Clone, Copy, Debug, PartialEq, Eq)]
 pub struct ArgumentLiteral {
     /// The place of the argument, from 0.
     pub place: usize,
-    /// Whether the argument is meant as it stands.
+    /// Whether the argument is meant as it is.
     pub positive: bool,
 }
 
@@ -154,9 +154,9 @@ pub enum Rest {
     One(ArgumentLiteral),
     /// These two, in this order.
     Two(ArgumentLiteral, ArgumentLiteral),
-    /// One of the arguments, any: as it stands where that is true, else its negation.
+    /// One of the arguments, any: as it is where that is true, else its negation.
     AnyOne(bool),
-    /// Each of the arguments, in their order: as they stand where that is true, else their negations.
+    /// Each of the arguments, in their order: as they are where that is true, else their negations.
     Each(bool),
     /// What the one argument, a negation, negates.
     Innermost,

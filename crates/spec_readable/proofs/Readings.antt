@@ -33,7 +33,7 @@ pub append_each : {A : Type 0} (P : A → Type 0) (xs ys : List A) → AllByRecu
 append_each P [] ys a b = b
 append_each P (x ∷ xs) ys a b = (a.0, append_each P xs ys a.1 b)
 
--- each definition of a signature stands for a term that can be read back whole
+-- each definition of a signature means a term that can be read back whole
 abbrev pub Good : Signature → Type 0
 Good s = AllByRecursion IsReadableDeclaration s
 

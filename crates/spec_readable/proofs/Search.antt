@@ -1,4 +1,4 @@
--- Where the terms of a check and those beside them can be read back whole, so can all that a search speaks of, and what is made of that.
+-- Where the terms of a check and the interface equalities can be read back whole, so can all that a search speaks of, and what is made of that.
 use Rattle.std.proofs.Common.{List, [], ◌∷◌, All, Contains, true, false, subst, arith, refl}
 use Rattle.spec_text.proofs.Members.{none, each_of}
 use Rattle.spec_sorts.specs.Terms.{True, False, Not, Ite, Equal, AtMost, Times, Divide, Term, Terms, app, nil, cons, of, list_of, negated, pair}

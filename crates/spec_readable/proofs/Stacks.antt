@@ -106,7 +106,7 @@ module _ (decimal : ReadDecimals) where
         let a = went (command_of t) _ d e in
         performed_good limit (offset_of t) s a.first d a.then h
 
-    -- and what stands at a check
+    -- and what is at a check
     this_good : (here : Check) (k : ℕ) (rest : ℕ → Option Check) (c : Check) → GoodStack here.stack → this_or here k rest ≡ Some c → ((n : ℕ) → rest n ≡ Some c → GoodStack c.stack) → GoodStack c.stack
     this_good here zero rest c h e later = later zero e
     this_good here (suc zero) rest c h e later = let same : here ≡ c = cc in subst (λ (x : Check). GoodStack x.stack) same h

@@ -78,14 +78,14 @@ pub fn checks_are_readable()
         → AreReadable (signature_of c.stack) }
     ensures asked { (limit : ℕ) (text : List ℕ) (k : ℕ) (c : Check) → IsCurrent limit text k c
         → All (λ (a : Assertion). IsReadableWhole a.term) (asked c) }
-    ensures terms { (limit : ℕ) (text : List ℕ) (k : ℕ) (c : Check) (beside : List Term) → IsCurrent limit text k c
-        → All IsReadableWhole (terms_of_problem (problem_of c beside)) }
+    ensures terms { (limit : ℕ) (text : List ℕ) (k : ℕ) (c : Check) (interface : List Term) → IsCurrent limit text k c
+        → All IsReadableWhole (terms_of_problem (problem_of c interface)) }
 {
     read_numbers_are_decimals();
     spec_commands::assertions_have_their_texts_value();
 }
 
-/// States that where the terms of a check and those beside them have decimals, so have all that a search over linear
+/// States that where the terms of a check and the interface equalities have decimals, so have all that a search over linear
 /// arithmetic speaks of. The same holds of terms that are readable whole.
 pub fn searched_terms_are_readable()
     ensures decimals { (p : Problem) → All HasDecimals (known_terms p)
@@ -94,7 +94,7 @@ pub fn searched_terms_are_readable()
         → (t : Term) → Contains (whole_terms p) t → IsReadableWhole t }
 {}
 
-/// States that where the terms of a check and those beside them are readable whole, so is all that lemmas and learned
+/// States that where the terms of a check and the interface equalities are readable whole, so is all that lemmas and learned
 /// clauses may be over.
 pub fn search_makes_readable_terms()
     ensures lemmas { (p : Problem) → All IsReadableWhole (known_terms p)

@@ -49,7 +49,7 @@ abbrev pub unless : Option Fault → ℕ → Term → Answer Term
 unless None at t = Ok t
 unless (Some f) at t = refused at f
 
--- a head of a theory before terms, where the whole stands at an offset
+-- a head of a theory before terms, where the whole is at an offset
 abbrev pub by_rule : Rule → ℕ → List Term → Answer Term
 by_rule r at ts =
     require (takes_count r (length ts)) at WrongCount >>= λ counted.
@@ -79,7 +79,7 @@ applied_as None (Some r) k place at ts = by_rule r at ts
 applied_as None None (Some k) place at ts = by_known k at ts
 applied_as None None None place at ts = refused place UnknownSymbol
 
--- a name at an offset before terms, where the whole stands at another
+-- a name at an offset before terms, where the whole is at another
 abbrev pub applied : Signature → Bound → ℕ → Name → ℕ → List Term → Answer Term
 applied s b place n at ts = applied_as (look_up b n) (look_up theory n) (known_as s n) place at ts
 
@@ -152,7 +152,7 @@ unfoldable mutual
       readings w (with_definitions s r.made) b ts >>= λ rs.
       Ok (record { made = r.made ++ rs.made; terms = r.term ∷ rs.terms })
 
-  -- bindings, and a body under them; the whole stands at an offset
+  -- bindings, and a body under them; the whole is at an offset
   pub let_reading : Setting → Signature → Bound → ℕ → Trees → Answer Reading
   let_reading w s b at (more (list place bindings end) (more body none)) =
       bindings_reading w s b [] bindings >>= λ r.
@@ -169,7 +169,7 @@ unfoldable mutual
       Ok (record { made = r.made ++ rs.made; bound = (name, r.term) ∷ rs.bound })
   bindings_reading w s b names ts = Ok (record { made = []; bound = [] })
 
-  -- a term, and then its attributes, of which `:named` alone changes anything; the whole stands at an offset
+  -- a term, and then its attributes, of which `:named` alone changes anything; the whole is at an offset
   pub annotated_reading : Setting → Signature → Bound → ℕ → Trees → Answer Reading
   annotated_reading w s b at none = refused at BadShape
   annotated_reading w s b at (more t attributes) =

@@ -67,9 +67,9 @@ pub fn readings_are_well_sorted()
         → definitions_in w s d ≡ Ok ds → AreWellSorted (with_definitions s ds) }
 {}
 
-/// States that the first fault of a text that is read as a term, or as a sort, stands at the offset of one of its atoms or
+/// States that the first fault of a text that is read as a term, or as a sort, is at the offset of one of its atoms or
 /// lists.
-pub fn faults_stand_in_their_text()
+pub fn faults_are_in_their_text()
     ensures term { (w : Setting) (s : Signature) (b : Bound) (t : Tree) (f : Located) → reading w s b t ≡ Err f
         → HasOffset t f.offset }
     ensures sort { (s : Signature) (t : Tree) (f : Located) → sort_in s t ≡ Err f → HasOffset t f.offset }

@@ -13,21 +13,21 @@ use Rattle.spec_proofs.specs.declared.ArgumentLiteral.{ArgumentLiteral}
 use Rattle.spec_proofs.specs.declared.Rest.{Rest}
 use Rattle.spec_proofs.specs.declared.Rest.TheVariants.{Nothing, One, Two, AnyOne, Each, Innermost}
 
--- Which clauses a term gives: its head, whether it comes first as it is or negated, and what stands after it.
+-- Which clauses a term gives: its head, whether it comes first as it is or negated, and what is after it.
 pub record Scheme : Type 0 where
   -- the head of the first term
   pub head : Head
-  -- whether the first term is meant as it stands
+  -- whether the first term is meant as it is
   pub positive : Bool
   -- the literals after it, by its arguments
   pub rest : Rest
 
--- the term as it stands where that is wanted, else its negation
+-- the term as it is where that is wanted, else its negation
 abbrev pub signed_term : Bool → Term → Term
 signed_term true t = t
 signed_term false t = negated t
 
--- the argument of a place, as it stands or negated
+-- the argument of a place, as it is or negated
 abbrev pub side_of : List Term → ArgumentLiteral → Term
 side_of ts x = signed_term x.positive (slice_index_or ts x.place no_term)
 
@@ -36,7 +36,7 @@ abbrev pub innermost : List Term → List Clause
 innermost (app Not (cons t nil) ∷ []) = (t ∷ []) ∷ []
 innermost ts = []
 
--- the literals that may stand after a term of these arguments
+-- the literals that may be after a term of these arguments
 abbrev pub rests_of : Rest → List Term → List Clause
 rests_of Nothing ts = [] ∷ []
 rests_of (One x) ts = (side_of ts x ∷ []) ∷ []
@@ -70,14 +70,14 @@ pub data Kind : Type 0 where
   -- the step is one of linear arithmetic
   calculates : ArithmeticRule → Kind
 
--- a scheme of a term as it stands, and of a negated one
+-- a scheme of a term as it is, and of a negated one
 abbrev pub plain_scheme : Head → Rest → Scheme
 plain_scheme h r = record { head = h; positive = true; rest = r }
 
 abbrev pub refuted : Head → Rest → Scheme
 refuted h r = record { head = h; positive = false; rest = r }
 
--- an argument by its place: as it stands, and negated
+-- an argument by its place: as it is, and negated
 abbrev pub yes : ℕ → ArgumentLiteral
 yes n = record { place = n; positive = true }
 

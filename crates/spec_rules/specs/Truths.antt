@@ -1,4 +1,4 @@
--- Truths of terms, apart from interpretations: what stands below negations is true or not, as one likes.
+-- Truths of terms, apart from interpretations: what is below negations is true or not, as one likes.
 use Rattle.std.specs.Prelude.{Bool, not, if◌then◌else◌}
 use Rattle.spec_sorts.specs.Terms.{Term}
 use Rattle.spec_sorts.specs.Literals.{Literal, literal_of}

@@ -101,7 +101,7 @@ pub fn near_clauses_have_no_rule()
     ensures two_nots { IsByNone [] (negated (negated p) ∷ p ∷ []) }
 {}
 
-/// States that a premise stands where one is wanted, and nowhere else: it is one, of one literal, with the sign that the rule
+/// States that a premise is where one is wanted, and nowhere else: it is one, of one literal, with the sign that the rule
 /// takes; and that a word which is none of the rules' names no rule.
 pub fn near_premises_and_words_have_no_rule()
     ensures not_wanted { IsByNone ((p ∷ []) ∷ []) (negated equal_p_q ∷ p ∷ negated q ∷ []) }

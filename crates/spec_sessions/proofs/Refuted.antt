@@ -117,7 +117,7 @@ unfolding sort_of
 term_sort t (inl e) = ap sort_of (sym e)
 term_sort t (inr e) = ap sort_of (sym e)
 
--- and stand among the terms
+-- and are among the terms
 term_there : (t : Term) → IsTerm t → (j : ℕ) × (slice_get terms j ≡ Some t)
 term_there t (inl e) = (0, ap Some e)
 term_there t (inr e) = (1, ap Some e)

@@ -11,7 +11,7 @@ use Rattle.spec_commands.specs.Checks.{Check, asked, IsTrueAssertion}
 use Rattle.spec_derivations.specs.Problems.{Problem, subterms_in, problem_of}
 use Rattle.spec_derivations.specs.Derivations.{Derivation}
 use Rattle.spec_derivations.specs.Spent.{AreLearned, IsConflictBudgetSpent, IsConflict}
-use Rattle.spec_causes.specs.Checks.{IsStrained, ArePivotsSpent}
+use Rattle.spec_causes.specs.Checks.{IsOverflowed, ArePivotsSpent}
 use Rattle.spec_causes.specs.Shared.{IsSharedEquality}
 use Rattle.spec_sessions.specs.Refutations.{IsProofOf}
 
@@ -42,7 +42,7 @@ pub data Found : Type 0 where
   -- that the budget of conflicts is spent: its size, how the clauses that were learned are derived, and these clauses
   spent : ℕ → Derivation → List (List Literal) → Found
   -- that an operation on fractions leaves the bound: the operation, with its operands, and what the search keeps
-  strained : Overflow → Kept → Found
+  overflowed : Overflow → Kept → Found
   -- that the budget of pivots is spent: its size, and what the search keeps
   out_of_pivots : ℕ → Kept → Found
 
@@ -60,13 +60,13 @@ pub record IsModelOf (c : Check) (i : Interpretation) : Type 0 where
   -- each expression is true, as it is written
   pub each : All (IsTrueAssertion i (signature_of c.stack)) (asked c)
 
--- The terms of a check, with equalities beside them of terms that functions and arithmetic share.
+-- The terms of a check, with interface equalities of terms that functions and arithmetic share.
 pub record IsProblemOf (c : Check) (p : Problem) : Type 0 where
   -- the equalities
-  pub beside : List Term
+  pub interface : List Term
   -- each is of two terms that are shared in the check
-  pub equalities : All (IsSharedEquality (subterms_in (problem_of c []))) beside
-  pub is : p ≡ problem_of c beside
+  pub equalities : All (IsSharedEquality (subterms_in (problem_of c []))) interface
+  pub is : p ≡ problem_of c interface
 
 -- The budget is spent at a conflict more.
 pub record IsSpentOn (p : Problem) (limit carried : ℕ) (d : Derivation) (learned : List (List Literal)) : Type 0 where
@@ -77,7 +77,7 @@ pub record IsSpentOn (p : Problem) (limit carried : ℕ) (d : Derivation) (learn
 
 -- What a search of a problem keeps is within its limits, and the clauses may be learned.
 pub record IsKeptOf (limits : Limits) (p : Problem) (k : Kept) : Type 0 where
-  -- no more exchanges were kept than the budget allows
+  -- no more pivots were kept than the budget allows
   pub exchanges : length k.exchanges ≤ limits.pivots
   -- no more clauses were learned
   pub learned : length k.learned ≤ limits.conflicts
@@ -87,14 +87,14 @@ pub record IsKeptOf (limits : Limits) (p : Problem) (k : Kept) : Type 0 where
 -- what was found shows this of a check: a model makes true what it asks about; a proof that no interpretation does; a budget of
 -- conflicts is spent on it; an operation leaves the bound where the exchanges lead, or all but the last, or before there are any; or the
 -- budget of exchanges is spent on them, and a further one is needed where they lead. Of both the runs are few, and the clauses that were
--- learned may be. Where it was given up, the search may have spoken of equalities beside it, of terms that functions and arithmetic share.
+-- learned may be. Where it was given up, the search may have spoken of interface equalities, of terms that functions and arithmetic share.
 abbrev pub Justifies : Limits → Check → Found → Type 0
 Justifies limits c (model i) = IsModelOf c i
 Justifies limits c (proof text) = IsProofOf c text
 Justifies limits c (spent n d learned) = (p : Problem) × IsProblemOf c p × IsSpentOn p limits.conflicts n d learned
-Justifies limits c (strained o k) =
+Justifies limits c (overflowed o k) =
     IsOverflow o
-    × ((p : Problem) × IsProblemOf c p × IsKeptOf limits p k × IsStrained p (length k.learned) k.exchanges o)
+    × ((p : Problem) × IsProblemOf c p × IsKeptOf limits p k × IsOverflowed p (length k.learned) k.exchanges o)
 Justifies limits c (out_of_pivots n k) =
     (n ≡ limits.pivots)
     × ((p : Problem) × IsProblemOf c p × IsKeptOf limits p k × ArePivotsSpent p n (length k.learned) k.exchanges)

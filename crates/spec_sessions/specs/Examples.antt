@@ -13,7 +13,7 @@ use Rattle.spec_commands.specs.Checks.{Check, term_limit}
 use Rattle.spec_commands.specs.Examples.{lines}
 use Rattle.spec_models.specs.Values.{numeral}
 use Rattle.spec_overflows.specs.Overflows.{IsOverflow}
-use Rattle.spec_sessions.specs.Evidence.{Limits, Kept, Found, proof, strained, out_of_pivots}
+use Rattle.spec_sessions.specs.Evidence.{Limits, Kept, Found, proof, overflowed, out_of_pivots}
 use Rattle.spec_sessions.specs.Responses.{certify, success, not_supported, answered, said, ended, rejected, Answered, text_for}
 
 -- what is meant by default
@@ -218,7 +218,7 @@ unfolding gcd multiplied fits is_small times
 square_leaves_the_bound = refl
 
 -- what is written for a check that was given up for it, and for one whose pivots are spent
-pub square_written : (c : Check) (k : Kept) → text_for certify [] true (answered (record { check = c; found = strained square k })) ≡ codes "unknown\n(overflow mul 18446744073709551616 18446744073709551616)\n"
+pub square_written : (c : Check) (k : Kept) → text_for certify [] true (answered (record { check = c; found = overflowed square k })) ≡ codes "unknown\n(overflow mul 18446744073709551616 18446744073709551616)\n"
 unfolding numeral
 square_written c k = refl
 

@@ -15,7 +15,7 @@ use Rattle.spec_models.specs.Meaning.{DefineAll}
 use Rattle.spec_checking.specs.Good.{IsGood}
 use Rattle.spec_checking.specs.Accepted.{IsAccepted}
 use Rattle.spec_proof_texts.specs.ReadBack.{AreScriptNames, numerals_in}
-use Rattle.spec_sessions.specs.Evidence.{Limits, Found, model, proof, spent, strained, out_of_pivots, Checked, IsModelOf, Justifies}
+use Rattle.spec_sessions.specs.Evidence.{Limits, Found, model, proof, spent, overflowed, out_of_pivots, Checked, IsModelOf, Justifies}
 
 -- What commands leave for a check under a limit on terms and names.
 pub record IsKeptCheck (limit : ℕ) (c : Check) : Type 0 where
@@ -46,7 +46,7 @@ abbrev pub MeansAt : Check → Found → Type 0
 MeansAt c (model i) = ModelMeans (IsModelOf c) (signature_of c.stack) i
 MeansAt c (proof p) = (i : Interpretation) → IsModelOf c i → ⊥
 MeansAt c (spent n d learned) = Unit {0}
-MeansAt c (strained o kept) = Unit {0}
+MeansAt c (overflowed o kept) = Unit {0}
 MeansAt c (out_of_pivots n kept) = Unit {0}
 
 -- the text of a proof has no more than 2^18 numerals and decimals, so that there is room for all that it names; a text
@@ -70,7 +70,7 @@ abbrev pub FindingMeans : Limits → (text : List ℕ) → ℕ → Check → Fou
 FindingMeans limits text k c (model i) = ModelMeans (λ j. MakesTrue limits.terms j text k) (signature_of c.stack) i
 FindingMeans limits text k c (proof p) = ProofMeans limits.terms text k p
 FindingMeans limits text k c (spent n d learned) = Unit {0}
-FindingMeans limits text k c (strained o kept) = Unit {0}
+FindingMeans limits text k c (overflowed o kept) = Unit {0}
 FindingMeans limits text k c (out_of_pivots n kept) = Unit {0}
 
 -- What the answer of the k-th check of a text, from 1, says, with all that this means.

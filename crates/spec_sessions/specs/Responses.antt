@@ -10,7 +10,7 @@ use Rattle.spec_commands.specs.Checks.{Check}
 use Rattle.spec_replies.specs.declared.ResponseWord.TheVariants.{Success, Unsupported, Sat, Unsat, Unknown}
 use Rattle.spec_replies.specs.Lines.{conflicts, pivots, overflow, error_text, word_line, reason_line}
 use Rattle.spec_models.specs.Models.{model_text}
-use Rattle.spec_sessions.specs.Evidence.{Limits, Found, model, proof, spent, strained, out_of_pivots, Checked, Justifies}
+use Rattle.spec_sessions.specs.Evidence.{Limits, Found, model, proof, spent, overflowed, out_of_pivots, Checked, Justifies}
 
 -- How much is written.
 pub data Mode : Type 0 where
@@ -27,7 +27,7 @@ pub data Response : Type 0 where
   not_supported : Response
   -- this was found at its check
   answered : Checked → Response
-  -- its text is written, which stands here without its quotes
+  -- its text is written, which is here without its quotes
   said : List ℕ → Response
   -- it was done, and the script ends
   ended : Response
@@ -71,7 +71,7 @@ abbrev pub answer_text : Found → List ℕ
 answer_text (model i) = word_line Sat
 answer_text (proof text) = word_line Unsat
 answer_text (spent n d learned) = word_line Unknown
-answer_text (strained o k) = word_line Unknown
+answer_text (overflowed o k) = word_line Unknown
 answer_text (out_of_pivots n k) = word_line Unknown
 
 -- what shows it, in print
@@ -82,7 +82,7 @@ evidence_text c = by c.found
     by (model i) = model_text i (symbols_in (signature_of c.check.stack))
     by (proof text) = text
     by (spent n d learned) = reason_line (conflicts n)
-    by (strained o k) = reason_line (overflow o)
+    by (overflowed o k) = reason_line (overflow o)
     by (out_of_pivots n k) = reason_line (pivots n)
 
 -- what is written after the line of an answer
@@ -94,7 +94,7 @@ shown_text certify c = evidence_text c
 abbrev pub success_by : Bool → List ℕ
 success_by print = if print then word_line Success else []
 
--- a string as it stands in a script, on a line
+-- a string as it is in a script, on a line
 abbrev pub string_line : List ℕ → List ℕ
 string_line text = 34 ∷ text ++ 34 ∷ 10 ∷ []
 

@@ -25,7 +25,7 @@ pub fn refused_commands_are_passed_over()
     ensures large { IsTranscript four solve large large_written true }
 {}
 
-/// States that a string is written as it stands, and `success` while its option is on.
+/// States that a string is written as it is, and `success` while its option is on.
 pub fn strings_are_written()
     ensures { IsTranscript limits solve strings strings_written false }
 {}

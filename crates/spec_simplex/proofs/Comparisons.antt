@@ -1,4 +1,4 @@
--- Numbers stand to each other as their difference stands to 0.
+-- Numbers stand to each other as their difference compares with 0.
 use Rattle.std.proofs.Common.{◌≡◌, ◌↔◌, Bool, true, false, not, List, Ok, ◌&&◌, ◌||◌, ℤ, pos, ◌<ℤ◌, ◌≤ℤ◌, neg_ℤ, refl, sym, ◌∙◌, ap, subst, arith}
 use Rattle.std.specs.Int.RustNames.{int_lt}
 use Rattle.std.proofs.lemmas.Bool.{and_parts}

@@ -22,7 +22,7 @@ use Rattle.spec_simplex.proofs.LowestForms.{AreLowest, AreNumbers, plus_positive
 use Rattle.spec_simplex.proofs.Reversed.{IsLowest, lowest_proper, difference_lowest, difference_reversed}
 use Rattle.spec_simplex.proofs.Tidy.{AreTidy, combined_tidy, changed_nonzero, zeros, zeros_reduced, no_variables}
 
--- how the negation of the clause's literal stands to 0: where the form is at least or above 0, with the sides exchanged
+-- how the negation of the clause's literal compares with 0: where the form is at least or above 0, with the sides exchanged
 abbrev pub relation_for : Relation → c.Relation
 relation_for below = is_below
 relation_for at_most = is_at_most

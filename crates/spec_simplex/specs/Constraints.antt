@@ -1,18 +1,18 @@
--- What literals of linear arithmetic say that hold: how the form of an atom stands to 0.
+-- What literals of linear arithmetic say that hold: how the form of an atom compares with 0.
 use Rattle.std.specs.Prelude.{◌≡◌, Bool, true, false, List, Option, Some, None, Result, Ok, All}
 use Rattle.spec_sorts.specs.Terms.{Head, Equal, Less, AtMost, Term, app, nil, cons, pair}
 use Rattle.spec_sorts.specs.Literals.{Literal}
 use Rattle.spec_arithmetic.specs.Forms.{Form, Fault, difference}
 use Rattle.spec_arithmetic.specs.Contradictions.{are_numbers}
 
--- How a form stands to 0.
+-- How a form compares with 0.
 pub data Relation : Type 0 where
   -- it is below 0, at most 0, 0, at least 0, or above 0
   below at_most equals at_least above : Relation
 
--- What a literal says: how the difference of the sides of its atom stands to 0.
+-- What a literal says: how the difference of the sides of its atom compares with 0.
 pub record Constraint : Type 0 where
-  -- how it stands to 0
+  -- how it compares with 0
   pub relation : Relation
   -- the atom of both sides
   pub atom : Term

@@ -26,14 +26,14 @@ unfolding forms_on_literals clauses_on_literals constraint_by variables_value fo
     is_below_zero is_over is_under weighted_sum has_strict
 literals_that_say = tt
 
--- an atom as it stands, and negated
+-- an atom as it is, and negated
 abbrev pub plain_literal : Term → Literal
 plain_literal t = record { atom = t; positive = true }
 
 abbrev pub denied : Term → Literal
 denied t = record { atom = t; positive = false }
 
--- what orders say, as they stand and negated
+-- what orders say, as they are and negated
 pub less_plain : constraint_of (plain_literal (texts.less x y)) ≡ Some (saying below (texts.less x y) x y)
 unfolding literals_that_say
 less_plain = refl
@@ -112,7 +112,7 @@ relations = below ∷ at_most ∷ equals ∷ at_least ∷ above ∷ []
 abbrev pub relations_at : Point → List Bool
 relations_at p = map (λ r. stands r (base_at p x_minus_y) (tilt_at p x_minus_y)) relations
 
--- so it stands below 0 there, and not at least 0; at the second point it is 0
+-- so it is below 0 there, and not at least 0; at the second point it is 0
 pub close_stands : relations_at close ≡ true ∷ true ∷ false ∷ false ∷ false ∷ []
 unfolding literals_that_say
 close_stands = refl
@@ -154,7 +154,7 @@ one_is_up_to_double c is = subst
     (λ c. IsLinear c.left → IsLinear c.right → Compares c.relation (number_at (λ t. whole (pos 7)) c.left) (number_at (λ t. whole (pos 7)) c.right))
     (same_some _ _ is) (λ left right. refl)
 
--- a literal that says how x minus y stands to 0, with the weight 1
+-- a literal that says how x minus y compares with 0, with the weight 1
 abbrev pub summand : Literal → Relation → Summand
 summand l r = record { literal = l; constraint = saying r l.atom x y; form = x_minus_y; weight = one_fraction }
 
@@ -171,7 +171,7 @@ pub sum_is_strict : has_strict summands ≡ true
 unfolding literals_that_say
 sum_is_strict = refl
 
--- an equality counts with its weight as it stands, and each order with its size or that negated
+-- an equality counts with its weight as it is, and each order with its size or that negated
 pub weights : map (λ r. signed_weight r (whole (negsuc 2))) relations
     ≡ whole (pos 3) ∷ whole (pos 3) ∷ whole (negsuc 2) ∷ whole (negsuc 2) ∷ whole (negsuc 2) ∷ []
 unfolding literals_that_say

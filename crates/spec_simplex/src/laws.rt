@@ -35,7 +35,7 @@ pub fn taken_clauses_show_infeasibility()
         → la_generic (denials xs) (arguments_of xs) ≡ Ok tt → IsInfeasible (literals_in xs) }
 {}
 
-/// States that a value stands below or above 0 where it is so in the order of pairs, and is 0 where it is the origin;
+/// States that a value is below or above 0 where it is so in the order of pairs, and is 0 where it is the origin;
 /// it is at most 0 where it is not above, and at least 0 where it is not below.
 pub fn values_stand_in_the_order_of_pairs()
     ensures below { (x : Pair Number)

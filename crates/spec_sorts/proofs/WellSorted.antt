@@ -101,7 +101,7 @@ unfolding sort_of
 head_sort h us vs e = ap (sort_given h) e
 
 module _ (symbols : List Symbol) (ps qs : List Sort) (ts : List Term) where
-  -- what stands for a term is well sorted where the parameters' sorts are these, and has its sort
+  -- what means a term is well sorted where the parameters' sorts are these, and has its sort
   abbrev pub Stands : Term → Term → Type 0
   Stands v u = IsWellSorted symbols ps v × (sort_of v ≡ sort_of u)
 

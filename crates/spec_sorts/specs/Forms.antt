@@ -25,7 +25,7 @@ abbrev pub is_empty : Trees → Bool
 is_empty none = true
 is_empty (more t ts) = false
 
--- what may stand where a new name is wanted: a symbol, or a reserved word, which is refused later
+-- what may be where a new name is wanted: a symbol, or a reserved word, which is refused later
 abbrev pub is_name : Kind → Bool
 is_name k = is_symbol k || is_reserved k
 

@@ -10,7 +10,7 @@ Clause = List Term
 pub record Literal : Type 0 where
   -- the term
   pub atom : Term
-  -- whether it is meant as it stands, or else negated
+  -- whether it is meant as it is, or else negated
   pub positive : Bool
 
 -- the same term, meant the other way

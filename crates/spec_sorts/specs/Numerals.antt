@@ -34,6 +34,6 @@ digits_number literal = number_after 0 (whole_digits literal ++ point_digits lit
 unfoldable pub literal_value : List ℕ → Fraction
 literal_value literal = lowest (pos (digits_number literal)) (10 ^ length (point_digits literal))
 
--- the digits as one whole number are above 2^127 - 1, or more than 38 stand after the point
+-- the digits as one whole number are above 2^127 - 1, or more than 38 are after the point
 abbrev pub is_wide : List ℕ → Bool
 is_wide literal = nat_le (2 ^ 127) (digits_number literal) || nat_le 39 (length (point_digits literal))

@@ -51,7 +51,7 @@ same_symbol f g = bytes_eq f.name g.name && (same_sorts f.parameters g.parameter
 abbrev pub same_fraction : Fraction → Fraction → Bool
 same_fraction p q = int_eq p.num q.num && nat_eq p.den q.den
 
--- What stands before the arguments of a term. Chains, `distinct`, `>` and `>=` are read as terms of these.
+-- What is before the arguments of a term. Chains, `distinct`, `>` and `>=` are read as terms of these.
 pub data Head : Type 0 where
   -- the heads of theory Core
   True False Not And Or Xor Implies Equal Ite : Head

@@ -5,7 +5,7 @@ use Rattle.spec_numbers.specs.Bounds.{Overflow, subtracted, divided}
 use Rattle.spec_tableaux.specs.Spaces.{Pair, as_space}
 use Rattle.spec_tableaux.specs.Ranges.{Range}
 use Rattle.spec_tableaux.specs.Numbers.{Number, numbers}
-use Rattle.spec_tableaux.specs.Strains.{Overflows}
+use Rattle.spec_tableaux.specs.CheckOverflows.{Overflows}
 use Rattle.spec_strains.specs.Points.{deltas, Ranges}
 
 -- a number is less than another
@@ -41,46 +41,46 @@ abbrev pub halfway : Pair Number → Pair Number → Number
 halfway x y = numbers.times (meeting x y) (numbers.inverse two)
 
 -- Half of the number at which x, of the greater tilt, comes to y leads to the overflow o.
-pub data StrainsHalf (x y : Pair Number) (o : Overflow) : Type 0 where
+pub data OverflowsHalf (x y : Pair Number) (o : Overflow) : Type 0 where
   -- the base of y minus that of x
-  bases : Overflows subtracted y.base x.base o → StrainsHalf x y o
+  bases : Overflows subtracted y.base x.base o → OverflowsHalf x y o
   -- the tilt of x minus that of y
-  tilts : Overflows subtracted x.tilt y.tilt o → StrainsHalf x y o
+  tilts : Overflows subtracted x.tilt y.tilt o → OverflowsHalf x y o
   -- the first difference over the second
-  quotient : Overflows divided (gap x y) (steepness x y) o → StrainsHalf x y o
+  quotient : Overflows divided (gap x y) (steepness x y) o → OverflowsHalf x y o
   -- this quotient over 2
-  half : Overflows divided (meeting x y) two o → StrainsHalf x y o
+  half : Overflows divided (meeting x y) two o → OverflowsHalf x y o
 
 -- x has the greater tilt, and half of the number at which it comes to y leads to the overflow o
-abbrev pub StrainsOrder : Pair Number → Pair Number → Overflow → Type 0
-StrainsOrder x y o = IsSteeper x y × StrainsHalf x y o
+abbrev pub OverflowsOrder : Pair Number → Pair Number → Overflow → Type 0
+OverflowsOrder x y o = IsSteeper x y × OverflowsHalf x y o
 
 -- the same by a lower bound of the value x
-abbrev pub StrainsLower : Option (Pair Number) → Pair Number → Overflow → Type 0
-StrainsLower None x o = ⊥
-StrainsLower (Some b) x o = StrainsOrder b x o
+abbrev pub OverflowsLower : Option (Pair Number) → Pair Number → Overflow → Type 0
+OverflowsLower None x o = ⊥
+OverflowsLower (Some b) x o = OverflowsOrder b x o
 
 -- or by an upper bound of it
-abbrev pub StrainsUpper : Option (Pair Number) → Pair Number → Overflow → Type 0
-StrainsUpper None x o = ⊥
-StrainsUpper (Some b) x o = StrainsOrder x b o
+abbrev pub OverflowsUpper : Option (Pair Number) → Pair Number → Overflow → Type 0
+OverflowsUpper None x o = ⊥
+OverflowsUpper (Some b) x o = OverflowsOrder x b o
 
 -- or by one of these of its range
-abbrev pub StrainsRange : Range (Pair Number) → Pair Number → Overflow → Type 0
-StrainsRange r x o = StrainsLower r.lower x o ⊎ StrainsUpper r.upper x o
+abbrev pub OverflowsRange : Range (Pair Number) → Pair Number → Overflow → Type 0
+OverflowsRange r x o = OverflowsLower r.lower x o ⊎ OverflowsUpper r.upper x o
 
 -- Two of the values xs come to the overflow o: the lesser has the greater tilt.
-pub record StrainsApart (xs : List (Pair Number)) (o : Overflow) : Type 0 where
+pub record OverflowsApart (xs : List (Pair Number)) (o : Overflow) : Type 0 where
   pub lesser : Pair Number
   pub lesser_in : Contains xs lesser
   pub greater : Pair Number
   pub greater_in : Contains xs greater
   pub less : deltas.less lesser greater ≡ true
-  pub strains : StrainsOrder lesser greater o
+  pub may_overflow : OverflowsOrder lesser greater o
 
 -- A number for the values v, the bounds of all variables, and values that are kept apart comes to the overflow o.
-pub data StrainsNumber (ranges : Ranges) (v : ℕ → Pair Number) (apart : List (Pair Number)) (o : Overflow) : Type 0 where
+pub data OverflowsNumber (ranges : Ranges) (v : ℕ → Pair Number) (apart : List (Pair Number)) (o : Overflow) : Type 0 where
   -- by the bounds of a variable
-  bounds : (y : ℕ) → StrainsRange (ranges y) (v y) o → StrainsNumber ranges v apart o
+  bounds : (y : ℕ) → OverflowsRange (ranges y) (v y) o → OverflowsNumber ranges v apart o
   -- by two of the values that are kept apart
-  values : StrainsApart apart o → StrainsNumber ranges v apart o
+  values : OverflowsApart apart o → OverflowsNumber ranges v apart o

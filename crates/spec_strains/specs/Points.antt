@@ -25,9 +25,9 @@ abbrev pub point_in : List (Pair Number) → ℕ → Pair Number
 point_in vs y = get_or vs y deltas.origin
 
 -- rows, and the value of each variable
-abbrev pub BoardState : Type 0
-BoardState = State Number (Pair Number)
+abbrev pub AssignmentState : Type 0
+AssignmentState = State Number (Pair Number)
 
 -- rows and values as a state
-abbrev pub state_at : List (Row Number) → List (Pair Number) → BoardState
+abbrev pub state_at : List (Row Number) → List (Pair Number) → AssignmentState
 state_at rs vs = record { rows = rs; point = point_in vs }

@@ -37,7 +37,7 @@ tail_under s l o ranges t m w u n x done (f ∷ rest) i k says step xn before db
       low,
       high,
       tail_under s l o ranges t m makes.1.0 u n x (done ++ (f.0, f.1) ∷ []) rest i k says step xn (makes_more s ranges m w makes.1.0 done f.0 f.1 before makes.0 makes.1.1) (under_more n done f.0 f.1 db low high)
-          (nonbasic_step s ranges w makes.1.0 f.0 f.1 n makes.1.1 free (let k2 : (n == f.1) ≡ false = grind (arith, nat_tests) in k2)) next.solved next.settled makes.1.2 under.2,
+          (nonbasic_step s ranges w makes.1.0 f.0 f.1 n makes.1.1 free (let k2 : (n == f.1) ≡ false = grind (arith, nat_tests) in k2)) next.solved next.nonbasic_updated makes.1.2 under.2,
     )
   where
     at_first : (q : Bool) → (f.0 == n) ≡ q → IsPivot s.numbers w.rows f.0 f.1 → q ≡ false
@@ -141,22 +141,22 @@ after_leaving s l o ranges n bound t m u x rest i k says step xl makes under =
     let xn : x < n = grind (arith, nat_tests) in
     let free : IsNonbasic m.rows n = subst (λ rs. IsNonbasic rs n) (sym step.rows) (leaving_nonbasic s (pivot_of s.numbers n x (row_of n t.rows).entries) t.rows far) in
     let one = one_step s l o ranges t m n x i k says step in
-    bound.is m u rest one.solved one.settled makes (tail_under s l o ranges t m m u n x [] rest i k says step xn refl tt free one.solved one.settled makes under)
+    bound.is m u rest one.solved one.nonbasic_updated makes (tail_under s l o ranges t m m u n x [] rest i k says step xn refl tt free one.solved one.nonbasic_updated makes under)
 
 -- the state at which n first moves
 pub record At {A V : Type 0} (s : Space A V) (ranges : ℕ → Range V) (w : State A V) : Type 0 where
   pub solved : IsSolved s.numbers w.rows
-  pub settled : IsNonbasicFeasible s ranges w
+  pub nonbasic_updated : IsNonbasicFeasible s ranges w
 
 at_cut : {A V : Type 0} (s : Space A V) → IsSpace s → IsOrdered s → (ranges : ℕ → Range V) (t u : State A V) (n : ℕ) (es : List (ℕ × ℕ)) → IsSolved s.numbers t.rows → IsNonbasicFeasible s ranges t → (c : Cut s ranges t u n es) → At s ranges c.w
-at_cut s l o ranges t u n es i k c = let r = reached s l o ranges t c.w c.front i k c.first in record { solved = r.solved; settled = r.settled }
+at_cut s l o ranges t u n es i k c = let r = reached s l o ranges t c.w c.front i k c.first in record { solved = r.solved; nonbasic_updated = r.nonbasic_updated }
 
 -- where n leaves at the cut, few are left
 leaves_at : {A V : Type 0} (s : Space A V) → IsSpace s → IsOrdered s → (ranges : ℕ → Range V) (n : ℕ) → Bounded s ranges n → (t u : State A V) (es : List (ℕ × ℕ)) → IsSolved s.numbers t.rows → IsNonbasicFeasible s ranges t → (c : Cut s ranges t u n es) → c.b ≡ n
     → suc (length c.rest) ≤ triple n
 leaves_at s l o ranges n bound t u es i k c e =
     let a = at_cut s l o ranges t u n es i k c in
-    after_leaving s l o ranges n bound c.w c.m u c.x c.rest a.solved a.settled (subst (λ b. RuleSays s ranges c.w (exchange b c.x)) e c.says) (subst (λ b. Exchanges s ranges c.w b c.x c.m) e c.step) c.entering_under c.back c.tail
+    after_leaving s l o ranges n bound c.w c.m u c.x c.rest a.solved a.nonbasic_updated (subst (λ b. RuleSays s ranges c.w (exchange b c.x)) e c.says) (subst (λ b. Exchanges s ranges c.w b c.x c.m) e c.step) c.entering_under c.back c.tail
 
 -- once n entered
 after_entering : {A V : Type 0} (s : Space A V) → IsSpace s → IsOrdered s → (ranges : ℕ → Range V) (n : ℕ) → Bounded s ranges n → (m u : State A V) (rest : List (ℕ × ℕ)) → IsSolved s.numbers m.rows → IsNonbasicFeasible s ranges m
@@ -193,7 +193,7 @@ rule_ends {A = B} {V = W} s l o ranges (suc n) = record { is = λ t u es i k m h
     all bound t u es i k m h (cut c) =
         let a = at_cut s l o ranges t u n es i k c in
         let front = bound.is t c.w c.front i k c.first c.under in
-        let one = one_step s l o ranges c.w c.m c.b c.x a.solved a.settled c.says c.step in
+        let one = one_step s l o ranges c.w c.m c.b c.x a.solved a.nonbasic_updated c.says c.step in
         at (c.b == n) refl front one (says_pivot s l ranges c.w c.b c.x a.solved c.says)
       where
         at : (q : Bool) → (c.b == n) ≡ q → suc (length c.front) ≤ triple n → Reached s ranges c.w c.m → IsPivot s.numbers c.w.rows c.b c.x → suc (length es) ≤ triple n + triple n + triple n
@@ -201,7 +201,7 @@ rule_ends {A = B} {V = W} s l o ranges (suc n) = record { is = λ t u es i k m h
         at false j front one fit =
             let e : c.x ≡ n = second (c.b == n) (c.x == n) j c.hit refl in
             let basic : is_basic n c.m.rows ≡ true = subst (λ rs. is_basic n rs ≡ true) (sym c.step.rows) (subst (λ y. is_basic y (exchanged s.numbers c.b c.x c.w.rows) ≡ true) e (entering_basic s (pivot_of s.numbers c.b c.x (row_of c.b c.w.rows).entries) c.w.rows fit.basic)) in
-            let back = after_entering s l o ranges n bound c.m u c.rest one.solved one.settled basic c.back c.tail in
+            let back = after_entering s l o ranges n bound c.m u c.rest one.solved one.nonbasic_updated basic c.back c.tail in
             let count = c.count in omega arith
           where
             second : (p q : Bool) → p ≡ false → (p || q) ≡ true → (c.x == n) ≡ q → c.x ≡ n

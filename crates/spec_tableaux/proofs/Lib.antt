@@ -12,6 +12,6 @@ pub mod Explanations
 pub mod Unique
 pub mod Growing
 pub mod PairSolutions
-pub mod Settling
+pub mod UpdatingNonbasic
 pub mod Returns
 pub mod Ends

@@ -11,7 +11,7 @@ use Rattle.spec_tableaux.specs.LeastVariable.{State, RuleSays, exchange, goes_up
 use Rattle.spec_tableaux.proofs.Exchanges.{exchange_keeps, row_holds, row_of_basic}
 use Rattle.spec_tableaux.proofs.SolvedForms.{over_row, exchange_solved, tidy_row}
 use Rattle.spec_tableaux.proofs.Conflicts.{AtMost, Below, none, more, most_scale, Within, within_of, term_up, most_same, term_down, sum_most, below_less, above_less}
-use Rattle.spec_tableaux.proofs.Steps.{exchange_settled, nonbasic_before, NonbasicBefore, leaving, stays}
+use Rattle.spec_tableaux.proofs.Steps.{exchange_updated, nonbasic_before, NonbasicBefore, leaving, stays}
 
 -- what moves has an entry
 nonzero_of : {A V : Type 0} (s : Space A V) (range : Range V) (x : V) (up : Bool) (c : A) → moves_by s range x up c ≡ true → s.numbers.is_zero c ≡ false
@@ -47,18 +47,18 @@ IsAway y (e ∷ es) = ((y == e.0) ≡ false) × ((y == e.1) ≡ false) × IsAway
 -- the end of exchanges, seen from their beginning
 pub record Reached {A V : Type 0} (s : Space A V) (ranges : ℕ → Range V) (t u : State A V) : Type 0 where
   pub solved : IsSolved s.numbers u.rows
-  pub settled : IsNonbasicFeasible s ranges u
+  pub nonbasic_updated : IsNonbasicFeasible s ranges u
   pub same : (v : ℕ → V) → Solves s v t.rows → Solves s v u.rows
 
 reached_same : {A V : Type 0} (s : Space A V) (ranges : ℕ → Range V) (t u : State A V) → IsSolved s.numbers t.rows → IsNonbasicFeasible s ranges t → t ≡ u → Reached s ranges t u
-reached_same s ranges t u i k e = subst (Reached s ranges t) e (record { solved = i; settled = k; same = λ v h. h })
+reached_same s ranges t u i k e = subst (Reached s ranges t) e (record { solved = i; nonbasic_updated = k; same = λ v h. h })
 
 pub one_step : {A V : Type 0} (s : Space A V) → IsSpace s → IsOrdered s → (ranges : ℕ → Range V) (t m : State A V) (b x : ℕ) → IsSolved s.numbers t.rows → IsNonbasicFeasible s ranges t → RuleSays s ranges t (exchange b x) → Exchanges s ranges t b x m → Reached s ranges t m
 one_step s l o ranges t m b x i k says e =
     let f = says_pivot s l ranges t b x i says in
     record {
       solved = subst (IsSolved s.numbers) (sym e.rows) (exchange_solved s l b x t.rows i f.basic f.nonbasic f.entry);
-      settled = exchange_settled s o ranges t m b x k says e;
+      nonbasic_updated = exchange_updated s o ranges t m b x k says e;
       same = λ v h. subst (Solves s v) (sym e.rows) ((exchange_keeps s l v b x t.rows i.distinct f.basic f.entry).1 h);
     }
 
@@ -66,8 +66,8 @@ pub reached : {A V : Type 0} (s : Space A V) → IsSpace s → IsOrdered s → (
 reached s l o ranges t u [] i k m = reached_same s ranges t u i k m
 reached s l o ranges t u (e ∷ es) i k m =
     let a = one_step s l o ranges t m.1.0 e.0 e.1 i k m.0 m.1.1 in
-    let b = reached s l o ranges m.1.0 u es a.solved a.settled m.1.2 in
-    record { solved = b.solved; settled = b.settled; same = λ v h. b.same v (a.same v h) }
+    let b = reached s l o ranges m.1.0 u es a.solved a.nonbasic_updated m.1.2 in
+    record { solved = b.solved; nonbasic_updated = b.nonbasic_updated; same = λ v h. b.same v (a.same v h) }
 
 -- what is not basic at the end and neither left nor entered had its value before
 pub kept_value : {A V : Type 0} (s : Space A V) → IsSpace s → IsOrdered s → (ranges : ℕ → Range V) (t u : State A V) (es : List (ℕ × ℕ)) (y : ℕ) → IsSolved s.numbers t.rows → IsNonbasicFeasible s ranges t → MakesPivots s ranges t es u → IsAway y es → IsNonbasic u.rows y
@@ -76,7 +76,7 @@ kept_value s l o ranges t u [] y i k m a f = (subst (λ z. IsNonbasic z.rows y) 
 kept_value s l o ranges t u (e ∷ es) y i k m a f =
     let one = one_step s l o ranges t m.1.0 e.0 e.1 i k m.0 m.1.1 in
     let fit = says_pivot s l ranges t e.0 e.1 i m.0 in
-    let rest = kept_value s l o ranges m.1.0 u es y one.solved one.settled m.1.2 a.2 f in
+    let rest = kept_value s l o ranges m.1.0 u es y one.solved one.nonbasic_updated m.1.2 a.2 f in
     by (nonbasic_before s e.0 e.1 y t.rows fit.basic (subst (λ rs. IsNonbasic rs y) m.1.1.rows rest.0)) rest.1
   where
     by : NonbasicBefore t.rows e.0 e.1 y → u.point y ≡ m.1.0.point y → IsNonbasic t.rows y × (u.point y ≡ t.point y)
@@ -172,7 +172,7 @@ no_return {A = B} {V = W} s l o ranges t m u r x k es i set says step makes xr u
     one = one_step s l o ranges t m r x i set says step
 
     far : Reached s ranges m u
-    far = reached s l o ranges m u es one.solved one.settled makes
+    far = reached s l o ranges m u es one.solved one.nonbasic_updated makes
 
     there : IsPivot s.numbers u.rows k r
     there = says_pivot s l ranges u k r far.solved then
@@ -181,7 +181,7 @@ no_return {A = B} {V = W} s l o ranges t m u r x k es i set says step makes xr u
     L = row_of k u.rows
 
     hv : Holds s u.point L
-    hv = row_holds s u.point k u.rows there.basic far.settled.solves
+    hv = row_holds s u.point k u.rows there.basic far.nonbasic_updated.solves
 
     hp : Holds s t.point L
     hp = row_holds s t.point k u.rows there.basic (far.same t.point (one.same t.point set.solves))
@@ -196,7 +196,7 @@ no_return {A = B} {V = W} s l o ranges t m u r x k es i set says step makes xr u
     free y z = over_entry s l (IsNonbasic u.rows) y L.entries (over_row (IsNonbasic u.rows) k u.rows far.solved.nonbasic) z
 
     r_kept : u.point r ≡ m.point r
-    r_kept = (kept_value s l o ranges m u es r one.solved one.settled makes (away_of r r es (omega arith) under) there.nonbasic).1
+    r_kept = (kept_value s l o ranges m u es r one.solved one.nonbasic_updated makes (away_of r r es (omega arith) under) there.nonbasic).1
 
     r_came : Came s (ranges r) (t.point r) (u.point r)
     r_came = came s o (ranges r) (t.point r) (u.point r) (not_not _ (and_parts (is_basic r t.rows) _ says.1.holds).1) (r_kept ∙ step.bound)

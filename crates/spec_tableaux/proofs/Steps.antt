@@ -178,8 +178,8 @@ bound_within {V = W} s o range v c h = by range.lower range.upper c h
         at false (Some t) c h = or_none _ _ c (o.less_irreflexive t)
 
 -- a step keeps the nonbasic variables within their bounds
-pub exchange_settled : {A V : Type 0} (s : Space A V) → IsOrdered s → (ranges : ℕ → Range V) (t u : State A V) (b x : ℕ) → IsNonbasicFeasible s ranges t → RuleSays s ranges t (exchange b x) → Exchanges s ranges t b x u → IsNonbasicFeasible s ranges u
-exchange_settled s o ranges t u b x i says e = record {
+pub exchange_updated : {A V : Type 0} (s : Space A V) → IsOrdered s → (ranges : ℕ → Range V) (t u : State A V) (b x : ℕ) → IsNonbasicFeasible s ranges t → RuleSays s ranges t (exchange b x) → Exchanges s ranges t b x u → IsNonbasicFeasible s ranges u
+exchange_updated s o ranges t u b x i says e = record {
   solves = e.solves;
   nonbasic = λ y f. by y (nonbasic_before s b x y t.rows basic (subst (λ rs. IsNonbasic rs y) e.rows f));
 }

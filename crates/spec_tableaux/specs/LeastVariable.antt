@@ -4,7 +4,7 @@ use Rattle.std.specs.Prelude.{◌≡◌, ℕ, ◌<◌, Bool, true, false, not, �
 use Rattle.spec_tableaux.specs.Spaces.{Space, space_difference}
 use Rattle.spec_tableaux.specs.Rows.{Row, Solves, coefficient_of, row_of, is_basic, exchanged}
 use Rattle.spec_tableaux.specs.SolvedForms.{IsNonbasic}
-use Rattle.spec_tableaux.specs.Ranges.{Range, below, is_crossed, is_within, moves_by, bound_or, settled_value}
+use Rattle.spec_tableaux.specs.Ranges.{Range, below, is_crossed, is_within, moves_by, bound_or, value_in_range}
 
 -- The least number of which p holds.
 pub record IsLeast (p : ℕ → Bool) (x : ℕ) : Type 0 where
@@ -74,10 +74,10 @@ MakesPivots s ranges t (e ∷ es) u =
     RuleSays s ranges t (exchange e.0 e.1) × ((m : State _ _) × Exchanges s ranges t e.0 e.1 m × MakesPivots s ranges m es u)
 
 -- The step before all exchanges: each nonbasic variable that violates a bound goes to it.
-pub record Settles {A V : Type 0} (s : Space A V) (ranges : ℕ → Range V) (t u : State A V) : Type 0 where
+pub record UpdatesNonbasic {A V : Type 0} (s : Space A V) (ranges : ℕ → Range V) (t u : State A V) : Type 0 where
   pub rows : u.rows ≡ t.rows
   pub solves : Solves s u.point u.rows
-  pub nonbasic : (y : ℕ) → IsNonbasic t.rows y → u.point y ≡ settled_value s (ranges y) (t.point y)
+  pub nonbasic : (y : ℕ) → IsNonbasic t.rows y → u.point y ≡ value_in_range s (ranges y) (t.point y)
 
 -- The point of a state solves its rows, and nonbasic variables keep their bounds.
 pub record IsNonbasicFeasible {A V : Type 0} (s : Space A V) (ranges : ℕ → Range V) (t : State A V) : Type 0 where

@@ -6,5 +6,5 @@ pub mod SolvedForms
 pub mod Ranges
 pub mod LeastVariable
 pub mod Numbers
-pub mod Strains
+pub mod CheckOverflows
 pub mod Examples

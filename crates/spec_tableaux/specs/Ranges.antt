@@ -70,6 +70,6 @@ bound_or d None = d
 bound_or d (Some x) = x
 
 -- the value x moved to the bound of its range that it violates
-abbrev pub settled_value : {A V : Type 0} → Space A V → Range V → V → V
-settled_value s range x =
+abbrev pub value_in_range : {A V : Type 0} → Space A V → Range V → V → V
+value_in_range s range x =
     cond (below s x range.lower) (bound_or x range.lower) (cond (above s x range.upper) (bound_or x range.upper) x)

@@ -1,4 +1,4 @@
--- Rows of a tableau: a basic variable as a sum of multiples of others; the exchange of two variables; a row more.
+-- Rows of a tableau: a basic variable as a sum of multiples of others; the pivot of two variables; a row more.
 use Rattle.std.specs.Prelude.{◌≡◌, ℕ, Bool, false, List, [], ◌∷◌, ◌++◌, map, cond, ◌==◌, ◌||◌, nat_lt}
 use Rattle.spec_tableaux.specs.Fields.{Field}
 use Rattle.spec_tableaux.specs.Spaces.{Space}

@@ -7,9 +7,9 @@ ghost use Rattle.spec_tableaux.specs.Spaces.{Space, Pair, IsSpace, IsOrdered, Te
 ghost use Rattle.spec_tableaux.specs.Rows.{Entry, Row, sum_of, coefficient_of, row_of, is_basic, exchanged};
 ghost use Rattle.spec_tableaux.specs.Rows.{with_row, Holds, Solves};
 ghost use Rattle.spec_tableaux.specs.SolvedForms.{AllVariables, AllRowVariables, IsNonbasic, IsSolved, IsPivot, extended};
-ghost use Rattle.spec_tableaux.specs.Ranges.{Range, AreStopped, Meets, is_crossed, settled_value};
+ghost use Rattle.spec_tableaux.specs.Ranges.{Range, AreStopped, Meets, is_crossed, value_in_range};
 ghost use Rattle.spec_tableaux.specs.LeastVariable.{State, done, crossed, stuck, exchange, goes_up, distance, moved};
-ghost use Rattle.spec_tableaux.specs.LeastVariable.{RuleSays, Exchanges, MakesPivots, Moves, Settles, IsNonbasicFeasible, AreUnder};
+ghost use Rattle.spec_tableaux.specs.LeastVariable.{RuleSays, Exchanges, MakesPivots, Moves, UpdatesNonbasic, IsNonbasicFeasible, AreUnder};
 ghost use Rattle.spec_tableaux.specs.Numbers.{numbers};
 
 /// States that an ordered field is an ordered space over itself, and that such a field can compare its numbers.
@@ -96,12 +96,12 @@ pub fn stuck_rows_explain_themselves<A, V>()
 
 /// States that there is a point at which nonbasic variables that violated a bound are at it, and that all of them keep
 /// their bounds there, where no bounds cross.
-pub fn points_are_settled<A, V>()
+pub fn points_are_updated<A, V>()
     ensures made { (s : Space A V) (ranges : ℕ → Range V) (t : State A V) → IsSolved s.numbers t.rows
-        → Settles s ranges t
-        (record { rows = t.rows; point = extended s t.rows (λ y. settled_value s (ranges y) (t.point y)) }) }
-    ensures settled { (s : Space A V) → IsOrdered s → (ranges : ℕ → Range V) (t u : State A V)
-        → ((y : ℕ) → is_crossed s ranges y ≡ false) → Settles s ranges t u → IsNonbasicFeasible s ranges u }
+        → UpdatesNonbasic s ranges t
+        (record { rows = t.rows; point = extended s t.rows (λ y. value_in_range s (ranges y) (t.point y)) }) }
+    ensures nonbasic_updated { (s : Space A V) → IsOrdered s → (ranges : ℕ → Range V) (t u : State A V)
+        → ((y : ℕ) → is_crossed s ranges y ≡ false) → UpdatesNonbasic s ranges t u → IsNonbasicFeasible s ranges u }
 {}
 
 /// States that a nonbasic variable can move by each distance, and that rows keep a point as solution that moves so.
@@ -124,7 +124,7 @@ pub fn exchanges_are_made<A, V>()
     ensures one { (s : Space A V) → IsSpace s → (ranges : ℕ → Range V) (t u w : State A V) (b x : ℕ)
         → IsSolved s.numbers t.rows → IsPivot s.numbers t.rows b x → Exchanges s ranges t b x u
         → Exchanges s ranges t b x w → (y : ℕ) → u.point y ≡ w.point y }
-    ensures settled { (s : Space A V) → IsOrdered s → (ranges : ℕ → Range V) (t u : State A V) (b x : ℕ)
+    ensures nonbasic_updated { (s : Space A V) → IsOrdered s → (ranges : ℕ → Range V) (t u : State A V) (b x : ℕ)
         → IsNonbasicFeasible s ranges t → RuleSays s ranges t (exchange b x) → Exchanges s ranges t b x u → IsNonbasicFeasible s ranges u }
 {}
 

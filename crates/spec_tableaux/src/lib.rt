@@ -1,4 +1,4 @@
-//! Definitions about tableaux, over any ordered field: rows, the exchange of two variables, bounds, and the
+//! Definitions about tableaux, over any ordered field: rows, the pivot of two variables, bounds, and the
 //! least-variable rule, which leads from a point that violates bounds to one that keeps them, or to a row that shows
 //! that there is none.
 //!

@@ -65,17 +65,17 @@ module _ (P : ℕ → Type 0) where
   gives_in_turn Q R (Err e) f h g = h
 
   -- the offset of a fault, where there is one, has the property
-  abbrev pub Stands : {A : Type 0} → Answer A → Type 0
-  Stands a = Gives (λ _. Unit {0}) a
+  abbrev pub IsFaultWithin : {A : Type 0} → Answer A → Type 0
+  IsFaultWithin a = Gives (λ _. Unit {0}) a
 
-  pub stands : {A : Type 0} (a : Answer A) → ((f : Located) → a ≡ Err f → P f.offset) → Stands a
+  pub stands : {A : Type 0} (a : Answer A) → ((f : Located) → a ≡ Err f → P f.offset) → IsFaultWithin a
   stands (Ok x) h = tt
   stands (Err f) h = h f refl
 
-  pub stands_in_turn : {A B : Type 0} (a : Answer A) (f : A → Answer B) → Stands a → ((x : A) → Stands (f x)) → Stands (a >>= f)
-  stands_in_turn a f h g = gives_in_turn (λ _. Unit {0}) (λ _. Unit {0}) a f h (λ x _. g x)
+  pub within_in_turn : {A B : Type 0} (a : Answer A) (f : A → Answer B) → IsFaultWithin a → ((x : A) → IsFaultWithin (f x)) → IsFaultWithin (a >>= f)
+  within_in_turn a f h g = gives_in_turn (λ _. Unit {0}) (λ _. Unit {0}) a f h (λ x _. g x)
 
-  pub require_stands : (b : Bool) (at : ℕ) (f : Fault) → P at → Stands (require b at f)
+  pub require_within : (b : Bool) (at : ℕ) (f : Fault) → P at → IsFaultWithin (require b at f)
   unfolding require
-  require_stands true at f h = tt
-  require_stands false at f h = h
+  require_within true at f h = tt
+  require_within false at f h = h

@@ -1,4 +1,4 @@
--- Lexemes stand in their text, and so do the trees that they are, and their first fault.
+-- Lexemes are in their text, and so do the trees that they are, and their first fault.
 use Rattle.std.proofs.Common.{◌≡◌, ◌≤◌, ◌<◌, ℕ, zero, suc, ◌+◌, ◌-◌, ◌==◌, Bool, true, false, cond, List, [], ◌∷◌, ◌++◌, length, drop, Option, Some, None, refl, sym, ap, ◌∙◌, arith, subst, append_assoc, length-append, length-drop}
 use Rattle.std.specs.Prelude.{nat_lt}
 use Rattle.std.proofs.lemmas.List.{drop-drop}
@@ -73,30 +73,30 @@ first_fits b bs =
     either size (is_symbol_byte b) _ _ tt (omega arith))))))))))
 
 -- a lexeme stands from an offset on and before another, and a fault no further than the other
-abbrev StandsBy : ℕ → ℕ → ℕ → Lexeme → Type 0
-StandsBy low high at (wrong f) = at ≤ high
-StandsBy low high at _ = (low ≤ at) × (at < high)
+abbrev IsFaultBy : ℕ → ℕ → ℕ → Lexeme → Type 0
+IsFaultBy low high at (wrong f) = at ≤ high
+IsFaultBy low high at _ = (low ≤ at) × (at < high)
 
-abbrev Stand : ℕ → ℕ → List (ℕ × Lexeme) → Type 0
-Stand low high [] = Unit {0}
-Stand low high (x ∷ xs) = StandsBy low high x.0 x.1 × Stand low high xs
+abbrev AreFaultsWithin : ℕ → ℕ → List (ℕ × Lexeme) → Type 0
+AreFaultsWithin low high [] = Unit {0}
+AreFaultsWithin low high (x ∷ xs) = IsFaultBy low high x.0 x.1 × AreFaultsWithin low high xs
 
 -- what comes after a byte
 pub next_here : (text : List ℕ) (at b : ℕ) (bs : List ℕ) → drop at text ≡ b ∷ bs → drop (at + 1) text ≡ bs
 next_here text at b bs e = sym (drop-drop 1 at text) ∙ ap (drop 1) e
 
 module _ (text : List ℕ) (low : ℕ) where
-  stands_before : (at : ℕ) (p : Piece) (rest : List (ℕ × Lexeme)) → low ≤ at → at < length text → Fits (length text - at) p → Stand low (length text) rest → Stand low (length text) (before at p rest)
+  stands_before : (at : ℕ) (p : Piece) (rest : List (ℕ × Lexeme)) → low ≤ at → at < length text → Fits (length text - at) p → AreFaultsWithin low (length text) rest → AreFaultsWithin low (length text) (before at p rest)
   stands_before at p rest from within fits behind = go p.lexeme fits
     where
-      go : (x : Lexeme) → FitsBy x p.size (length text - at) → Stand low (length text) (before at (piece x p.size) rest)
+      go : (x : Lexeme) → FitsBy x p.size (length text - at) → AreFaultsWithin low (length text) (before at (piece x p.size) rest)
       go blank f = behind
       go opens f = ((from, within), behind)
       go closes f = ((from, within), behind)
       go (word k name) f = ((from, within), behind)
       go (wrong e) f = (omega (arith, within, f), tt)
 
-  stands_from : (n at : ℕ) (bs : List ℕ) → low ≤ at → drop at text ≡ bs → Stand low (length text) (lexemes n at bs)
+  stands_from : (n at : ℕ) (bs : List ℕ) → low ≤ at → drop at text ≡ bs → AreFaultsWithin low (length text) (lexemes n at bs)
   unfolding lexemes
   stands_from n at [] from e = tt
   stands_from (suc n) at (b ∷ bs) from e = stands_from n (at + 1) bs (omega (arith, from)) (next_here text at b bs e)
@@ -105,11 +105,11 @@ module _ (text : List ℕ) (low : ℕ) where
       stands_before at (first_piece b bs) _ from (omega (arith, size)) (subst (λ n. Fits n (first_piece b bs)) size (first_fits b bs))
       (stands_from ((first_piece b bs).size - 1) (at + 1) bs (omega (arith, from)) (next_here text at b bs e))
 
-lexemes_stand : (text : List ℕ) (at : ℕ) → Stand at (length text) (lexemes_from text at)
-lexemes_stand text at = stands_from text at 0 at (drop at text) (omega arith) refl
+lexemes_within : (text : List ℕ) (at : ℕ) → AreFaultsWithin at (length text) (lexemes_from text at)
+lexemes_within text at = stands_from text at 0 at (drop at text) (omega arith) refl
 
 -- what comes after others
-stand_behind : (low high : ℕ) (earlier rest : List (ℕ × Lexeme)) → Stand low high (earlier ++ rest) → Stand low high rest
+stand_behind : (low high : ℕ) (earlier rest : List (ℕ × Lexeme)) → AreFaultsWithin low high (earlier ++ rest) → AreFaultsWithin low high rest
 stand_behind low high [] rest h = h
 stand_behind low high (x ∷ earlier) rest h = stand_behind low high earlier rest h.1
 
@@ -119,47 +119,47 @@ module _ (low high : ℕ) where
   IsOffset n = (low ≤ n) × (n < high)
 
   mutual
-    tree_stands : (t : Tree) (rest : List (ℕ × Lexeme)) → Stand low high (spelled t ++ rest) → AllOffsets IsOffset t × Stand low high rest
-    tree_stands (atom at k bytes) rest h = h
-    tree_stands (list at ts end) rest h =
-        let inside = trees_stand ts ((end, closes) ∷ rest) (subst (Stand low high) (append_assoc (spelled_all ts) ((end, closes) ∷ []) rest) h.1) in
+    tree_is_within : (t : Tree) (rest : List (ℕ × Lexeme)) → AreFaultsWithin low high (spelled t ++ rest) → AllOffsets IsOffset t × AreFaultsWithin low high rest
+    tree_is_within (atom at k bytes) rest h = h
+    tree_is_within (list at ts end) rest h =
+        let inside = trees_are_within ts ((end, closes) ∷ rest) (subst (AreFaultsWithin low high) (append_assoc (spelled_all ts) ((end, closes) ∷ []) rest) h.1) in
         ((h.0, inside.0), inside.1.1)
 
-    trees_stand : (ts : Trees) (rest : List (ℕ × Lexeme)) → Stand low high (spelled_all ts ++ rest) → AllOffsetsOf IsOffset ts × Stand low high rest
-    trees_stand none rest h = (tt, h)
-    trees_stand (more t ts) rest h =
-        let first = tree_stands t (spelled_all ts ++ rest) (subst (Stand low high) (append_assoc (spelled t) (spelled_all ts) rest) h) in
-        let others = trees_stand ts rest first.1 in
+    trees_are_within : (ts : Trees) (rest : List (ℕ × Lexeme)) → AreFaultsWithin low high (spelled_all ts ++ rest) → AllOffsetsOf IsOffset ts × AreFaultsWithin low high rest
+    trees_are_within none rest h = (tt, h)
+    trees_are_within (more t ts) rest h =
+        let first = tree_is_within t (spelled_all ts ++ rest) (subst (AreFaultsWithin low high) (append_assoc (spelled t) (spelled_all ts) rest) h) in
+        let others = trees_are_within ts rest first.1 in
         ((first.0, others.0), others.1)
 
 -- a fault, where there is one, stands no further than so many bytes
-abbrev StandsAt : ℕ → Option Located → Type 0
-StandsAt high None = Unit {0}
-StandsAt high (Some f) = f.offset ≤ high
+abbrev IsFaultAt : ℕ → Option Located → Type 0
+IsFaultAt high None = Unit {0}
+IsFaultAt high (Some f) = f.offset ≤ high
 
-one_or_other : (high : ℕ) (c : Bool) (o p : Option Located) → StandsAt high o → StandsAt high p → StandsAt high (cond c o p)
+one_or_other : (high : ℕ) (c : Bool) (o p : Option Located) → IsFaultAt high o → IsFaultAt high p → IsFaultAt high (cond c o p)
 one_or_other high true o p h k = h
 one_or_other high false o p h k = k
 
--- the first fault of lexemes stands among them, or at the end
-first_stands : (limit low high n : ℕ) (xs : List (ℕ × Lexeme)) → Stand low high xs → StandsAt high (first_fault limit high n xs)
+-- the first fault of lexemes is among them, or at the end
+first_within : (limit low high n : ℕ) (xs : List (ℕ × Lexeme)) → AreFaultsWithin low high xs → IsFaultAt high (first_fault limit high n xs)
 unfolding first_fault
-first_stands limit low high zero [] h = tt
-first_stands limit low high (suc n) [] h = omega arith
-first_stands limit low high n ((at, blank) ∷ xs) h = first_stands limit low high n xs h.1
-first_stands limit low high n ((at, opens) ∷ xs) h = one_or_other high (nat_lt n limit) _ _ (first_stands limit low high (suc n) xs h.1) (omega (arith, h.0.1))
-first_stands limit low high zero ((at, closes) ∷ xs) h = omega (arith, h.0.1)
-first_stands limit low high (suc n) ((at, closes) ∷ xs) h = first_stands limit low high n xs h.1
-first_stands limit low high n ((at, word k bytes) ∷ xs) h = first_stands limit low high n xs h.1
-first_stands limit low high n ((at, wrong f) ∷ xs) h = h.0
+first_within limit low high zero [] h = tt
+first_within limit low high (suc n) [] h = omega arith
+first_within limit low high n ((at, blank) ∷ xs) h = first_within limit low high n xs h.1
+first_within limit low high n ((at, opens) ∷ xs) h = one_or_other high (nat_lt n limit) _ _ (first_within limit low high (suc n) xs h.1) (omega (arith, h.0.1))
+first_within limit low high zero ((at, closes) ∷ xs) h = omega (arith, h.0.1)
+first_within limit low high (suc n) ((at, closes) ∷ xs) h = first_within limit low high n xs h.1
+first_within limit low high n ((at, word k bytes) ∷ xs) h = first_within limit low high n xs h.1
+first_within limit low high n ((at, wrong f) ∷ xs) h = h.0
 
--- trees that stand in a text after other lexemes have their offsets there
+-- trees that are in a text after other lexemes have their offsets there
 pub trees_in_text : (text : List ℕ) (at : ℕ) (earlier rest : List (ℕ × Lexeme)) (ts : Trees) → lexemes_from text at ≡ earlier ++ (spelled_all ts ++ rest) → AllOffsetsOf (λ n. (at ≤ n) × (n < length text)) ts
-trees_in_text text at earlier rest ts e = (trees_stand at (length text) ts rest (stand_behind at (length text) earlier (spelled_all ts ++ rest) (subst (Stand at (length text)) e (lexemes_stand text at)))).0
+trees_in_text text at earlier rest ts e = (trees_are_within at (length text) ts rest (stand_behind at (length text) earlier (spelled_all ts ++ rest) (subst (AreFaultsWithin at (length text)) e (lexemes_within text at)))).0
 
 pub tree_in_text : (text : List ℕ) (at : ℕ) (t : Tree) (rest : List (ℕ × Lexeme)) → lexemes_from text at ≡ spelled t ++ rest → AllOffsets (λ n. (at ≤ n) × (n < length text)) t
-tree_in_text text at t rest e = (tree_stands at (length text) t rest (subst (Stand at (length text)) e (lexemes_stand text at))).0
+tree_in_text text at t rest e = (tree_is_within at (length text) t rest (subst (AreFaultsWithin at (length text)) e (lexemes_within text at))).0
 
--- the first fault of what stands in a text after other lexemes has its offset there
+-- the first fault of what is in a text after other lexemes has its offset there
 pub fault_in_text : (text : List ℕ) (at limit n : ℕ) (earlier rest : List (ℕ × Lexeme)) (f : Located) → lexemes_from text at ≡ earlier ++ rest → first_fault limit (length text) n rest ≡ Some f → f.offset ≤ length text
-fault_in_text text at limit n earlier rest f e h = subst (StandsAt (length text)) h (first_stands limit at (length text) n rest (stand_behind at (length text) earlier rest (subst (Stand at (length text)) e (lexemes_stand text at))))
+fault_in_text text at limit n earlier rest f e h = subst (IsFaultAt (length text)) h (first_within limit at (length text) n rest (stand_behind at (length text) earlier rest (subst (AreFaultsWithin at (length text)) e (lexemes_within text at))))

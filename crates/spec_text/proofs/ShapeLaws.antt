@@ -15,17 +15,17 @@ holds_in_turn Q R None f h g = tt
 holds_in_turn Q R (Some a) f h g = g a h
 
 -- the one tree of trees has what all of them have
-pub tree_stands : (P : ℕ → Type 0) (ts : Trees) → AllOffsetsOf P ts → Holds (AllOffsets P) (only_tree ts)
-tree_stands P none h = tt
-tree_stands P (more t none) h = h.0
-tree_stands P (more t (more u us)) h = tt
+pub tree_is_within : (P : ℕ → Type 0) (ts : Trees) → AllOffsetsOf P ts → Holds (AllOffsets P) (only_tree ts)
+tree_is_within P none h = tt
+tree_is_within P (more t none) h = h.0
+tree_is_within P (more t (more u us)) h = tt
 
 module _ (P : ℕ → Type 0) where
   -- a word, and what follows it
-  abbrev pub PrefixStands : Word × Trees → Type 0
-  PrefixStands x = P x.0.at × AllOffsetsOf P x.1
+  abbrev pub PrefixWithin : Word × Trees → Type 0
+  PrefixWithin x = P x.0.at × AllOffsetsOf P x.1
 
-  pub word_stands : (ts : Trees) → AllOffsetsOf P ts → Holds PrefixStands (first_word ts)
-  word_stands none h = tt
-  word_stands (more (atom at k bytes) ts) h = h
-  word_stands (more (list at us end) ts) h = tt
+  pub word_is_within : (ts : Trees) → AllOffsetsOf P ts → Holds PrefixWithin (first_word ts)
+  word_is_within none h = tt
+  word_is_within (more (atom at k bytes) ts) h = h
+  word_is_within (more (list at us end) ts) h = tt

@@ -56,7 +56,7 @@ one_end text ts us f g a b =
     let stop = one_stop end b.rest a.stop b.stop (subst (λ r. EndsTrees end r a.stop) row.1 a.stops) b.stops in
     (row.0, a.is ∙ ap (limited (is_long text)) stop ∙ sym b.is)
 
--- what stops trees that stand in no list ends the text
+-- what stops trees that are in no list ends the text
 pub stop_of : (end : ℕ) (rest : List (ℕ × Lexeme)) → StopsAt end 0 rest → (stop : Option Located) × EndsTrees end rest stop
 stop_of end rest (inl x) = (None, x.1)
 stop_of end rest (inr (inl x)) = absurd (x.0 refl)

@@ -67,7 +67,7 @@ front_then_rest test (b ∷ bs) = go (test b) (front_then_rest test bs)
     go true h = ap (λ (xs : List ℕ). b ∷ xs) h
     go false h = refl
 
--- bytes of symbols may stand between bars
+-- bytes of symbols may be between bars
 pub symbol_byte_in_bars : (b : ℕ) → is_symbol_byte b ≡ true → is_in_bars b ≡ true
 symbol_byte_in_bars b h = rw (other_byte is_symbol_byte b 124 h refl, other_byte is_symbol_byte b 92 h refl) refl
 

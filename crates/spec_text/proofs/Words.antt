@@ -54,6 +54,6 @@ mutual
       let r = words_rest ts rest f.1 in
       ((f.0, r.0), r.1)
 
--- of a tree that stands in a text
+-- of a tree that is in a text
 pub words_of_tree : (text : List ℕ) (at : ℕ) (t : Tree) (rest : List (ℕ × Lexeme)) → lexemes_from text at ≡ spelled t ++ rest → HasWords t
 words_of_tree text at t rest e = (words_first t rest (subst AreWords e (words_all 0 at _))).0

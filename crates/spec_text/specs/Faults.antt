@@ -4,7 +4,7 @@ use Rattle.spec_text.specs.declared.Fault.{Fault}
 use Rattle.spec_text.specs.declared.Fault.TheVariants.{UnclosedList, StrayClose, TooDeep}
 use Rattle.spec_text.specs.Lexemes.{Lexeme, blank, opens, closes, word, wrong, lexemes}
 
--- A fault with the offset that it stands at.
+-- A fault with the offset that it is at.
 pub record Located : Type 0 where
   pub offset : ℕ
   pub fault : Fault

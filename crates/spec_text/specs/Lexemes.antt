@@ -12,7 +12,7 @@ pub data Lexeme : Type 0 where
   word : Kind → List ℕ → Lexeme
   wrong : Fault → Lexeme
 
--- What bytes begin with, and how many of them it has; of a fault, how many stand before it.
+-- What bytes begin with, and how many of them it has; of a fault, how many are before it.
 pub record Piece : Type 0 where
   pub lexeme : Lexeme
   pub size : ℕ

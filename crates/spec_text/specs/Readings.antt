@@ -18,7 +18,7 @@ abbrev mutual
   depth_all none = 0
   depth_all (more t ts) = max (depth t) (depth_all ts)
 
--- after n open lists the lexemes begin with no tree and with no end of a list: their first fault stands before
+-- after n open lists the lexemes begin with no tree and with no end of a list: their first fault is before
 pub record IsBroken (end n : ℕ) (xs : List (ℕ × Lexeme)) (f : Located) : Type 0 where
   -- it is their first fault
   pub fault : first_fault nesting_limit end n xs ≡ Some f
@@ -73,7 +73,7 @@ is_of_end UnclosedQuote = true
 is_of_end UnclosedList = true
 is_of_end _ = false
 
--- where bytes are left unread, what is missing at the end of the others may stand among them
+-- where bytes are left unread, what is missing at the end of the others may be among them
 abbrev pub at_limit : Bool → Located → Located
 at_limit long f = if long && is_of_end f.fault then too_long else f
 

@@ -34,7 +34,7 @@ abbrev pub first_word : Trees → Option (Word × Trees)
 first_word (more (atom at k bytes) ts) = Some (record { at = at; kind = k; bytes = bytes }, ts)
 first_word _ = None
 
--- what stands in a list, and what follows it
+-- what is in a list, and what follows it
 abbrev pub first_list : Trees → Option (Trees × Trees)
 first_list (more (list at us end) ts) = Some (us, ts)
 first_list _ = None
@@ -49,7 +49,7 @@ abbrev pub no_tree : Trees → Option (Unit {0})
 no_tree none = Some tt
 no_tree _ = None
 
--- a list by its offset and what stands in it
+-- a list by its offset and what is in it
 abbrev pub inside_of : Tree → Option (ℕ × Trees)
 inside_of (atom at k bytes) = None
 inside_of (list at ts end) = Some (at, ts)

@@ -5,7 +5,7 @@ use Rattle.spec_text.specs.Lexemes.{Lexeme, opens, closes, word, lexemes}
 
 -- A tree and a row of trees: each holds the other.
 mutual
-  -- An atom by its offset, kind and bytes, or a list by the offsets of its parentheses and what stands between them.
+  -- An atom by its offset, kind and bytes, or a list by the offsets of its parentheses and what is between them.
   pub data Tree : Type 0 where
     atom : ℕ → Kind → List ℕ → Tree
     list : ℕ → Trees → ℕ → Tree

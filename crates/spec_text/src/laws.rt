@@ -64,9 +64,9 @@ pub fn each_text_is_read()
         → (ts : Trees) × (rest : List (ℕ × Lexeme)) × AreTrees n (lexemes_from text at) ts rest × StopsAt (length text) n rest }
 {}
 
-/// Says that the offsets of trees lie in the text that they stand in, from the offset on from which it was read: that of
+/// Says that the offsets of trees lie in the text that they are in, from the offset on from which it was read: that of
 /// one tree before other trees, and of trees after other lexemes.
-pub fn trees_stand_in_their_text()
+pub fn trees_are_in_their_text()
     ensures first { (text : List ℕ) (at : ℕ) (t : Tree) (rest : List (ℕ × Lexeme))
         → lexemes_from text at ≡ spelled t ++ rest
         → AllOffsets (λ n. (at ≤ n) × (n < length text)) t }
@@ -76,7 +76,7 @@ pub fn trees_stand_in_their_text()
 
 /// Says that the first fault of lexemes of a text lies in the text or at its end, after whatever other lexemes and
 /// however many open lists.
-pub fn lexical_faults_stand_in_their_text()
+pub fn lexical_faults_are_in_their_text()
     ensures { (text : List ℕ) (at n : ℕ) (earlier rest : List (ℕ × Lexeme)) (f : Located)
         → lexemes_from text at ≡ earlier ++ rest
         → first_fault nesting_limit (length text) n rest ≡ Some f → f.offset ≤ length text }

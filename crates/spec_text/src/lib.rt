@@ -32,7 +32,7 @@ pub enum Kind {
 /// The place of a byte, or of the end of a text.
 #[derive(Clone, Copy, Debug, PartialEq, Eq)]
 pub struct Place {
-    /// How many bytes stand before it: 0 at the first byte.
+    /// How many bytes are before it: 0 at the first byte.
     pub offset: u64,
     /// 1 plus the number of line feeds before it; a carriage return begins no line.
     pub line: u64,
@@ -43,7 +43,7 @@ pub struct Place {
 /// Why a text or a script is refused. The numbers E1 to E25 and the names are part of the product.
 #[derive(Clone, Copy, Debug, PartialEq, Eq)]
 pub enum Fault {
-    /// A byte that begins no token, or may not stand where it does.
+    /// A byte that begins no token, or may not are where it does.
     BadChar,
     /// A string that does not end, at its opening quote.
     UnclosedString,

@@ -62,14 +62,14 @@ both_made known c a b own = (equality_made known (choice c a b) a own own.1.0, e
 branch_made : (known : List Term) (t : Term) → IsMadeOver known t → (u : Term) → Contains (branch_equalities t) u → IsMadeOver known u
 branch_made known t m = all_branches (IsMadeOver known) t (λ c a b e. both_made known c a b (subst (IsMadeOver known) e m))
 
-module _ (p : Problem) (beside : (e : Term) → Contains p.beside e → IsEqualityAmong (subterms_in p) e) where
+module _ (p : Problem) (interface : (e : Term) → Contains p.interface e → IsEqualityAmong (subterms_in p) e) where
   known_term_made : (t : Term) → Contains (known_terms p) t → IsMadeOver (subterms_in p) t
   known_term_made t c =
       let least = least_of (terms_of_problem p) in
       let subterm_made = known_made (subterms_in p) least.closed in
-      elim (Contains-append_cases p.beside (terms_of_problem p) t c) [
+      elim (Contains-append_cases p.interface (terms_of_problem p) t c) [
         | inl other ↦
-            let e = beside t other in
+            let e = interface t other in
             subst (IsMadeOver (subterms_in p)) (sym e.is) (equality_made (subterms_in p) e.left e.right (subterm_made e.left e.left_in) (subterm_made e.right e.right_in))
         | inr own ↦ subterm_made t (least.there t own)
       ]

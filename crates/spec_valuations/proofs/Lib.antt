@@ -9,7 +9,7 @@ pub mod Formulas
 pub mod Speaking
 pub mod Applications
 pub mod Linear
-pub mod Rested
+pub mod Saturating
 pub mod Numberless
 pub mod Numbered
 pub mod Named

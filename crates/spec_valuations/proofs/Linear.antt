@@ -1,4 +1,4 @@
--- Where the terms of a check and those beside them are linear, so are all that a search over linear arithmetic speaks of.
+-- Where the terms of a check and the interface equalities are linear, so are all that a search over linear arithmetic speaks of.
 use Rattle.std.proofs.Common.{All, Contains, true, false, subst, arith, refl}
 use Rattle.spec_sorts.specs.Terms.{Equal, AtMost, Term, negated, pair}
 use Rattle.spec_arithmetic.specs.Numbers.{IsLinear, AreLinear}

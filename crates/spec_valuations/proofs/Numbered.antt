@@ -33,8 +33,8 @@ use Rattle.spec_derivations.proofs.SearchTerms.{subterms_spoken, facts_spoken}
 use Rattle.spec_derivations.proofs.OrderedTerms.{searched_whole, equalities_whole, order_whole, forth_whole, back_whole, whole_sorted}
 use Rattle.spec_valuations.specs.Tables.{Obeys, values_by}
 use Rattle.spec_valuations.specs.Classes.{value_in, value_by}
-use Rattle.spec_valuations.specs.Resting.{TheoryValues, RestsWithNumbers, RestsOnNumbers}
-use Rattle.spec_valuations.proofs.Rested.{some_interpretation, IsAtRest, is_of_numbers, HasNumbers, listed, is_met, alone, atoms, equality_classes}
+use Rattle.spec_valuations.specs.Saturation.{TheoryValues, IsSaturatedWithNumbers, IsSaturatedOnNumbers}
+use Rattle.spec_valuations.proofs.Saturating.{some_interpretation, IsAtSaturation, is_of_numbers, HasNumbers, listed, is_met, alone, atoms, equality_classes}
 use Rattle.spec_valuations.proofs.Formulas.{core_joins}
 
 -- no number is less than itself
@@ -70,7 +70,7 @@ two_of (cons s (cons t (cons u us))) e = absurd (omega (arith, ap length e))
 one_of_three : (a b c : Bool) → a || (not b || (not c || false)) ≡ true → a ≡ false → b ≡ true → c ≡ true → ⊥
 one_of_three a b c f e g h = grind (arith, f, e, g, h)
 
-module _ (symbols : List Symbol) (p : Problem) (terms : List Term) (held : List HeldLiteral) (a : TheoryValues) (r : RestsWithNumbers symbols p terms held a) where
+module _ (symbols : List Symbol) (p : Problem) (terms : List Term) (held : List HeldLiteral) (a : TheoryValues) (r : IsSaturatedWithNumbers symbols p terms held a) where
   abbrev point : Term → Fraction
   point t = number_at a.number t
 
@@ -81,8 +81,8 @@ module _ (symbols : List Symbol) (p : Problem) (terms : List Term) (held : List 
   clause_of_term t t_in c c_in = r.met c (Contains-append_right (map (λ x. x ∷ []) p.asserted) (flat_map whole_clauses_of (whole_terms p)) c
       (in_flat whole_clauses_of (whole_terms p) t c (r.only t t_in) c_in))
 
-  pub at_rest : IsAtRest symbols p terms held a.truths a.class
-  at_rest = record {
+  pub at_saturation : IsAtSaturation symbols p terms held a.truths a.class
+  at_saturation = record {
     formulas = r.formulas;
     asked = λ t c. r.listed t (searched_whole p t (subterms_spoken p t ((least_of (terms_of_problem p)).there t c)));
     sorted = λ t c. whole_sorted symbols p r.formulas t (r.only t c);
@@ -97,18 +97,18 @@ module _ (symbols : List Symbol) (p : Problem) (terms : List Term) (held : List 
   }
 
   takes : (h : Head) (ts : Terms) → Contains terms (app h ts) → head_takes [] h (sorts_of ts) ≡ true
-  takes = (listed symbols p terms held a.truths a.class at_rest).takes
+  takes = (listed symbols p terms held a.truths a.class at_saturation).takes
 
   point_reduced : (t : Term) → Contains terms t → sort_of t ≡ Number → IsReduced (point t)
-  point_reduced t c e = number_reduced symbols a.number r.reduced t (record { term = at_rest.sorted t c; sort = e })
+  point_reduced t c e = number_reduced symbols a.number r.reduced t (record { term = at_saturation.sorted t c; sort = e })
 
   -- what an atom of numbers says with its truth is so of the numbers of its sides
   module _ (h : Head) (s t : Term) (there : Contains terms (pair h s t)) (left : sort_of s ≡ Number) (right : sort_of t ≡ Number) where
     pub left_there : Contains terms s
-    left_there = at_rest.closed (pair h s t) there s (first s (t ∷ []))
+    left_there = at_saturation.closed (pair h s t) there s (first s (t ∷ []))
 
     pub right_there : Contains terms t
-    right_there = at_rest.closed (pair h s t) there t (later s (t ∷ []) t (first t []))
+    right_there = at_saturation.closed (pair h s t) there t (later s (t ∷ []) t (first t []))
 
     told : (b : Bool) (relation : Relation) → is_so (pair h s t) ≡ b → sort_of (pair h s t) ≡ Truth → literal_of (pair h s t) ≡ signed_literal (pair h s t) true
         → constraint_by b (pair h s t) ≡ where_true (are_numbers s t) (saying relation (pair h s t) s t) → Compares relation (point s) (point t)
@@ -116,7 +116,7 @@ module _ (symbols : List Symbol) (p : Problem) (terms : List Term) (held : List 
         let c = saying relation (pair h s t) s t in
         let numbers : are_numbers s t ≡ true = λ j. same_sort (left j) Number && same_sort (right j) Number in
         let is_held : Contains held (signed_literal (pair h s t) b) =
-        subst (λ (x : Bool). Contains held (signed_literal (pair h s t) x)) so (atoms symbols p terms held a.truths a.class at_rest (pair h s t) there sort plain) in
+        subst (λ (x : Bool). Contains held (signed_literal (pair h s t) x)) so (atoms symbols p terms held a.truths a.class at_saturation (pair h s t) there sort plain) in
         All-contains (HoldsAt a.number) held (signed_literal (pair h s t) b) r.kept is_held c (says ∙ ap (λ x. where_true x c) numbers) (r.linear s left_there) (r.linear t right_there)
 
   -- an order that is held negatively: the other side is less
@@ -140,7 +140,7 @@ module _ (symbols : List Symbol) (p : Problem) (terms : List Term) (held : List 
         (sym (ap (same_sort Number) left)) (0, omega arith, refl)
 
     fact_so : is_so (order_fact s t) ≡ true
-    fact_so = alone symbols p terms held a.truths a.class at_rest (order_fact s t)
+    fact_so = alone symbols p terms held a.truths a.class at_saturation (order_fact s t)
         (clause_of_term (pair Equal s t) there (order_fact s t ∷ []) (Contains-append_right (defining_clauses (pair Equal s t)) (order_clauses (pair Equal s t)) (order_fact s t ∷ []) fact_clause))
 
     fact_takes : head_takes [] Or (sorts_of (cons (pair Equal s t) (cons (negated (pair AtMost s t)) (cons (negated (pair AtMost t s)) nil)))) ≡ true
@@ -151,7 +151,7 @@ module _ (symbols : List Symbol) (p : Problem) (terms : List Term) (held : List 
     one_so =
         (λ i. is_so (pair Equal s t) || (sym (negated_true a.truths (pair AtMost s t)) i || (sym (negated_true a.truths (pair AtMost t s)) i || false)))
         ∙ sym (ap is_true (obeyed a.truths (order_fact s t) (core_joins Or (cons (pair Equal s t) (cons (negated (pair AtMost s t)) (cons (negated (pair AtMost t s)) nil))) refl fact_takes fact_takes)
-        (is_met symbols p terms held a.truths a.class at_rest (order_fact s t) fact_there) some_interpretation))
+        (is_met symbols p terms held a.truths a.class at_saturation (order_fact s t) fact_there) some_interpretation))
         ∙ fact_so
 
     -- then one of its sides is less than the other
@@ -183,7 +183,7 @@ module _ (symbols : List Symbol) (p : Problem) (terms : List Term) (held : List 
   -- theories agree on the sides of an equality of which the search speaks: its truth says what the classes are, and what the numbers are
   pub sides_agree : (s t : Term) → Contains terms (pair Equal s t) → sort_of s ≡ Number → (a.class s ≡ a.class t) ↔ (point s ≡ point t)
   sides_agree s t c left =
-      let classes = equality_classes symbols p terms held a.truths a.class at_rest s t c in
+      let classes = equality_classes symbols p terms held a.truths a.class at_saturation s t c in
       let numbers = (equal_sides s t c left).1 in
       (λ e. numbers.0 (classes.1 e), λ e. classes.0 (numbers.1 e))
 
@@ -202,7 +202,7 @@ module _ (symbols : List Symbol) (p : Problem) (terms : List Term) (held : List 
 
   arithmetic : (i : Interpretation) (h : Head) (ts : Terms) → Contains terms (app h ts) → keeps_constant h ≡ true → all_same Number (sorts_of ts) ≡ true
       → number (point (app h ts)) ≡ head_value i h (values_by v ts)
-  arithmetic i h ts c k e = number_obeys symbols a.number i h ts k (at_rest.sorted (app h ts) c) ∙ ap (head_value i h) (sym (arguments_valued ts e))
+  arithmetic i h ts c k e = number_obeys symbols a.number i h ts k (at_saturation.sorted (app h ts) c) ∙ ap (head_value i h) (sym (arguments_valued ts e))
 
   -- an order is true exactly where it holds of the numbers of its sides
   less_so : (s t : Term) → Contains terms (pair Less s t) → sort_of s ≡ Number → sort_of t ≡ Number → is_so (pair Less s t) ≡ less (point s) (point t)
@@ -235,7 +235,7 @@ module _ (symbols : List Symbol) (p : Problem) (terms : List Term) (held : List 
   numbers_obey Times ts c k = λ i. arithmetic i Times ts c refl (times_takes (sorts_of ts) (takes Times ts c))
   numbers_obey Minus ts c k = λ i. arithmetic i Minus ts c refl (minus_takes (sorts_of ts) (takes Minus ts c))
   numbers_obey Divide ts c k = λ i. arithmetic i Divide ts c refl (divide_takes (sorts_of ts) (takes Divide ts c))
-  numbers_obey (Literal q) ts c k = λ i. number_obeys symbols a.number i (Literal q) ts refl (at_rest.sorted (app (Literal q) ts) c)
+  numbers_obey (Literal q) ts c k = λ i. number_obeys symbols a.number i (Literal q) ts refl (at_saturation.sorted (app (Literal q) ts) c)
   numbers_obey Less ts c k =
       let two = two_of ts (less_takes (sorts_of ts) (takes Less ts c)) in
       subst (λ us. Contains terms (app Less us) → Obeys v (app Less us)) (sym two.same) (λ d. less_obeys two.s two.t d two.left two.right) c
@@ -245,7 +245,7 @@ module _ (symbols : List Symbol) (p : Problem) (terms : List Term) (held : List 
   numbers_obey h ts c k = absurd (false≢true k)
 
 -- so where theories agree on shared terms, the numbers are those of a model
-pub has_numbers : (symbols : List Symbol) (p : Problem) (terms : List Term) (held : List HeldLiteral) (a : TheoryValues) → RestsOnNumbers symbols p terms held a
+pub has_numbers : (symbols : List Symbol) (p : Problem) (terms : List Term) (held : List HeldLiteral) (a : TheoryValues) → IsSaturatedOnNumbers symbols p terms held a
     → HasNumbers terms (term_true_by a.truths) (number_at a.number) a.class
 has_numbers symbols p terms held a r = record {
   shared = r.shared;

@@ -14,8 +14,8 @@ use Rattle.spec_derivations.specs.Base.{defining_clauses, spoken_terms, search_t
 use Rattle.spec_derivations.proofs.SearchTerms.{subterms_spoken, facts_spoken, equalities_spoken, spoken_sorted}
 use Rattle.spec_valuations.specs.Tables.{Obeys}
 use Rattle.spec_valuations.specs.Classes.{value_by}
-use Rattle.spec_valuations.specs.Resting.{Rests}
-use Rattle.spec_valuations.proofs.Rested.{IsAtRest, is_of_numbers, HasNumbers, listed}
+use Rattle.spec_valuations.specs.Saturation.{Saturated}
+use Rattle.spec_valuations.proofs.Saturating.{IsAtSaturation, is_of_numbers, HasNumbers, listed}
 
 -- what comparisons take are numbers
 less_first : (ts : Terms) → head_takes [] Less (sorts_of ts) ≡ true → (t : Term) × Contains (list_of ts) t × (sort_of t ≡ Number)
@@ -34,9 +34,9 @@ at_most_first (cons t ts) e = (t, first t (list_of ts), number (sort_of t) (sort
     number Number ss e = refl
     number s ss e = absurd (false≢true e)
 
-module _ (symbols : List Symbol) (p : Problem) (terms : List Term) (held : List HeldLiteral) (v : Truths) (class : Term → ℕ) (r : Rests symbols p terms held v class) where
-  pub at_rest : IsAtRest symbols p terms held v class
-  at_rest = record {
+module _ (symbols : List Symbol) (p : Problem) (terms : List Term) (held : List HeldLiteral) (v : Truths) (class : Term → ℕ) (r : Saturated symbols p terms held v class) where
+  pub at_saturation : IsAtSaturation symbols p terms held v class
+  at_saturation = record {
     formulas = r.formulas;
     asked = λ t c. r.listed t (subterms_spoken p t ((least_of (terms_of_problem p)).there t c));
     sorted = λ t c. spoken_sorted symbols p r.formulas t (r.only t c);
@@ -52,7 +52,7 @@ module _ (symbols : List Symbol) (p : Problem) (terms : List Term) (held : List 
   }
 
   no_arguments : (h : Head) (ts : Terms) (u : Term) → Contains terms (app h ts) → Contains (list_of ts) u → sort_of u ≢ Number
-  no_arguments h ts u c d = r.no_numbers u (at_rest.closed (app h ts) c u d)
+  no_arguments h ts u c d = r.no_numbers u (at_saturation.closed (app h ts) c u d)
 
   module _ (point : Term → Fraction) where
     no_obeying : (h : Head) (ts : Terms) → Contains terms (app h ts) → is_of_numbers h ≡ true → Obeys (value_by (term_true_by v) point class) (app h ts)
@@ -62,8 +62,8 @@ module _ (symbols : List Symbol) (p : Problem) (terms : List Term) (held : List 
     no_obeying Times ts c k = absurd (r.no_numbers (app Times ts) c refl)
     no_obeying Divide ts c k = absurd (r.no_numbers (app Divide ts) c refl)
     no_obeying (Literal q) ts c k = absurd (r.no_numbers (app (Literal q) ts) c refl)
-    no_obeying Less ts c k = let x = less_first ts ((listed symbols p terms held v class at_rest).takes Less ts c) in absurd (no_arguments Less ts x.0 c x.1 x.2)
-    no_obeying AtMost ts c k = let x = at_most_first ts ((listed symbols p terms held v class at_rest).takes AtMost ts c) in absurd (no_arguments AtMost ts x.0 c x.1 x.2)
+    no_obeying Less ts c k = let x = less_first ts ((listed symbols p terms held v class at_saturation).takes Less ts c) in absurd (no_arguments Less ts x.0 c x.1 x.2)
+    no_obeying AtMost ts c k = let x = at_most_first ts ((listed symbols p terms held v class at_saturation).takes AtMost ts c) in absurd (no_arguments AtMost ts x.0 c x.1 x.2)
     no_obeying h ts c k = absurd (false≢true k)
 
     pub no_numbers : HasNumbers terms (term_true_by v) point class

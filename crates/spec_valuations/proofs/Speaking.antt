@@ -1,4 +1,4 @@
--- What holds of the terms of a check, of those beside them, of the facts and of the equalities of choices holds of all terms that a search speaks of.
+-- What holds of the terms of a check, of the interface equalities, of the facts and of the equalities of choices holds of all terms that a search speaks of.
 use Rattle.std.proofs.Common.{◌≡◌, Bool, true, false, not, cond, List, [], ◌∷◌, ◌++◌, inl, inr, get_or, All, Contains, refl, sym, subst}
 use Rattle.std.specs.Prelude.{flat_map}
 use Rattle.std.proofs.lemmas.List.Elements.{All-contains, Contains-append_cases, Contains-get_or}
@@ -39,11 +39,11 @@ all_branches P (app Ite (cons c (cons a (cons b nil)))) each u u_in = go (same_s
 all_branches P t each u u_in = absurd (none u u_in)
 
 module _ (P : Term → Type 0) (p : Problem) where
-  -- what the terms of the check and those beside them, the facts, and the equalities of choices have
+  -- what the terms of the check and the interface equalities, the facts, and the equalities of choices have
   pub record EachHas : Type 0 where
     -- arguments have what a term has
     pub down : (t : Term) → P t → (u : Term) → Contains (arguments_of t) u → P u
-    -- the terms of the check, and those beside them
+    -- the terms of the check, and the interface equalities
     pub terms : All P (known_terms p)
     -- the facts
     pub facts : (u : Term) → Contains truth_facts u → P u

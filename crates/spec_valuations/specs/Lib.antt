@@ -1,4 +1,4 @@
--- Values of listed terms, the interpretation that they give, values from classes, and where a search rests.
+-- Values of listed terms, the interpretation that they give, values from classes, and where a search is saturated.
 pub mod Tables
 pub mod Classes
-pub mod Resting
+pub mod Saturation

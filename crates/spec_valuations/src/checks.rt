@@ -1,4 +1,4 @@
-//! What a search that rests says of a check of a script. Each law is a function whose contract is the law; it computes
+//! What a saturated search says of a check of a script. Each law is a function whose contract is the law; it computes
 //! nothing.
 
 ghost use Rattle.std.specs.Prelude.{◌≡◌, ℕ, true, List, All};
@@ -10,20 +10,20 @@ ghost use Rattle.spec_commands.specs.Stack.{signature_of};
 ghost use Rattle.spec_commands.specs.Checks.{Check, IsCurrent, MakesTrue};
 ghost use Rattle.spec_rules.specs.Truths.{Truths, term_true_by};
 ghost use Rattle.spec_derivations.specs.Problems.{problem_of};
-ghost use Rattle.spec_valuations.specs.Resting.{Rests, TheoryValues, RestsOnNumbers};
+ghost use Rattle.spec_valuations.specs.Saturation.{Saturated, TheoryValues, IsSaturatedOnNumbers};
 
-use crate::laws::{resting_searches_have_models, searches_that_rest_on_numbers_have_models};
+use crate::laws::{saturated_searches_have_models, searches_saturated_on_numbers_have_models};
 
 /// States that a check has a model where a search of its terms rests that makes true what the check assumes. So where a
 /// search rests, `sat` is right.
-pub fn resting_searches_give_current_checks_models()
-    ensures { (limit : ℕ) (script : List ℕ) (k : ℕ) (c : Check) (beside terms : List Term) (held : List Literal)
+pub fn saturated_searches_give_current_checks_models()
+    ensures { (limit : ℕ) (script : List ℕ) (k : ℕ) (c : Check) (interface terms : List Term) (held : List Literal)
         (v : Truths) (class : Term → ℕ) → IsCurrent limit script k c
-        → Rests (symbols_in (signature_of c.stack)) (problem_of c beside) terms held v class
-        → All (λ t. term_true_by v t ≡ true) (problem_of c beside).assumed
+        → Saturated (symbols_in (signature_of c.stack)) (problem_of c interface) terms held v class
+        → All (λ t. term_true_by v t ≡ true) (problem_of c interface).assumed
         → (i : Interpretation) × MakesTrue limit i script k }
 {
-    resting_searches_have_models();
+    saturated_searches_have_models();
     spec_checking::laws::satisfied_scripts_have_a_model();
     spec_commands::assertions_have_their_texts_value();
 }
@@ -31,14 +31,14 @@ pub fn resting_searches_give_current_checks_models()
 /// States that a check has a model where a search over equality, functions and linear arithmetic rests that makes true
 /// what the check assumes. Its theories agree on shared terms. So where it rests, `sat` is right. Source: Nelson and
 /// Oppen 1979.
-pub fn searches_that_rest_on_numbers_give_current_checks_models()
-    ensures { (limit : ℕ) (script : List ℕ) (k : ℕ) (c : Check) (beside terms : List Term) (held : List Literal)
+pub fn searches_saturated_on_numbers_give_current_checks_models()
+    ensures { (limit : ℕ) (script : List ℕ) (k : ℕ) (c : Check) (interface terms : List Term) (held : List Literal)
         (a : TheoryValues) → IsCurrent limit script k c
-        → RestsOnNumbers (symbols_in (signature_of c.stack)) (problem_of c beside) terms held a
-        → All (λ t. term_true_by a.truths t ≡ true) (problem_of c beside).assumed
+        → IsSaturatedOnNumbers (symbols_in (signature_of c.stack)) (problem_of c interface) terms held a
+        → All (λ t. term_true_by a.truths t ≡ true) (problem_of c interface).assumed
         → (i : Interpretation) × MakesTrue limit i script k }
 {
-    searches_that_rest_on_numbers_have_models();
+    searches_saturated_on_numbers_have_models();
     spec_checking::laws::satisfied_scripts_have_a_model();
     spec_commands::assertions_have_their_texts_value();
 }

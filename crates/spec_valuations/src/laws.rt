@@ -13,7 +13,7 @@ ghost use Rattle.spec_derivations.specs.Orders.{whole_terms};
 ghost use Rattle.spec_valuations.specs.Tables.{Valuation, IsModelBy, AreListed, IsValuation};
 ghost use Rattle.spec_valuations.specs.Classes.{value_by, class_in, IsEqualityAmong};
 ghost use Rattle.spec_valuations.specs.Classes.{AreClasses, TellsNumbers, Chooses, AreJoint, AreDefined};
-ghost use Rattle.spec_valuations.specs.Resting.{Rests, TheoryValues, values_of, RestsWithNumbers, RestsOnNumbers};
+ghost use Rattle.spec_valuations.specs.Saturation.{Saturated, TheoryValues, values_of, IsSaturatedWithNumbers, IsSaturatedOnNumbers};
 
 /// States that under the interpretation that values of listed terms give, each of these terms has its value.
 pub fn values_are_met()
@@ -51,20 +51,20 @@ pub fn listed_terms_have_their_places_class()
 /// States that where a search over equality and functions rests, its truths and classes give a model. In it each symbol
 /// has its table, each listed term has its value, and each asserted term is true. The assumed terms are true where the
 /// truths make them so. None of the terms is a number, so their points do not matter. Source: Nelson and Oppen 1979.
-pub fn resting_searches_have_models()
+pub fn saturated_searches_have_models()
     ensures interprets { (symbols : List Symbol) (p : Problem) (terms : List Term) (held : List Literal) (v : Truths)
-        (class : Term → ℕ) (point : Term → Fraction) (i : Interpretation) → Rests symbols p terms held v class
+        (class : Term → ℕ) (point : Term → Fraction) (i : Interpretation) → Saturated symbols p terms held v class
         → IsModelBy i (value_by (term_true_by v) point class) symbols terms → Interprets i symbols }
     ensures values { (symbols : List Symbol) (p : Problem) (terms : List Term) (held : List Literal) (v : Truths)
-        (class : Term → ℕ) (point : Term → Fraction) (i : Interpretation) → Rests symbols p terms held v class
+        (class : Term → ℕ) (point : Term → Fraction) (i : Interpretation) → Saturated symbols p terms held v class
         → IsModelBy i (value_by (term_true_by v) point class) symbols terms
         → (t : Term) → Contains terms t → value_at i [] t ≡ value_by (term_true_by v) point class t }
     ensures asserted { (symbols : List Symbol) (p : Problem) (terms : List Term) (held : List Literal) (v : Truths)
-        (class : Term → ℕ) (point : Term → Fraction) (i : Interpretation) → Rests symbols p terms held v class
+        (class : Term → ℕ) (point : Term → Fraction) (i : Interpretation) → Saturated symbols p terms held v class
         → IsModelBy i (value_by (term_true_by v) point class) symbols terms
         → All (λ t. value_at i [] t ≡ truth true) p.asserted }
     ensures all { (symbols : List Symbol) (p : Problem) (terms : List Term) (held : List Literal) (v : Truths)
-        (class : Term → ℕ) (point : Term → Fraction) (i : Interpretation) → Rests symbols p terms held v class
+        (class : Term → ℕ) (point : Term → Fraction) (i : Interpretation) → Saturated symbols p terms held v class
         → IsModelBy i (value_by (term_true_by v) point class) symbols terms
         → All (λ t. term_true_by v t ≡ true) p.assumed
         → All (λ t. value_at i [] t ≡ truth true) (terms_of_problem p) }
@@ -74,40 +74,40 @@ pub fn resting_searches_have_models()
 /// model. In it each symbol has its table, each listed term has its value, and each asserted term is true. The assumed
 /// terms are true where the truths make them so. Its theories agree on shared terms: these have one number exactly where
 /// they have one class. Source: Nelson and Oppen 1979.
-pub fn searches_that_rest_on_numbers_have_models()
+pub fn searches_saturated_on_numbers_have_models()
     ensures interprets { (symbols : List Symbol) (p : Problem) (terms : List Term) (held : List Literal)
-        (a : TheoryValues) (i : Interpretation) → RestsOnNumbers symbols p terms held a
+        (a : TheoryValues) (i : Interpretation) → IsSaturatedOnNumbers symbols p terms held a
         → IsModelBy i (values_of a) symbols terms → Interprets i symbols }
     ensures values { (symbols : List Symbol) (p : Problem) (terms : List Term) (held : List Literal)
-        (a : TheoryValues) (i : Interpretation) → RestsOnNumbers symbols p terms held a
+        (a : TheoryValues) (i : Interpretation) → IsSaturatedOnNumbers symbols p terms held a
         → IsModelBy i (values_of a) symbols terms → (t : Term) → Contains terms t → value_at i [] t ≡ values_of a t }
     ensures asserted { (symbols : List Symbol) (p : Problem) (terms : List Term) (held : List Literal)
-        (a : TheoryValues) (i : Interpretation) → RestsOnNumbers symbols p terms held a
+        (a : TheoryValues) (i : Interpretation) → IsSaturatedOnNumbers symbols p terms held a
         → IsModelBy i (values_of a) symbols terms → All (λ t. value_at i [] t ≡ truth true) p.asserted }
     ensures all { (symbols : List Symbol) (p : Problem) (terms : List Term) (held : List Literal)
-        (a : TheoryValues) (i : Interpretation) → RestsOnNumbers symbols p terms held a
+        (a : TheoryValues) (i : Interpretation) → IsSaturatedOnNumbers symbols p terms held a
         → IsModelBy i (values_of a) symbols terms → All (λ t. term_true_by a.truths t ≡ true) p.assumed
         → All (λ t. value_at i [] t ≡ truth true) (terms_of_problem p) }
 {}
 
-/// States that where a search rests, its theories agree on the sides of each equality of numbers that it speaks of. These
+/// States that where a search is saturated, its theories agree on the sides of each equality of numbers that it speaks of. These
 /// have one class exactly where they have one number.
 pub fn sides_of_equalities_agree()
     ensures { (symbols : List Symbol) (p : Problem) (terms : List Term) (held : List Literal) (a : TheoryValues)
-        → RestsWithNumbers symbols p terms held a
+        → IsSaturatedWithNumbers symbols p terms held a
         → (s t : Term) → Contains terms (pair Equal s t) → sort_of s ≡ Number
         → (a.class s ≡ a.class t) ↔ (number_at a.number s ≡ number_at a.number t) }
 {}
 
-/// States that equalities beside the terms of a check add no application of a declared symbol, where their sides are
+/// States that interface equalities add no application of a declared symbol, where their sides are
 /// among the subterms of these terms. Each that a search speaks of is one of these subterms.
-pub fn equalities_beside_apply_nothing_more()
-    ensures { (p : Problem) → ((e : Term) → Contains p.beside e → IsEqualityAmong (subterms_in p) e)
+pub fn interface_equalities_apply_nothing_more()
+    ensures { (p : Problem) → ((e : Term) → Contains p.interface e → IsEqualityAmong (subterms_in p) e)
         → (f : Symbol) (us : Terms) → Contains (whole_terms p) (app (Apply f) us)
         → Contains (subterms_in p) (app (Apply f) us) }
 {}
 
-/// States that where the terms of a check and those beside them are linear, so are all that a search over linear
+/// States that where the terms of a check and the interface equalities are linear, so are all that a search over linear
 /// arithmetic speaks of.
 pub fn terms_of_linear_checks_are_linear()
     ensures { (p : Problem) → All IsLinear (known_terms p)

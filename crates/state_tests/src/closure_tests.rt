@@ -128,12 +128,12 @@ fn answers_agree(
 }
 
 /// Settles both; tells whether the answers agree.
-fn settles_alike(
+fn saturates_alike(
     marked: &mut Marked,
     plain: &PlainClosure,
     nodes: &[Node],
 ) -> Result<bool, NoMemory> {
-    let found = marked.closure.settle()?;
+    let found = marked.closure.saturate()?;
     answers_agree(&marked.closure, found.is_some(), plain, nodes)
 }
 
@@ -187,7 +187,7 @@ fn call(
         2 | 3 | 4 => hold_both(marked, plain, Lit { term: t, positive })?,
         5 => mark_both(marked, plain)?,
         6 => back_both(marked, plain),
-        _ => return settles_alike(marked, plain, nodes),
+        _ => return saturates_alike(marked, plain, nodes),
     }
     Ok(true)
 }
@@ -219,7 +219,7 @@ fn calls_agree(
             return Ok(false);
         }
     }
-    settles_alike(marked, plain, nodes)
+    saturates_alike(marked, plain, nodes)
 }
 
 /// Runs a case over some nodes; tells whether all answers agree.

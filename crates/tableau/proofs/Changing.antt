@@ -10,7 +10,7 @@ use Rattle.tableau.specs.declared.entries.Row.{Row}
 use Rattle.tableau.specs.declared.pivots.RowChange.{RowChange}
 use Rattle.tableau.specs.Entries.{row_meant, rows_of}
 use Rattle.tableau.specs.Views.{row_at, no_row}
-use Rattle.tableau.specs.Pivots.{NewRow, StrainsRow, StrainsOther, change_meant, changes_meant, changes_in, stays, with_changes, AllNumbers}
+use Rattle.tableau.specs.Pivots.{NewRow, OverflowsRow, OverflowsOther, change_meant, changes_meant, changes_in, stays, with_changes, AllNumbers}
 
 -- the row of a number
 pub meant_at : (rows : List Row) (k : ℕ) (r : Row) → k < length rows → r ≡ get_or rows k r → row_meant r ≡ row_at (rows_of rows) k
@@ -42,11 +42,11 @@ module _ (rows : List Row) (k : ℕ) (r : Row) (es : List (Entry Number)) (low :
   over_there p t = subst (AllVariables p) (sym entries_at) (over_at p (rows_of rows) k (low_meant rows k low) t)
 
   -- an overflow in a row
-  pub other_strains : (p : Pivot Number) (c : Number) → (r.basic == p.leaving) ≡ false → c ≡ coefficient_of numbers p.entering (row_meant r).entries → (o : Overflow) → StrainsRow p c es o → StrainsOther p (rows_of rows) o
-  other_strains p c n e o s = record {
+  pub other_overflows : (p : Pivot Number) (c : Number) → (r.basic == p.leaving) ≡ false → c ≡ coefficient_of numbers p.entering (row_meant r).entries → (o : Overflow) → OverflowsRow p c es o → OverflowsOther p (rows_of rows) o
+  other_overflows p c n e o s = record {
     row = row_meant r;
     other = (subst (Contains (rows_of rows)) (sym (meant_at rows k r low at)) (Contains-get_or (rows_of rows) k no_row (low_meant rows k low)), n);
-    wide = subst (λ z. StrainsRow p z (row_meant r).entries o) e (subst (λ z. StrainsRow p c z o) same s);
+    wide = subst (λ z. OverflowsRow p z (row_meant r).entries o) e (subst (λ z. OverflowsRow p c z o) same s);
   }
 
 -- the changes of the first number, and those of the others

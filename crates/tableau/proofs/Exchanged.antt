@@ -4,7 +4,7 @@ use Rattle.std.proofs.lemmas.List.{length-map, length-set}
 use Rattle.spec_tableaux.specs.Spaces.{as_space}
 use Rattle.spec_tableaux.specs.Rows.{Row, coefficient_of, row_of, is_basic, exchanged, exchanged_row, Solves}
 use Rattle.spec_tableaux.specs.SolvedForms.{IsPivot}
-use Rattle.spec_tableaux.specs.Strains.{pivot_in}
+use Rattle.spec_tableaux.specs.CheckOverflows.{pivot_in}
 use Rattle.spec_tableaux.specs.Numbers.{Number, numbers}
 use Rattle.tableau.specs.declared.entries.Row.{Row as CodeRow}
 use Rattle.tableau.specs.declared.table.Tableau.TheInside.{Inside}

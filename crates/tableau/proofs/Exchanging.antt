@@ -7,7 +7,7 @@ use Rattle.std.proofs.lemmas.List.{ext_get_or, get_or-set_same, get_or-set_other
 use Rattle.std.proofs.lemmas.Option.{same_Some}
 use Rattle.spec_tableaux.specs.Rows.{Row, Pivot, coefficient_of, row_of, is_basic, put, minus_times, without, pivot_row, substituted_row, exchanged_row, exchanged, AreDistinct}
 use Rattle.spec_tableaux.specs.SolvedForms.{AllVariables, AllRowVariables, IsSolved, IsPivot}
-use Rattle.spec_tableaux.specs.Strains.{pivot_in}
+use Rattle.spec_tableaux.specs.CheckOverflows.{pivot_in}
 use Rattle.spec_tableaux.specs.Numbers.{Number, numbers}
 use Rattle.spec_tableaux.proofs.Exchanges.{row_of_basic}
 use Rattle.tableau.specs.Views.{row_at, no_row, place, next_place}

@@ -5,15 +5,15 @@ use Rattle.spec_numbers.specs.Bounds.{Overflow}
 use Rattle.spec_tableaux.specs.Spaces.{as_space}
 use Rattle.spec_tableaux.specs.Rows.{Entry, Row, row_of, put, plus_times, with_flattened, flattened}
 use Rattle.spec_tableaux.specs.SolvedForms.{IsTidy}
-use Rattle.spec_tableaux.specs.Strains.{StrainsSum, product_of_row, sum_of_row, sum_of_two}
+use Rattle.spec_tableaux.specs.CheckOverflows.{OverflowsSum, product_of_row, sum_of_row, sum_of_two}
 use Rattle.spec_tableaux.specs.Numbers.{Number, numbers}
 use Rattle.spec_tableaux.proofs.Growing.{tidy_flattened}
 use Rattle.tableau.specs.declared.entries.Row.{Row as CodeRow}
 use Rattle.tableau.specs.Entries.{row_meant, rows_of}
-use Rattle.tableau.specs.Sums.{combined, StrainsCombined, in_product, in_sum}
+use Rattle.tableau.specs.Sums.{combined, OverflowsCombined, in_product, in_sum}
 use Rattle.tableau.specs.Views.{row_at}
 use Rattle.tableau.specs.Kept.{ArePlaces}
-use Rattle.tableau.specs.Flattenings.{StrainsOne, in_row, in_put}
+use Rattle.tableau.specs.Flattenings.{OverflowsOne, in_row, in_put}
 use Rattle.tableau.proofs.Loops.{combined_plus}
 use Rattle.tableau.proofs.Places.{IsPlaced, placed_at, placed_in}
 
@@ -33,8 +33,8 @@ module _ (rs : List (Row Number)) (es : List (Entry Number)) (g : Entry Number) 
   pub flattened_put : (made : List (Entry Number)) → IsPlaced g.variable rs None → made ≡ put numbers g.variable g.coefficient es → made ≡ with_flattened numbers rs es g
   flattened_put made p m = m ∙ sym (ap (λ b. cond b (plus_times numbers es g.coefficient (row_of g.variable rs).entries) (put numbers g.variable g.coefficient es)) p)
 
-  pub one_in_row : (k : ℕ) (gs : List (Entry Number)) → IsPlaced g.variable rs (Some k) → gs ≡ (row_at rs k).entries → (o : Overflow) → StrainsCombined false es g.coefficient gs o → StrainsOne rs es g o
-  one_in_row k gs p e o s = in_row p.1 (subst (λ z. StrainsCombined false es g.coefficient z o) (e ∙ ap (λ (r : Row Number). r.entries) (sym p.2)) s)
+  pub one_in_row : (k : ℕ) (gs : List (Entry Number)) → IsPlaced g.variable rs (Some k) → gs ≡ (row_at rs k).entries → (o : Overflow) → OverflowsCombined false es g.coefficient gs o → OverflowsOne rs es g o
+  one_in_row k gs p e o s = in_row p.1 (subst (λ z. OverflowsCombined false es g.coefficient z o) (e ∙ ap (λ (r : Row Number). r.entries) (sym p.2)) s)
 
 -- the sum with one entry more
 flattened_last : (rs : List (Row Number)) (es before : List (Entry Number)) (g : Entry Number) → flattened numbers rs es (before ++ g ∷ []) ≡ with_flattened numbers rs (flattened numbers rs es before) g
@@ -63,11 +63,11 @@ sum_one rs whole total rest more new g e n s = record {
 pub sum_all : (rs : List (Row Number)) (whole total rest : List (Entry Number)) → rest ≡ [] → SumSoFar rs whole total rest → total ≡ flattened numbers rs [] whole
 sum_all rs whole total rest e s = s.is ∙ ap (flattened numbers rs []) (sym (s.split ∙ ap (λ z. s.before ++ z) e ∙ append-nil s.before))
 
-strains_at : (rs : List (Row Number)) (whole before more : List (Entry Number)) (g : Entry Number) (o : Overflow) → whole ≡ before ++ g ∷ more → StrainsOne rs (flattened numbers rs [] before) g o → StrainsSum rs whole o
-strains_at rs whole before more g o e (in_row b (in_product c t w)) = product_of_row before g more e b c t w
-strains_at rs whole before more g o e (in_row b (in_sum c t d u v w)) = sum_of_row before g more e b c t d u v w
-strains_at rs whole before more g o e (in_put b s) = sum_of_two before g more e b s.entry s.there s.same s.wide
+overflows_at : (rs : List (Row Number)) (whole before more : List (Entry Number)) (g : Entry Number) (o : Overflow) → whole ≡ before ++ g ∷ more → OverflowsOne rs (flattened numbers rs [] before) g o → OverflowsSum rs whole o
+overflows_at rs whole before more g o e (in_row b (in_product c t w)) = product_of_row before g more e b c t w
+overflows_at rs whole before more g o e (in_row b (in_sum c t d u v w)) = sum_of_row before g more e b c t d u v w
+overflows_at rs whole before more g o e (in_put b s) = sum_of_two before g more e b s.entry s.there s.same s.wide
 
-pub sum_strains : (rs : List (Row Number)) (whole total rest more : List (Entry Number)) (g : Entry Number) → rest ≡ g ∷ more → SumSoFar rs whole total rest → (o : Overflow) → StrainsOne rs total g o → StrainsSum rs whole o
-sum_strains rs whole total rest more g e s o t =
-    strains_at rs whole s.before more g o (s.split ∙ ap (λ z. s.before ++ z) e) (subst (λ z. StrainsOne rs z g o) s.is t)
+pub sum_overflowing : (rs : List (Row Number)) (whole total rest more : List (Entry Number)) (g : Entry Number) → rest ≡ g ∷ more → SumSoFar rs whole total rest → (o : Overflow) → OverflowsOne rs total g o → OverflowsSum rs whole o
+sum_overflowing rs whole total rest more g e s o t =
+    overflows_at rs whole s.before more g o (s.split ∙ ap (λ z. s.before ++ z) e) (subst (λ z. OverflowsOne rs z g o) s.is t)

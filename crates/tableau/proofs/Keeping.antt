@@ -6,7 +6,7 @@ use Rattle.std.proofs.lemmas.List.{get_or-set_same, get_or-set_other, length-map
 use Rattle.spec_tableaux.specs.Spaces.{as_space}
 use Rattle.spec_tableaux.specs.Rows.{Entry, Row, Pivot, coefficient_of, row_of, is_basic, negated, without, pivot_row, substituted_row, exchanged_row, exchanged, Solves}
 use Rattle.spec_tableaux.specs.SolvedForms.{AllVariables, AllRowVariables, IsNonbasic, IsSolved, IsPivot}
-use Rattle.spec_tableaux.specs.Strains.{pivot_in}
+use Rattle.spec_tableaux.specs.CheckOverflows.{pivot_in}
 use Rattle.spec_tableaux.specs.Numbers.{Number, numbers}
 use Rattle.spec_tableaux.proofs.Numbers.{numbers_are_ordered_field}
 use Rattle.spec_tableaux.proofs.Exchanges.{exchange_keeps}

@@ -3,7 +3,7 @@ use Rattle.std.proofs.Common.{◌≡◌, ℕ, ◌==◌, false, List, [], ◌∷�
 use Rattle.spec_tableaux.specs.Spaces.{IsSpace, as_space}
 use Rattle.spec_tableaux.specs.Rows.{Row, Pivot, coefficient_of, row_of, without}
 use Rattle.spec_tableaux.specs.SolvedForms.{AllRowVariables, IsNonbasic, IsSolved, IsPivot}
-use Rattle.spec_tableaux.specs.Strains.{pivot_in}
+use Rattle.spec_tableaux.specs.CheckOverflows.{pivot_in}
 use Rattle.spec_tableaux.specs.Numbers.{Number, numbers}
 use Rattle.spec_tableaux.proofs.Numbers.{numbers_are_ordered_field}
 use Rattle.spec_tableaux.proofs.OrderedSpaces.{field_is_space}

@@ -34,7 +34,7 @@ not_lt i j e f = grind (arith, nat_tests)
 tested : (a b : ℕ) → a ≡ b → nat_eq a b ≡ false → ⊥
 tested a b e f = grind (arith, nat_tests)
 
--- no number of a set stands at two places
+-- no number of a set is at two places
 pub once : (ks : List ℕ) → IsDistinct nat_eq ks → (i j : ℕ) → i < length ks → j < length ks → slice_index_or ks i 0 ≡ slice_index_or ks j 0 → i ≡ j
 once ks d i j a b e = go (nat_lt i j) (nat_lt j i) refl refl
   where

@@ -4,13 +4,13 @@ use Rattle.spec_numbers.specs.Bounds.{Overflow, multiplied, divided}
 use Rattle.spec_tableaux.specs.Rows as definitions
 use Rattle.spec_tableaux.specs.Rows.{Entry, Row, coefficient_of, exchanged_row, without}
 use Rattle.spec_tableaux.specs.SolvedForms.{IsTidy, AllVariables, AreTidy, AllRowVariables}
-use Rattle.spec_tableaux.specs.Strains.{Overflows, IsOther, pivot_in}
+use Rattle.spec_tableaux.specs.CheckOverflows.{Overflows, IsOther, pivot_in}
 use Rattle.spec_tableaux.specs.Numbers.{Number, numbers}
 use Rattle.tableau.specs.declared.pivots.Pivot.{Pivot}
 use Rattle.tableau.specs.declared.pivots.RowChange.{RowChange}
 use Rattle.tableau.specs.Numbers.{number_of}
 use Rattle.tableau.specs.Entries.{entries_of, row_meant}
-use Rattle.tableau.specs.Sums.{StrainsCombined}
+use Rattle.tableau.specs.Sums.{OverflowsCombined}
 use Rattle.tableau.specs.Views.{row_at}
 
 -- the meaning of a pivot
@@ -23,31 +23,31 @@ pivot_meant p = record {
 }
 
 -- A row is solved for x, in which an operation comes to the overflow o.
-pub data StrainsPivot (x : ℕ) (es : List (Entry Number)) (o : Overflow) : Type 0 where
+pub data OverflowsPivot (x : ℕ) (es : List (Entry Number)) (o : Overflow) : Type 0 where
   -- one over the coefficient of x
-  in_factor : Overflows divided numbers.one (coefficient_of numbers x es) o → StrainsPivot x es o
+  in_factor : Overflows divided numbers.one (coefficient_of numbers x es) o → OverflowsPivot x es o
   -- another coefficient over that of x
   in_quotient : (e : Entry Number) → Contains (without x es) e
-      → Overflows divided e.coefficient (coefficient_of numbers x es) o → StrainsPivot x es o
+      → Overflows divided e.coefficient (coefficient_of numbers x es) o → OverflowsPivot x es o
 
 -- A coefficient over d comes to the overflow o.
-pub record StrainsQuotients (es : List (Entry Number)) (d : Number) (o : Overflow) : Type 0 where
+pub record OverflowsQuotients (es : List (Entry Number)) (d : Number) (o : Overflow) : Type 0 where
   pub entry : Entry Number
   pub there : Contains es entry
   pub wide : Overflows divided entry.coefficient d o
 
 -- The entering variable is replaced in a row with its coefficient c, in which an operation comes to the overflow o.
-pub data StrainsRow (p : definitions.Pivot Number) (c : Number) (es : List (Entry Number)) (o : Overflow) : Type 0 where
+pub data OverflowsRow (p : definitions.Pivot Number) (c : Number) (es : List (Entry Number)) (o : Overflow) : Type 0 where
   -- the coefficient of the leaving variable
-  in_leaving : Overflows multiplied c p.factor o → StrainsRow p c es o
+  in_leaving : Overflows multiplied c p.factor o → OverflowsRow p c es o
   -- those of the others
-  in_others : StrainsCombined true (without p.entering es) c p.others o → StrainsRow p c es o
+  in_others : OverflowsCombined true (without p.entering es) c p.others o → OverflowsRow p c es o
 
 -- The entering variable is replaced in a row other than that of the leaving one, and that comes to the overflow o.
-pub record StrainsOther (p : definitions.Pivot Number) (rs : List (Row Number)) (o : Overflow) : Type 0 where
+pub record OverflowsOther (p : definitions.Pivot Number) (rs : List (Row Number)) (o : Overflow) : Type 0 where
   pub row : Row Number
   pub other : IsOther rs p.leaving row
-  pub wide : StrainsRow p (coefficient_of numbers p.entering row.entries) row.entries o
+  pub wide : OverflowsRow p (coefficient_of numbers p.entering row.entries) row.entries o
 
 -- A pivot of a row in solved form.
 pub record IsTidyPivot (p : definitions.Pivot Number) : Type 0 where

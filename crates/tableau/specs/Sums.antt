@@ -5,7 +5,7 @@ use Rattle.spec_numbers.specs.Bounds.{Overflow, added, subtracted, multiplied}
 use Rattle.spec_tableaux.specs.Fields.{Field}
 use Rattle.spec_tableaux.specs.Rows.{Entry, put}
 use Rattle.spec_tableaux.specs.SolvedForms.{AllVariables}
-use Rattle.spec_tableaux.specs.Strains.{Overflows}
+use Rattle.spec_tableaux.specs.CheckOverflows.{Overflows}
 use Rattle.spec_tableaux.specs.Numbers.{Number, numbers}
 
 -- the entries es, with h of k times each of the entries gs added
@@ -54,17 +54,17 @@ abbrev pub IsLeft : List (Entry Number) → List (Entry Number) → Type 0
 IsLeft es rest = (e : Entry Number) → Contains rest e → Contains es e
 
 -- A sum of es and k times gs, or their difference, comes to the overflow o.
-pub data StrainsCombined (minus : Bool) (es : List (Entry Number)) (k : Number) (gs : List (Entry Number))
+pub data OverflowsCombined (minus : Bool) (es : List (Entry Number)) (k : Number) (gs : List (Entry Number))
     (o : Overflow) : Type 0 where
   -- in a product
   in_product : (g : Entry Number) → Contains gs g → Overflows multiplied k g.coefficient o
-      → StrainsCombined minus es k gs o
+      → OverflowsCombined minus es k gs o
   -- in a sum for one variable
   in_sum : (g : Entry Number) → Contains gs g → (e : Entry Number) → Contains es e → e.variable ≡ g.variable
-      → Overflows (operation minus) e.coefficient (numbers.times k g.coefficient) o → StrainsCombined minus es k gs o
+      → Overflows (operation minus) e.coefficient (numbers.times k g.coefficient) o → OverflowsCombined minus es k gs o
 
 -- An entry with the coefficient c of x, put into the entries es, comes to the overflow o.
-pub record StrainsPut (es : List (Entry Number)) (x : ℕ) (c : Number) (o : Overflow) : Type 0 where
+pub record OverflowsPut (es : List (Entry Number)) (x : ℕ) (c : Number) (o : Overflow) : Type 0 where
   pub entry : Entry Number
   pub there : Contains es entry
   pub same : entry.variable ≡ x

@@ -3,10 +3,10 @@
 ghost use Rattle.std.specs.Prelude.{◌≡◌, ◌<◌, [], length, IfOk, IfErr};
 ghost use Rattle.spec_tableaux.specs.Rows as definitions;
 ghost use Rattle.spec_tableaux.specs.SolvedForms.{IsTidy, AllVariables, AreTidy};
-ghost use Rattle.spec_tableaux.specs.Strains.{StrainsSum};
+ghost use Rattle.spec_tableaux.specs.CheckOverflows.{OverflowsSum};
 ghost use Rattle.spec_tableaux.specs.Numbers.{numbers};
 ghost use Rattle.tableau.specs.Entries.{entry_of, entries_of, rows_of};
-ghost use Rattle.tableau.specs.Flattenings.{StrainsOne};
+ghost use Rattle.tableau.specs.Flattenings.{OverflowsOne};
 ghost use Rattle.tableau.specs.Kept.{ArePlaces};
 ghost use Rattle.tableau.specs.Views.{OnRowOverflow, row_at};
 
@@ -37,7 +37,7 @@ fn with_flattened(
     requires tidy { IsTidy numbers 0 (entries_of es.now) }
     ensures ok { IfOk result (λ v. entries_of v.items
         ≡ definitions.with_flattened numbers (rows_of rows.now) (entries_of es.now) (entry_of g)) }
-    ensures wide { IfErr result (OnRowOverflow (StrainsOne (rows_of rows.now) (entries_of es.now) (entry_of g))) }
+    ensures wide { IfErr result (OnRowOverflow (OverflowsOne (rows_of rows.now) (entries_of es.now) (entry_of g))) }
 {
     let Some(k) = places[g.variable as usize] else {
         return put(alloc, es, g.variable, g.coefficient);
@@ -57,7 +57,7 @@ pub(crate) fn flattened(
     requires rows_tidy { AreTidy numbers (rows_of rows.now) }
     ensures ok { IfOk result (λ v. entries_of v.items
         ≡ definitions.flattened numbers (rows_of rows.now) [] (entries_of entries.now)) }
-    ensures wide { IfErr result (OnRowOverflow (StrainsSum (rows_of rows.now) (entries_of entries.now))) }
+    ensures wide { IfErr result (OnRowOverflow (OverflowsSum (rows_of rows.now) (entries_of entries.now))) }
 {
     let mut total = Vec::new(alloc);
     let mut rest = entries;

@@ -1,4 +1,4 @@
-//! Rows of linear equations in solved form, with exact 128-bit fractions, and the exchange of two variables.
+//! Rows of linear equations in solved form, with exact 128-bit fractions, and the pivot of two variables.
 #![tactic(auto)]
 
 mod columns;

@@ -1,4 +1,4 @@
-//! What an exchange of two variables makes of rows.
+//! What an pivot of two variables makes of rows.
 
 ghost use Rattle.std.specs.Prelude.{◌≡◌, ◌==◌, ◌++◌, ◌∷◌, [], ◌<◌, ℕ, false, length, Contains, OnOk, IfOk, IfErr};
 ghost use Rattle.spec_tableaux.specs.Rows as definitions;
@@ -8,7 +8,7 @@ ghost use Rattle.spec_tableaux.specs.Numbers.{numbers};
 ghost use Rattle.tableau.specs.Numbers.{number_of};
 ghost use Rattle.tableau.specs.Entries.{entries_of, row_meant, rows_of};
 ghost use Rattle.tableau.specs.Pivots.{pivot_meant, changes_meant, changes_in, with_changes, AllNumbers};
-ghost use Rattle.tableau.specs.Pivots.{StrainsQuotients, StrainsPivot, StrainsRow, StrainsOther, IsTidyPivot, AreReady};
+ghost use Rattle.tableau.specs.Pivots.{OverflowsQuotients, OverflowsPivot, OverflowsRow, OverflowsOther, IsTidyPivot, AreReady};
 ghost use Rattle.tableau.specs.Views.{OnRowOverflow};
 
 use crate::entries::{Entry, Row, coefficient};
@@ -41,7 +41,7 @@ fn quotients(alloc: Global, entries: &[Entry], d: Ratio) -> Result<Vec<Entry>, R
     requires { numbers.is_zero (number_of d) ≡ false }
     ensures ok { IfOk result (λ v. entries_of v.items
         ≡ definitions.quotients numbers (number_of d) (entries_of entries.now)) }
-    ensures wide { IfErr result (OnRowOverflow (StrainsQuotients (entries_of entries.now) (number_of d))) }
+    ensures wide { IfErr result (OnRowOverflow (OverflowsQuotients (entries_of entries.now) (number_of d))) }
 {
     let mut out = Vec::new(alloc);
     let mut rest = entries;
@@ -82,7 +82,7 @@ pub(crate) fn pivot_of(
     requires { numbers.is_zero (coefficient_of numbers entering (entries_of entries.now)) ≡ false }
     ensures ok { IfOk result (λ p. pivot_meant p
         ≡ definitions.pivot_of numbers leaving entering (entries_of entries.now)) }
-    ensures wide { IfErr result (OnRowOverflow (StrainsPivot entering (entries_of entries.now))) }
+    ensures wide { IfErr result (OnRowOverflow (OverflowsPivot entering (entries_of entries.now))) }
 {
     let d = coefficient(entries, entering);
     let factor = quotient(one(), d)?;
@@ -122,7 +122,7 @@ fn substituted(
     requires there { numbers.is_zero (number_of c) ≡ false }
     ensures ok { IfOk result (λ v. entries_of v.items
         ≡ definitions.substituted numbers (pivot_meant pivot.now) (number_of c) (entries_of entries.now)) }
-    ensures wide { IfErr result (OnRowOverflow (StrainsRow (pivot_meant pivot.now) (number_of c) (entries_of entries.now))) }
+    ensures wide { IfErr result (OnRowOverflow (OverflowsRow (pivot_meant pivot.now) (number_of c) (entries_of entries.now))) }
 {
     let scaled = product(c, pivot.factor)?;
     let rest = without(alloc, entries, pivot.entering)?;
@@ -142,7 +142,7 @@ fn add_change(
     requires ready { AreReady (pivot_meant pivot.now) (rows_of rows.now) }
     ensures ok { OnOk result (changes_meant made.new.items ≡ changes_meant made.old.items
         ++ changes_in (pivot_meant pivot.now) (rows_of rows.now) (number ∷ [])) }
-    ensures wide { IfErr result (OnRowOverflow (StrainsOther (pivot_meant pivot.now) (rows_of rows.now))) }
+    ensures wide { IfErr result (OnRowOverflow (OverflowsOther (pivot_meant pivot.now) (rows_of rows.now))) }
 {
     let row = &rows[number as usize];
     if row.basic == pivot.leaving {
@@ -175,7 +175,7 @@ pub(crate) fn changes_of(
     ensures ok { IfOk result (λ made. changes_meant made.items
         ≡ record { number = number; row = definitions.pivot_row numbers (pivot_meant pivot.now) }
         ∷ changes_in (pivot_meant pivot.now) (rows_of rows.now) column.now) }
-    ensures wide { IfErr result (OnRowOverflow (StrainsOther (pivot_meant pivot.now) (rows_of rows.now))) }
+    ensures wide { IfErr result (OnRowOverflow (OverflowsOther (pivot_meant pivot.now) (rows_of rows.now))) }
 {
     let row = pivot_row(alloc, pivot)?;
     let mut made = Vec::new(alloc);

@@ -7,7 +7,7 @@ ghost use Rattle.spec_tableaux.specs.SolvedForms.{IsTidy, AllVariables};
 ghost use Rattle.spec_tableaux.specs.Numbers.{numbers};
 ghost use Rattle.tableau.specs.Numbers.{number_of};
 ghost use Rattle.tableau.specs.Entries.{entry_of, entries_of};
-ghost use Rattle.tableau.specs.Sums.{turned, operation, combined, Merges, Shrinks, IsLeft, StrainsCombined, StrainsPut};
+ghost use Rattle.tableau.specs.Sums.{turned, operation, combined, Merges, Shrinks, IsLeft, OverflowsCombined, OverflowsPut};
 ghost use Rattle.tableau.specs.Views.{OnRowOverflow};
 
 use crate::entries::Entry;
@@ -62,7 +62,7 @@ fn merge_one<'a>(
     ensures tidy { IfOk result (λ r. (at : ℕ) × IsTidy numbers at (entries_of r.0.now)) }
     ensures shrinks { IfOk result (λ r. Shrinks es.now r.0.now r.1) }
     ensures left { IfOk result (λ r. IsLeft (entries_of es.now) (entries_of r.0.now)) }
-    ensures wide { IfErr result (OnRowOverflow (StrainsCombined minus (entries_of es.now) (number_of k) (entry_of g ∷ []))) }
+    ensures wide { IfErr result (OnRowOverflow (OverflowsCombined minus (entries_of es.now) (number_of k) (entry_of g ∷ []))) }
 {
     let Some((e, rest)) = es.split_first() else {
         append(
@@ -100,7 +100,7 @@ pub(crate) fn merge(
     requires gs_tidy { IsTidy numbers 0 (entries_of gs.now) }
     ensures ok { IfOk result (λ v. entries_of v.items
         ≡ combined minus (entries_of es.now) (number_of k) (entries_of gs.now)) }
-    ensures wide { IfErr result (OnRowOverflow (StrainsCombined minus (entries_of es.now) (number_of k) (entries_of gs.now))) }
+    ensures wide { IfErr result (OnRowOverflow (OverflowsCombined minus (entries_of es.now) (number_of k) (entries_of gs.now))) }
 {
     let mut out = Vec::new(alloc);
     let mut left = es;
@@ -139,7 +139,7 @@ pub(crate) fn without(alloc: Global, entries: &[Entry], x: u64) -> Result<Vec<En
 pub(crate) fn put(alloc: Global, entries: &[Entry], x: u64, c: Ratio) -> Result<Vec<Entry>, RowStop>
     ensures ok { IfOk result (λ v. entries_of v.items
         ≡ definitions.put numbers x (number_of c) (entries_of entries.now)) }
-    ensures wide { IfErr result (OnRowOverflow (StrainsPut (entries_of entries.now) x (number_of c))) }
+    ensures wide { IfErr result (OnRowOverflow (OverflowsPut (entries_of entries.now) x (number_of c))) }
 {
     let mut out = Vec::new(alloc);
     let mut rest = entries;

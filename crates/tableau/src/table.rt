@@ -4,7 +4,7 @@ ghost use Rattle.std.specs.Prelude.{◌≡◌, ◌<◌, ◌↔◌, ℕ, true, fa
 ghost use Rattle.spec_tableaux.specs.Spaces.{as_space};
 ghost use Rattle.spec_tableaux.specs.Rows.{coefficient_of, row_of, is_basic, Solves};
 ghost use Rattle.spec_tableaux.specs.SolvedForms.{AllVariables, IsPivot, IsSolved};
-ghost use Rattle.spec_tableaux.specs.Strains.{StrainsExchange, StrainsSum};
+ghost use Rattle.spec_tableaux.specs.CheckOverflows.{OverflowsExchange, OverflowsSum};
 ghost use Rattle.spec_tableaux.specs.Numbers.{Number, numbers};
 ghost use Rattle.tableau.specs.Numbers.{number_of};
 ghost use Rattle.tableau.specs.Entries.{entries_of, rows_of};
@@ -68,7 +68,7 @@ fn changes(
     requires column { (k : ℕ) → Contains column.now k → k < length rows.now }
     ensures ok { IfOk result (λ made. changes_meant made.items
         ≡ exchange_changes (rows_of rows.now) column.now number leaving entering) }
-    ensures wide { IfErr result (OnRowOverflow (StrainsExchange (rows_of rows.now) leaving entering)) }
+    ensures wide { IfErr result (OnRowOverflow (OverflowsExchange (rows_of rows.now) leaving entering)) }
 {
     let pivot = pivot_of(alloc, leaving, entering, &rows[number as usize].entries)?;
     changes_of(alloc, &pivot, rows, number, column)
@@ -206,7 +206,7 @@ impl Tableau {
         ensures ok { IfOk result (λ k. (k ≡ length self.old.rows)
             × (self.new ≡ with_sum self.old (entries_of entries.now))) }
         ensures err { OnErr result (self.new ≡ self.old) }
-        ensures wide { IfErr result (OnRowOverflow (StrainsSum self.old.rows (entries_of entries.now))) }
+        ensures wide { IfErr result (OnRowOverflow (OverflowsSum self.old.rows (entries_of entries.now))) }
     {
         let number = self.rows.len() as u64;
         let basic = self.places.len() as u64;
@@ -243,7 +243,7 @@ impl Tableau {
         requires { IsPivot numbers self.old.rows leaving entering }
         ensures ok { OnOk result (self.new ≡ with_exchange self.old leaving entering) }
         ensures err { OnErr result (self.new ≡ self.old) }
-        ensures wide { IfErr result (OnRowOverflow (StrainsExchange self.old.rows leaving entering)) }
+        ensures wide { IfErr result (OnRowOverflow (OverflowsExchange self.old.rows leaving entering)) }
         ensures variables { self.new.variables ≡ self.old.variables }
         ensures listed { self.new.listed ≡ self.old.listed }
         ensures keeps { (v : ℕ → Number) → Solves (as_space numbers) v self.new.rows

@@ -71,7 +71,7 @@ truth_in t b id h = (h.0, subst (IsFormulaOver t.symbols) (sym h.1) (truth_formu
 pub formulas_comparable : (t : TableView) (a b : TermId) → IsFormulaIn t a → IsFormulaIn t b → AreComparable t a b
 formulas_comparable t a b f g = record { one = (f.0, f.1.term); other = (g.0, g.1.term); sort = f.1.sort ∙ sym g.1.sort }
 
--- the terms beside those that are asserted, then these, then the equalities of choices among their subterms, then the truth facts, are those of which a search speaks
+-- the interface equalities those that are asserted, then these, then the equalities of choices among their subterms, then the truth facts, are those of which a search speaks
 module _ (ts bs us : List Term) (each : AreAmong (subterms_of (bs ++ ts)) us) (only : AreAmong us (subterms_of (bs ++ ts))) where
   abbrev told : List Term
   told = bs ++ ts
@@ -107,8 +107,8 @@ module _ (t : TableView) (ts bs us : List Term) (ids : List TermId) where
   }
 
 -- the terms that a search is asked are the same in a table with more
-pub problem_kept : (t u : TableView) → Extends t u → (roots beside : List TermId) → AreFormulasIn t roots → AreFormulasIn t beside → problem_in u roots beside ≡ problem_in t roots beside
-problem_kept t u g roots beside roots_in beside_in =
+pub problem_kept : (t u : TableView) → Extends t u → (roots interface : List TermId) → AreFormulasIn t roots → AreFormulasIn t interface → problem_in u roots interface ≡ problem_in t roots interface
+problem_kept t u g roots interface roots_in interface_in =
     let own : clause_at u roots ≡ clause_at t roots = clause_at-kept t u g roots (λ k d lt. (roots_in k d lt).0) in
-    let others : clause_at u beside ≡ clause_at t beside = clause_at-kept t u g beside (λ k d lt. (beside_in k d lt).0) in
+    let others : clause_at u interface ≡ clause_at t interface = clause_at-kept t u g interface (λ k d lt. (interface_in k d lt).0) in
     λ i. speaking (own i) (others i)

@@ -19,7 +19,7 @@ AreRising ids = (i j : ℕ) → i < j → j < length ids → (get_or ids i no_id
 
 -- the problem that asserts the terms of numbers, with those of others beside them
 abbrev pub problem_in : TableView → List TermId → List TermId → Problem
-problem_in t roots beside = speaking (clause_at t roots) (clause_at t beside)
+problem_in t roots interface = speaking (clause_at t roots) (clause_at t interface)
 
 -- The numbers are those of formulas: the terms of which a search of a problem speaks with their subterms.
 pub record AreSpoken (t : TableView) (p : Problem) (ids : List TermId) : Type 0 where

@@ -72,7 +72,7 @@ pub record Listed : Type 0 where
 abbrev pub listed_steps : TableView → List Logged → List StepId → Listed
 listed_steps t log steps = record { table = t; log = log; steps = steps }
 
--- These clauses came into the log, and their numbers stand after those that were there.
+-- These clauses came into the log, and their numbers are after those that were there.
 pub record Tells (old new : Listed) (clauses : List Clause) : Type 0 where
   -- what the numbers say
   pub says : (said : List Clause) → StatesClauses old.table old.log old.steps said → StatesClauses new.table new.log new.steps (said ++ clauses)
@@ -87,7 +87,7 @@ NamesTerm t u id = IsIn t id × (term_at t id ≡ u)
 abbrev pub NamesAll : TableView → Clause → List TermId → Type 0
 NamesAll t c ids = AreIn t ids × (clause_at t ids ≡ c)
 
--- what stands before the arguments of a term
+-- what is before the arguments of a term
 abbrev pub head_of : Term → Head
 head_of (app h ts) = h
 

@@ -89,7 +89,7 @@ pub fn state_choice(
     ensures tells { OnOk result (Tells (listed_steps table.old log.old steps.old.items)
         (listed_steps table.new log.new steps.new.items) (choice_clauses (term_at table.old id))) }
 {
-    proof_log::laws::logs_stand_in_grown_tables();
+    proof_log::laws::logs_hold_in_grown_tables();
     let Some(choice) = choice_of(table, id) else {
         return Ok(());
     };
@@ -136,7 +136,7 @@ fn state_branch(
         (listed_steps table.new log.new steps.new.items)
         ((term_at table.old front ∷ equality_at table.old id branch ∷ []) ∷ [])) }
 {
-    proof_log::laws::logs_stand_in_grown_tables();
+    proof_log::laws::logs_hold_in_grown_tables();
     let equal = equality(alloc, table, id, branch)?;
     let clause = vec![in alloc; front, equal]?;
     state(alloc, table, log, steps, rule, clause)

@@ -1,4 +1,4 @@
-//! Terms that stand in a clause: a term or its negation, and those of its arguments.
+//! Terms that are in a clause: a term or its negation, and those of its arguments.
 
 ghost use Rattle.std.specs.Prelude.{◌≡◌, ◌<◌, [], ◌∷◌, length, map, All, IfOk, MatchOption, slice_index_or};
 ghost use Rattle.spec_sorts.specs.Terms.{negated, no_term};
@@ -25,7 +25,7 @@ fn negation(alloc: Global, table: &mut TermTable, id: TermId) -> Result<TermId, 
     table.put(node)
 }
 
-/// Gives a formula as it stands, or puts its negation.
+/// Gives a formula as it is, or puts its negation.
 pub fn signed(
     alloc: Global,
     table: &mut TermTable,
@@ -52,7 +52,7 @@ fn argument(table: &TermTable, id: TermId, place: usize) -> TermId
     table.node(id).arguments.as_slice()[place]
 }
 
-/// Gives the argument of a place as it stands, or puts its negation.
+/// Gives the argument of a place as it is, or puts its negation.
 fn side(
     alloc: Global,
     table: &mut TermTable,
@@ -102,7 +102,7 @@ pub(crate) fn with_rest(
     }
 }
 
-/// Makes the clause of a term and, after it, arguments of a term by their places, as they stand or negated.
+/// Makes the clause of a term and, after it, arguments of a term by their places, as they are or negated.
 fn with_sides(
     alloc: Global,
     table: &mut TermTable,
@@ -124,7 +124,7 @@ fn with_sides(
     Ok(clause)
 }
 
-/// Makes the clause of a term and, after it, all arguments of a term, as they stand or negated.
+/// Makes the clause of a term and, after it, all arguments of a term, as they are or negated.
 fn with_each(
     alloc: Global,
     table: &mut TermTable,

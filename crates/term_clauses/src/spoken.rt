@@ -1,4 +1,4 @@
-//! The terms of which a search speaks, with their subterms: those of a check and those beside them, and equalities that
+//! The terms of which a search speaks, with their subterms: those of a check and the interface equalities, and equalities that
 //! it needs.
 
 ghost use Rattle.std.specs.Prelude.{◌≤◌, [], ◌∷◌, length, flat_map, All, IfOk, OnOk};
@@ -19,21 +19,21 @@ use std::alloc::Global;
 use term_core::{Head, Node, TermId, TermTable};
 use world_io::NoMemory;
 
-/// Lists formulas, those beside them first, and after them the equalities that a search needs: those of each choice
+/// Lists formulas, the interface equalities first, and after them the equalities that a search needs: those of each choice
 /// between terms of another sort than Bool, among the formulas' subterms, with its two terms, and that the negation of
 /// each truth value is the other. They come into the table.
 pub fn spoken_of(
     alloc: Global,
     table: &mut TermTable,
     roots: &[TermId],
-    beside: &[TermId],
+    interface: &[TermId],
 ) -> Result<Vec<TermId>, NoMemory>
     requires roots { AreFormulasIn table.old roots.now }
-    requires beside { AreFormulasIn table.old beside.now }
+    requires interface { AreFormulasIn table.old interface.now }
     ensures wider { Widens table.old table.new }
-    ensures spoken { IfOk result (λ ids. AreSpoken table.new (problem_in table.old roots.now beside.now) ids.items) }
+    ensures spoken { IfOk result (λ ids. AreSpoken table.new (problem_in table.old roots.now interface.now) ids.items) }
 {
-    let mut ids = Vec::from_slice(alloc, beside)?;
+    let mut ids = Vec::from_slice(alloc, interface)?;
     ids.extend_from_slice(roots)?;
     let marks = marks_of(alloc, table, &ids)?;
     add_branches(alloc, table, &marks, &mut ids)?;

@@ -67,7 +67,7 @@ fn state_scheme(
     ensures tells { OnOk result (Tells (listed_steps table.old log.old steps.old.items)
         (listed_steps table.new log.new steps.new.items) (clauses_by (scheme_by rule) (term_at table.old id))) }
 {
-    proof_log::laws::logs_stand_in_grown_tables();
+    proof_log::laws::logs_hold_in_grown_tables();
     let _ = table.node(id);
     let Some(scheme) = scheme_of(rule) else {
         unreachable!();
@@ -126,7 +126,7 @@ fn state_single(
         (listed_steps table.new log.new steps.new.items)
         ((term_at table.old front ∷ single rest (arguments_of (term_at table.old id))) ∷ [])) }
 {
-    proof_log::laws::logs_stand_in_grown_tables();
+    proof_log::laws::logs_hold_in_grown_tables();
     let clause = with_rest(alloc, table, id, front, rest)?;
     state(alloc, table, log, steps, rule, clause)
 }

@@ -52,7 +52,7 @@ module _ {V : Type 0} (items : V → List ℕ) where
       let p = position-Some (λ u. bytes_eq n (items u)) (v ∷ vs) k v h in
       (subst (λ l. k < l) (sym (length-map (v ∷ vs) items)) p.0, get_or-map items (v ∷ vs) k v [] p.0 ∙ sym (same_bytes _ _ p.1))
 
-  -- a new name's copy stands last
+  -- a new name's copy is last
   pub pushed : (old new : List V) (copy : V) (n : List ℕ) → among (map items old) n ≡ false → items copy ≡ n
       → new ≡ insert_key (λ u v. bytes_eq (items u) (items v)) old copy → map items new ≡ map items old ++ n ∷ []
   pushed old new copy n absent is keys =

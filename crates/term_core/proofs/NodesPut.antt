@@ -10,7 +10,7 @@ use Rattle.term_core.specs.contracts.nodes.NodePartialEq.TheImpl.{ghosts}
 use Rattle.term_core.specs.Tables.{shape_of, shapes_of, no_shape}
 use Rattle.term_core.proofs.NodesSame.{same_node, node_same}
 
--- the node was there by that number, or it was not there, and stands last
+-- the node was there by that number, or it was not there, and is last
 abbrev pub Puts : List Node → Node → ℕ → List Node → Type 0
 Puts old node at new =
     ((new ≡ old) × (at < length old) × (get_or (shapes_of old) at no_shape ≡ shape_of node))
@@ -47,7 +47,7 @@ puts old new node at keys stored = go (list_any (ghosts.eq node) old) refl
 abbrev pub IsStored : List Node → Node → ℕ → Type 0
 IsStored new node at = (k : Node) × (slice_get new at ≡ Some k) × (ghosts.eq node k ≡ true)
 
--- what was not there stands last
+-- what was not there is last
 pub put_new : (old new : List Node) (node : Node) (is_new : Bool) → new ≡ insert_key ghosts.eq old node → is_new ≡ not (list_any (ghosts.eq node) old) → is_new ≡ true → new ≡ old ++ node ∷ []
 put_new old new node is_new keys e told = keys ∙ go (list_any (ghosts.eq node) old) (sym e ∙ told)
   where

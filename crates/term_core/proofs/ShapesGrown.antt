@@ -24,7 +24,7 @@ more_sorts sorts more symbols done = record { more_sorts = more; sorts = refl; m
 pub more_symbols : (sorts : List Name) (symbols more : List Symbol) → Widens (record { sorts = sorts; symbols = symbols }) (record { sorts = sorts; symbols = symbols ++ more })
 more_symbols sorts symbols more done = record { more_sorts = []; sorts = sym (append-nil sorts); more_symbols = more; symbols = refl; more_terms = []; terms = sym (append-nil done) }
 
--- What stands before a number, and at it.
+-- What is before a number, and at it.
 pub record IsAt (d : SymbolsView) (terms : List Term) (s : Shape) (j : ℕ) : Type 0 where
   pub front : List Term
   pub more : List Term
@@ -72,7 +72,7 @@ module _ (d : SymbolsView) where
       let long : length terms ≡ length ss = grown-length [] ss ∙ omega arith in
       ap (grown d []) (sym (take_min k ss)) ∙ grown-take-within ss (min k (length ss)) (min-le_right k (length ss)) ∙ ap (λ m. take (min k m) terms) (sym long) ∙ take_min k terms
 
-  -- what stands at a number
+  -- what is at a number
   pub grown-at : (done : List Term) (ss : List Shape) (i j : ℕ) → AreBefore d done ss → i < length ss → j ≡ length done + i
       → IsAt d (grown d done ss) (get_or ss i no_shape) j
   grown-at done [] i j b within at = absurd (omega (arith, within))

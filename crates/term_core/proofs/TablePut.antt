@@ -44,7 +44,7 @@ module _ (d : SymbolsView) (old : List Node) (facts : List Facts) (v : TableView
     pub put_added : (table_of d new ≡ v) ⊎ ((table_of d new).terms ≡ v.terms ++ node_term v node ∷ [])
     put_added = subst (λ (t : TableView). (table_of d new ≡ t) ⊎ ((table_of d new).terms ≡ t.terms ++ node_term t node ∷ [])) is (puts_added d old node place kept.whole placed new here)
 
-    -- where the node stands last, so do its facts
+    -- where the node is last, so do its facts
     pub put_facts : (fs : List Facts) (f : Facts) → new ≡ old ++ node ∷ [] → fs ≡ facts ++ f ∷ [] → IsFacts v.sorts (node_term v node) f → TableFits d new fs
     put_facts fs f last more right = record {
       whole = puts_whole d old node place kept.whole placed new here;

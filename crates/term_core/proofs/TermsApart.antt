@@ -153,7 +153,7 @@ module _ (d : SymbolsView) (nodes : List Node) (whole : NodesFit d nodes) where
   pub at : (i : ℕ) → i < length terms → IsAt d terms (shape i) i
   at i lt = grown-at d [] (shapes_of nodes) i i whole.before (omega (arith, lt, long)) (omega arith)
 
-  -- what a node says stands at its number
+  -- what a node says is at its number
   pub node_at : (keys : List Node) (node : Node) (j : ℕ) → keys ≡ nodes → j < length terms → node ≡ get_or keys j node → IsAt d terms (shape_of node) j
   node_at keys node j is lt e =
       let within : j < length nodes = omega (arith, lt, terms-length d nodes) in

@@ -85,7 +85,7 @@ heads_over d nodes whole h ts c =
     let w = is_written d nodes whole (app h ts) c in
     subst (HeadIsOver d.symbols) (sym w.2) (meant_over d w.0.head w.1.head)
 
--- the arguments of a term stand before it
+-- the arguments of a term are before it
 pub first_arguments : (d : SymbolsView) (nodes : List Node) → NodesFit d nodes → (before after : List Term) (t : Term) → grown d [] (shapes_of nodes) ≡ before ++ t ∷ after → AreAmong (arguments_of t) before
 first_arguments d nodes whole before after t e u a =
     let s : Shape = get_or (shapes_of nodes) (length before) no_shape in

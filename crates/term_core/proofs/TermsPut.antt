@@ -26,7 +26,7 @@ module _ (d : SymbolsView) (old : List Node) (node : Node) (place : ℕ) (whole 
   shapes_long : length (shapes_of old) ≡ length old
   shapes_long = length-map old shape_of
 
-  -- where the node stands last, so does its term
+  -- where the node is last, so does its term
   pub grows : (new : List Node) → new ≡ old ++ node ∷ [] → grown d [] (shapes_of new) ≡ before.terms ++ node_term before node ∷ []
   grows new e = ap (λ ns. grown d [] (shapes_of ns)) e ∙ ap (grown d []) (map-append shape_of old (node ∷ [])) ∙ grown-push d [] (shapes_of old) (shape_of node)
 

@@ -186,6 +186,6 @@ pub record NodesFit (d : SymbolsView) (nodes : List Node) : Type 0 where
   -- each comes after what it names
   pub before : AreBefore d [] (shapes_of nodes)
 
--- the term as it stands
+-- the term as it is
 abbrev pub positive_literal : Term → TermLiteral
 positive_literal t = record { atom = t; positive = true }

@@ -12,11 +12,11 @@ pub struct SymbolId(pub u64);
 #[derive(Clone, Copy, Debug, Default, PartialEq, Eq, Hash)]
 pub struct SortId(pub u64);
 
-/// Means a term as it stands, or its negation.
+/// Means a term as it is, or its negation.
 #[derive(Clone, Copy, Debug, Default, PartialEq, Eq, Hash)]
 pub struct Lit {
     /// The term.
     pub term: TermId,
-    /// Whether the term is meant as it stands.
+    /// Whether the term is meant as it is.
     pub positive: bool,
 }

@@ -58,7 +58,7 @@ pub type Arguments = SmallVec<TermId, 2>;
 /// Holds a term by its head, with arguments of the same table.
 #[derive(Drop, Debug, PartialEq, Eq, Hash)]
 pub struct Node {
-    /// What stands before the arguments.
+    /// What is before the arguments.
     pub head: Head,
     /// The arguments, in their order.
     pub arguments: Arguments,

@@ -259,7 +259,7 @@ impl TermTable {
         let _ = &self.symbols;
     }
 
-    /// States that the arguments of each of the table's terms stand before it.
+    /// States that the arguments of each of the table's terms are before it.
     pub fn arguments_come_first(&self)
         ensures { (before after : List Term) (t : Term) → self.now.terms ≡ before ++ t ∷ after
             → AreAmong (arguments_of t) before }

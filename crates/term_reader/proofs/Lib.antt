@@ -7,4 +7,4 @@ pub mod Putting
 pub mod Folding
 pub mod Taken
 pub mod Applied
-pub mod Standing
+pub mod OverTable

@@ -49,7 +49,7 @@ abbrev pub after_list : Next → Option Next
 after_list a_value = Some a_keyword
 after_list next = None
 
--- what may come after an item among attributes, where the item may stand there
+-- what may come after an item among attributes, where the item may are there
 abbrev pub next_after : Next → Tree → Option Next
 next_after next (atom at k n) = after_atom next k n
 next_after next (list at us end) = after_list next

@@ -7,11 +7,11 @@ use Rattle.term_reader.specs.declared.name_stack.NameEntry.{NameEntry}
 abbrev pub no_place : NameEntry
 no_place = record { number = 0; hidden = 0 }
 
--- the names that stand at places, oldest first
+-- the names that are at places, oldest first
 abbrev pub names_at : List Name → List NameEntry → List Name
 names_at met places = map (λ (p : NameEntry). slice_index_or met p.number []) places
 
--- the numbers of the names that stand at places
+-- the numbers of the names that are at places
 abbrev pub numbers_in : List NameEntry → List ℕ
 numbers_in places = map (λ (p : NameEntry). p.number) places
 
@@ -26,7 +26,7 @@ abbrev pub latest_of : ℕ → List ℕ → ℕ
 latest_of n [] = 0
 latest_of n (m ∷ ms) = place_after (latest_of n ms) (m == n)
 
--- Places of names that were met: what is known of each name is where it stands last.
+-- Places of names that were met: what is known of each name is where it is last.
 pub record IsStack (met : List Name) (latest : List ℕ) (places : List NameEntry) : Type 0 where
   -- as many latest places as names
   pub long : length latest ≡ length met

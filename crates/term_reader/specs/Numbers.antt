@@ -5,7 +5,7 @@ use Rattle.spec_sorts.specs.Numerals.{number_after}
 use Rattle.ratio128.specs.declared.ratio.Ratio.{Ratio}
 use Rattle.ratio128.specs.Meant.{fraction}
 
--- as one whole number the digits are above 2^127 - 1, or more than 38 stand after the point
+-- as one whole number the digits are above 2^127 - 1, or more than 38 are after the point
 abbrev pub are_wide : (whole places : List ℕ) → Bool
 are_wide whole places = nat_le (2 ^ 127) (number_after 0 (whole ++ places)) || nat_le 39 (length places)
 

@@ -45,10 +45,10 @@ abbrev pub function_under : ScopeView → Name → Option Function
 function_under v n = look_up (newest v.names v.functions) n
 
 -- the sort is there, and is that one
-abbrev pub SortStands : TableView → Option TableSort → Option Sort → Type 0
-SortStands t None None = Unit {0}
-SortStands t (Some s) (Some r) = HasSortIn t.sorts s × (sort_meant t.sorts s ≡ r)
-SortStands t _ _ = ⊥
+abbrev pub SortMeans : TableView → Option TableSort → Option Sort → Type 0
+SortMeans t None None = Unit {0}
+SortMeans t (Some s) (Some r) = HasSortIn t.sorts s × (sort_meant t.sorts s ≡ r)
+SortMeans t _ _ = ⊥
 
 -- A definition by the numbers of a table.
 pub record IsMacro (t : TableView) (m : Macro) (d : Definition) : Type 0 where
@@ -66,18 +66,18 @@ pub record IsMacro (t : TableView) (m : Macro) (d : Definition) : Type 0 where
   pub body : term_at t m.body ≡ d.term
 
 -- the function is that one, by the numbers of a table
-abbrev pub FunctionStands : TableView → Option Function → Option Known → Type 0
-FunctionStands t None None = Unit {0}
-FunctionStands t (Some (Declared id)) (Some (declared f)) = IsSymbol t.symbols id × (symbol_at t.symbols id ≡ f)
-FunctionStands t (Some (Defined m)) (Some (defined d)) = IsMacro t m d
-FunctionStands t _ _ = ⊥
+abbrev pub FunctionMeans : TableView → Option Function → Option Known → Type 0
+FunctionMeans t None None = Unit {0}
+FunctionMeans t (Some (Declared id)) (Some (declared f)) = IsSymbol t.symbols id × (symbol_at t.symbols id ≡ f)
+FunctionMeans t (Some (Defined m)) (Some (defined d)) = IsMacro t m d
+FunctionMeans t _ _ = ⊥
 
 -- In a table the scope stands for a signature: each name is there in both or in none, and means the same.
 pub record ScopeMeans (t : TableView) (v : ScopeView) (s : Signature) : Type 0 where
   -- the names of sorts
-  pub sorts : (n : Name) → SortStands t (sort_under v n) (sort_as s n)
+  pub sorts : (n : Name) → SortMeans t (sort_under v n) (sort_as s n)
   -- the names of functions
-  pub functions : (n : Name) → FunctionStands t (function_under v n) (known_as s n)
+  pub functions : (n : Name) → FunctionMeans t (function_under v n) (known_as s n)
   -- as many names are declared and defined
   pub count : length v.sort_names + length v.names ≡ length s
   -- definitions stand for well-sorted terms

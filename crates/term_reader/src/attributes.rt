@@ -29,7 +29,7 @@ fn after_keyword(keyword: &[u8]) -> NextAttribute
     }
 }
 
-/// Gives what may come after an item among attributes; `None` where the item may not stand there.
+/// Gives what may come after an item among attributes; `None` where the item may not are there.
 ///
 /// After a keyword comes one value at most, and after `:named` a name.
 /// Source: SMT-LIB 2.6, sections 3.4 and 3.6.

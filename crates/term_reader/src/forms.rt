@@ -26,7 +26,7 @@ pub enum ListForm<'a> {
     Annotates,
 }
 
-/// Tells whether a kind may stand where a new name is wanted: a symbol, or a reserved word, which is refused later.
+/// Tells whether a kind may be where a new name is wanted: a symbol, or a reserved word, which is refused later.
 pub fn is_name(kind: Kind) -> bool
     ensures { result ≡ is_name kind }
 {

@@ -261,7 +261,7 @@ fn build(
     }
 }
 
-/// Puts the term that a head of theory Core or Reals before arguments is read as, where the whole stands at an offset.
+/// Puts the term that a head of theory Core or Reals before arguments is read as, where the whole is at an offset.
 ///
 /// - `Fault` comes at the offset: `WrongCount` where the head does not take so many arguments; then `WrongSort` where it
 ///   does not take their sorts. Then `NotLinear` comes of `*` before two factors that are not constant, and of `/` before

@@ -17,7 +17,7 @@ use spec_text::Fault;
 
 const MOST: u128 = i128::MAX as u128;
 
-/// How many digits may stand after the point, without the zeros at their end.
+/// How many digits may be after the point, without the zeros at their end.
 const MOST_PLACES: usize = 38;
 
 fn is_digit(b: u8) -> bool
@@ -26,7 +26,7 @@ fn is_digit(b: u8) -> bool
     b.is_ascii_digit()
 }
 
-// How many digits stand before the point of a literal.
+// How many digits are before the point of a literal.
 fn count_whole(literal: &[u8]) -> usize
     ensures length { result ≡ length (whole_digits literal.now) }
     ensures within { result ≤ length literal.now }
@@ -137,7 +137,7 @@ fn number_of(whole: &[u8], places: &[u8]) -> Option<Ratio>
 /// Gives the number that a numeral or a decimal at an offset writes, exactly.
 ///
 /// `NumberWide` at the offset comes where its digits as one whole number, without the zeros at the end of a decimal, are
-/// above 2^127 - 1, or more than 38 of them stand after the point. It takes no memory.
+/// above 2^127 - 1, or more than 38 of them are after the point. It takes no memory.
 /// Source: SMT-LIB 2.6, section 3.1 and theory Reals; the limit is own.
 pub fn literal(at: u64, digits: &[u8]) -> Result<Ratio, TermFault>
     ensures { answered (λ q. of (Literal (fraction q)) []) result ≡ literal at digits.now }

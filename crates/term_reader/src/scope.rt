@@ -132,7 +132,7 @@ impl Scope {
     }
 
     /// States that each name stands for something.
-    pub fn each_name_stands_for_something(&self)
+    pub fn each_name_means_something(&self)
         ensures sorts { length self.now.sort_names ≡ length self.now.sorts }
         ensures functions { length self.now.names ≡ length self.now.functions }
     {

@@ -15,7 +15,7 @@ use spec_text::Fault;
 use std::alloc::Global;
 use term_core::{Head, SymbolId, TermId, TermTable};
 
-/// Puts the term of a declared symbol before arguments, where the whole stands at an offset.
+/// Puts the term of a declared symbol before arguments, where the whole is at an offset.
 ///
 /// - `Fault` comes at the offset: `WrongCount` where the symbol does not take so many arguments; then `WrongSort` where
 ///   it does not take their sorts.
@@ -46,7 +46,7 @@ pub fn by_symbol(
     }
 }
 
-/// Gives the term of a bound name before so many arguments, where the whole stands at an offset: it takes none.
+/// Gives the term of a bound name before so many arguments, where the whole is at an offset: it takes none.
 ///
 /// `WrongCount` at the offset comes where there are some. It takes no memory. Source: SMT-LIB 2.6, section 3.6.
 pub fn by_bound(id: TermId, at: u64, count: usize) -> Result<TermId, ReadError>

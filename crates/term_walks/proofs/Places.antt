@@ -13,11 +13,11 @@ never_falls xs a i j le lt = elim (cases_lt i j) [
   | inr h ↦ (let same : get_or xs i 0 ≡ get_or xs j 0 = ap (λ n. get_or xs n 0) (let e : i ≡ j = omega (arith, h, le) in e) in omega (arith, same))
 ]
 
--- what stands at a place before another is less
+-- what is at a place before another is less
 pub falls_before : (xs : List ℕ) → Ascends xs → (i j : ℕ) → i < length xs → get_or xs i 0 < get_or xs j 0 → i < j
 falls_before xs a i j lt h = elim (cases_lt i j) [ inl l ↦ l | inr l ↦ (let r = never_falls xs a j i l lt in absurd (omega (arith, r, h))) ]
 
--- a number stands at one place
+-- a number is at one place
 pub one_place : (xs : List ℕ) → Ascends xs → (i j : ℕ) → i < length xs → j < length xs → get_or xs i 0 ≡ get_or xs j 0 → i ≡ j
 one_place xs a i j li lj e = elim (cases_lt i j) [
   | inl l ↦ (let r = rises xs a i j l lj in absurd (omega (arith, r, e)))

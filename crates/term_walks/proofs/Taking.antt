@@ -84,7 +84,7 @@ known_push t i order ks new x at e long are last j d lt =
           ap (λ l. known_meant t.sorts (get_or l j d)) e ∙ ap (known_meant t.sorts) (get_or_push ks x d j (sym here)) ∙ last ∙ ap (λ m. bounded_value i [] (number_term t (get_or order m 0))) (sym long ∙ sym here)
     ]
 
--- the arguments of the next of an order stand before it
+-- the arguments of the next of an order are before it
 pub ready : (t : TableView) (root : ℕ) (order : List ℕ) (at : ℕ) → IsOrder t root order → at < length order → HasArgumentsBefore t order at (get_or order at 0)
 ready t root order at o lt u i =
     let a = o.closed (get_or order at 0) u (at_in order at lt) i in
@@ -124,7 +124,7 @@ pub wide_made : (i : Interpretation) (h : Head) (ts : List Term) (u : Term) (o :
 unfolding ◌>>=◌
 wide_made i h ts u o fits means e = ap (λ r. r >>= λ vs. bounded_head i h vs) e ∙ sym (by_head i h ts fits) ∙ ap (bounded_value i []) (sym means)
 
--- the term of the whole walk stands among all
+-- the term of the whole walk is among all
 pub root_stands : (t : TableView) (root : ℕ) (order : List ℕ) (count : ℕ) → IsOrder t root order → length order ≤ count → StandsBefore order count root
 root_stands t root order count o le = let p = in_place root order o.root_there in (p.0, omega (arith, p.1, le), p.1, p.2)
 

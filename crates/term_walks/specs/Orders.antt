@@ -55,10 +55,10 @@ pub record IsOrder (t : TableView) (root : ℕ) (order : List ℕ) : Type 0 wher
   -- what fills the parameters of the term fills theirs
   pub filled : (ts : List Term) → FillsAll ts (number_term t root) → (k : ℕ) → In k order → FillsAll ts (number_term t k)
 
--- the number stands among the first so many
+-- the number is among the first so many
 abbrev pub StandsBefore : List ℕ → ℕ → ℕ → Type 0
 StandsBefore order count n = (j : ℕ) × (j < count) × (j < length order) × (get_or order j 0 ≡ n)
 
--- each argument of the number's term stands among the first so many
+-- each argument of the number's term is among the first so many
 abbrev pub HasArgumentsBefore : TableView → List ℕ → ℕ → ℕ → Type 0
 HasArgumentsBefore t order count k = (u : Term) → Contains (arguments_of (number_term t k)) u → (j : ℕ) × (j < count) × (j < length order) × (get_or order j 0 < length t.terms) × (number_term t (get_or order j 0) ≡ u)

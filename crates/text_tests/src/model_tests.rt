@@ -8,7 +8,7 @@ use term_core::SortId;
 use term_walks::Value;
 use world_io::{Failed, MemSink, NoMemory};
 
-/// Values, each with the name of its sort if it is an element, and how it is written. A name stands after `name`.
+/// Values, each with the name of its sort if it is an element, and how it is written. A name is after `name`.
 const ROWS: &str = "true\t\ttrue
 false\t\tfalse
 0\t\t0

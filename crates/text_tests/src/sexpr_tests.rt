@@ -1,4 +1,4 @@
-//! Texts with the s-expressions that stand in them, and what is printed of them.
+//! Texts with the s-expressions that are in them, and what is printed of them.
 
 use crate::rows::{are, bytes_of, number};
 use smt_lexer::place_at;
@@ -11,7 +11,7 @@ use std::alloc::Global;
 use std::test::Fail;
 use world_io::{MemSink, NoMemory};
 
-/// A text, the offset to read from, how many lists are open, and what stands there: an s-expression as it is printed, with the
+/// A text, the offset to read from, how many lists are open, and what is there: an s-expression as it is printed, with the
 /// offset, line and column of its first byte and the offset after it; the end of the innermost open list with the offset after it;
 /// the end of the text; or a fault with its offset, line and column.
 const NEXT: &str = "\t0\t0\tEnd\t\t
@@ -256,7 +256,7 @@ fn has_its_parts(alloc: Global, text: &[u8], wanted: &[Item]) -> Result<bool, No
 }
 
 #[test]
-fn s_expressions_stand_in_their_texts(rt: HostRuntime) -> Result<(), Fail> {
+fn s_expressions_are_in_their_texts(rt: HostRuntime) -> Result<(), Fail> {
     let alloc = rt.alloc();
     assert!(rt; first_other_next(alloc, NEXT)? == None);
     assert!(rt; first_other_next(alloc, NESTED)? == None);

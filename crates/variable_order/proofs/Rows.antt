@@ -207,7 +207,7 @@ module _ (row : List TermId) (places : List (Option ℕ)) (h : ArePlaces row pla
   count : length swapped ≡ length row
   count = length-set (set row i b) j a ∙ length-set row i b
 
-  -- what stands where, and which place is known
+  -- what is where, and which place is known
   row_at_j : at swapped j ≡ a.0
   row_at_j = ap (λ (x : TermId). x.0) (get_or-set_same (set row i b) j a no_variable inner_j)
 

@@ -23,14 +23,14 @@ pub record HasGrown (old new : List (List ℕ)) : Type 0 where
   -- they come last
   pub is : new ≡ old ++ replicate more []
 
--- A number stands last in the list of a place, and the others are as they were.
+-- A number is last in the list of a place, and the others are as they were.
 pub record IsAppended (old : List (List ℕ)) (place number : ℕ) (new : List (List ℕ)) : Type 0 where
   -- the list has the number as its last
   pub list : get_or new place [] ≡ get_or old place [] ++ number ∷ []
   -- the others
   pub others : (k : ℕ) → k ≢ place → get_or new k [] ≡ get_or old k []
 
--- An entry of the list of a place is taken out, and the last one stands in its stead; the other lists are as they were.
+-- An entry of the list of a place is taken out, and the last one is in its stead; the other lists are as they were.
 pub record IsTakenOut (old : List (List ℕ)) (place at : ℕ) (new : List (List ℕ)) : Type 0 where
   -- the list lost the entry
   pub list : get_or new place [] ≡ swap_remove (get_or old place []) at 0
@@ -41,7 +41,7 @@ pub record IsTakenOut (old : List (List ℕ)) (place at : ℕ) (new : List (List
 pub record IsMoved (old : List (List ℕ)) (from : Lit) (at : ℕ) (to : Lit) (new : List (List ℕ)) : Type 0 where
   -- the lists between
   pub middle : List (List ℕ)
-  -- the number stands in the other list first
+  -- the number is in the other list first
   pub put : IsAppended old (code to) (get_or (list_of old from) at 0) middle
   -- then it is taken out of the one
   pub taken : IsTakenOut middle (code from) at new

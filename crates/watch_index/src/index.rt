@@ -29,7 +29,7 @@ fn last_of(list: &[u64], number: u64) -> Option<usize>
 
 /// Holds for each literal a list of numbers of clauses.
 ///
-/// Contracts see the lists by the codes of literals: twice the number of the term, and one more for the term as it stands. Past
+/// Contracts see the lists by the codes of literals: twice the number of the term, and one more for the term as it is. Past
 /// the last one all lists are empty.
 #[derive(Drop)]
 pub struct WatchIndex {
@@ -88,7 +88,7 @@ impl WatchIndex {
         }
     }
 
-    /// Takes the entry at a place out of a literal's list; the last one stands there then. It takes no memory.
+    /// Takes the entry at a place out of a literal's list; the last one is there then. It takes no memory.
     pub fn take_out(&mut self, from: Lit, at: usize)
         requires { at < length (list_of self.old from) }
         ensures { IsTakenOut self.old (code from) at self.new }
@@ -99,7 +99,7 @@ impl WatchIndex {
         }
     }
 
-    /// Moves the entry at a place of one literal's list to the end of another's. The last entry of the one stands there then.
+    /// Moves the entry at a place of one literal's list to the end of another's. The last entry of the one is there then.
     ///
     /// `NoMemory` comes where the other list finds no memory; then the index is as it was.
     pub fn move_at(&mut self, from: Lit, at: usize, to: Lit) -> Result<(), NoMemory>

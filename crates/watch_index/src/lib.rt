@@ -1,7 +1,7 @@
 //! For each literal the numbers of the clauses that watch it.
 //!
-//! The lists stand in one array by the literals' codes, two for each term. An entry is taken out by its place: the last one
-//! stands there then.
+//! The lists are in one array by the literals' codes, two for each term. An entry is taken out by its place: the last one
+//! is there then.
 #![tactic(auto)]
 
 mod index;

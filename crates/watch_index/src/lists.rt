@@ -72,7 +72,7 @@ pub(crate) fn put_at(
     }
 }
 
-/// Takes an entry out of the list of a place; the last one stands there then.
+/// Takes an entry out of the list of a place; the last one is there then.
 pub(crate) fn take_out(all: &mut Vec<Vec<u64>>, place: usize, at: usize)
     requires list { place < length all.old.items }
     requires entry { at < length (get_or (lists all.old.items) place []) }

@@ -1,4 +1,4 @@
--- What stands at the place is the next token, or is passed over.
+-- What is at the place is the next token, or is passed over.
 use Rattle.std.proofs.Common.{◌∙◌, ◌∷◌, [], sym, ap, arith, refl}
 use Rattle.spec_text.specs.Lexemes.{lexemes_from, wrong}
 use Rattle.smt_lexer.proofs.Reading.{blank_here, fault_here, open_here, close_here, word_here, nothing_left}

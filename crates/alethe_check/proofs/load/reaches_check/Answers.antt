@@ -4,7 +4,7 @@ use Rattle.spec_text.specs.Readings.{kept}
 use Rattle.spec_commands.specs.Checks.{term_limit}
 use Rattle.smt_sexpr.specs.Limited.{whole_of}
 use Rattle.assertion_stack.specs.declared.stack.Effect.TheVariants as effects
-use Rattle.assertion_stack.specs.Stacks.{Standing, standing}
+use Rattle.assertion_stack.specs.Stacks.{OverTable, over_table}
 use Rattle.alethe_check.proofs.Loading.{loading_begins, script_finishes, script_breaks, check_here, leaves_here, one_less, taken_here, refused_here}
 use Rattle.alethe_check.proofs.load.reaches_check.Goals.{in-Ok-Check+else-left-eq1, in-Ok-Done, in-Ok-Unsupported, in-Ok-Say, in-Err-Fault-command}
 use Rattle.alethe_check.proofs.load.reaches_check.Goals as goal
@@ -14,7 +14,7 @@ commands-init c =
     let bytes = kept (whole_of c.args.text) in
     record {
       place = c.start-place.ensures.place bytes;
-      loading = loading_begins bytes c.args.at (standing c.args.table.now c.args.stack.now) _ c.start-place.ensures.offset c.requires;
+      loading = loading_begins bytes c.args.at (over_table c.args.table.now c.args.stack.now) _ c.start-place.ensures.offset c.requires;
     }
 
 pub command-requires : goal.command-requires
@@ -31,20 +31,20 @@ returns-then-left-eq1 c =
     let r = rw c.in-Ok-Some.field-0-is at c.in-Ok-Some.ensures in
     let l = c.commands.invariant.loading in
     let d = rw c.in-Ok-Check.field-0-is at (c.in-Ok-Check.ensures.steps term_limit l.stack l.stands) in
-    check_here (whole_of c.args.text) _ _ c.commands.place _ l c.in-Ok-Some.read.0 c.in-Ok-Some.read.1 r c.in-Ok-Check.field-0-0 (standing c.command.new.table c.command.new.self) c.if-left-eq1.true d (c.each_text_is_read.ensures (kept (whole_of c.args.text)) c.in-Ok-Some.read.1.offset 0 (omega arith))
+    check_here (whole_of c.args.text) _ _ c.commands.place _ l c.in-Ok-Some.read.0 c.in-Ok-Some.read.1 r c.in-Ok-Check.field-0-0 (over_table c.command.new.table c.command.new.self) c.if-left-eq1.true d (c.each_text_is_read.ensures (kept (whole_of c.args.text)) c.in-Ok-Some.read.1.offset 0 (omega arith))
 
 pub returns-in-Ok-Exit : goal.returns-in-Ok-Exit
 returns-in-Ok-Exit c =
     let r = rw c.in-Ok-Some.field-0-is at c.in-Ok-Some.ensures in
     let l = c.commands.invariant.loading in
     let d = rw c.in-Ok-Exit.field-0-is at (c.in-Ok-Exit.ensures.steps term_limit l.stack l.stands) in
-    leaves_here (whole_of c.args.text) _ _ c.commands.place _ l c.in-Ok-Some.read.0 c.in-Ok-Some.read.1 r (standing c.command.new.table c.command.new.self) d (c.each_text_is_read.ensures (kept (whole_of c.args.text)) c.in-Ok-Some.read.1.offset 0 (omega arith))
+    leaves_here (whole_of c.args.text) _ _ c.commands.place _ l c.in-Ok-Some.read.0 c.in-Ok-Some.read.1 r (over_table c.command.new.table c.command.new.self) d (c.each_text_is_read.ensures (kept (whole_of c.args.text)) c.in-Ok-Some.read.1.offset 0 (omega arith))
 
 pub commands-preserved : goal.commands-preserved
 commands-preserved c =
     let r = rw c.in-Ok-Some.field-0-is at c.in-Ok-Some.ensures in
     let l = c.commands.invariant.loading in
-    let new : Standing = standing c.command.new.table c.command.new.self in
+    let new : OverTable = over_table c.command.new.table c.command.new.self in
     record {
       place = r.is.place;
       loading = elim c.match-command.branch [
@@ -63,6 +63,6 @@ commands-preserved c =
         | in-Err-Fault-command w ↦ rw w.left-is (
             let d = rw w.in-Err-Fault-command.field-0-is at (w.in-Err-Fault-command.ensures.steps term_limit l.stack l.stands) in
             let same = w.in-Err-Fault-command.ensures.same in
-            refused_here (whole_of c.args.text) _ _ c.commands.place _ l c.in-Ok-Some.read.0 c.in-Ok-Some.read.1 r _ new (λ i. standing (same.1 i) (same.0 i)) d)
+            refused_here (whole_of c.args.text) _ _ c.commands.place _ l c.in-Ok-Some.read.0 c.in-Ok-Some.read.1 r _ new (λ i. over_table (same.1 i) (same.0 i)) d)
       ];
     }

@@ -1,4 +1,4 @@
--- The clause of a name stands at the name's number.
+-- The clause of a name is at the name's number.
 use Rattle.alethe_reader.proofs.Entries.{find_none, find_numbered}
 use Rattle.alethe_reader.proofs.premises.find.Goals as goal
 

@@ -5,7 +5,7 @@ use Rattle.spec_sorts.specs.Signatures.{of_function, declared}
 use Rattle.spec_commands.specs.Stack.{did, begun, with_declaration, signature_of}
 use Rattle.term_core.specs.Symbols.{symbol_named, symbol_of}
 use Rattle.term_core.specs.Tables.{Extends}
-use Rattle.assertion_stack.specs.Stacks.{standing, IsStack}
+use Rattle.assertion_stack.specs.Stacks.{over_table, IsStack}
 use Rattle.assertion_stack.proofs.Naming.{no_symbol_named}
 use Rattle.assertion_stack.proofs.Stacks.{no_room, has_place}
 use Rattle.assertion_stack.proofs.Declared.{symbol_grows, symbol_stack}
@@ -32,7 +32,7 @@ returns-in-Ok-clause-performs c limit s h free =
       did next,
       has_place limit c.args.at s (of_function (declared f)) n h.scope.count fits,
       refl,
-      subst (λ y. IsStack limit y next) (λ i. standing (sym c.in-Ok.ensures.declared i) (sym c.in-Ok.ensures.named i)) (symbol_stack limit t x s f h c.each_name_stands_for_something.ensures.functions free),
+      subst (λ y. IsStack limit y next) (λ i. over_table (sym c.in-Ok.ensures.declared i) (sym c.in-Ok.ensures.named i)) (symbol_stack limit t x s f h c.each_name_means_something.ensures.functions free),
     )
 
 pub returns-in-Ok-clause-kept : goal.returns-in-Ok-clause-kept

@@ -2,7 +2,7 @@
 use Rattle.std.proofs.Common.{sym, ap, ◌∙◌, subst}
 use Rattle.term_core.specs.Tables.{clause_at}
 use Rattle.proof_log.specs.Logs.{AreFormulasIn}
-use Rattle.assertion_stack.specs.Stacks.{standing}
+use Rattle.assertion_stack.specs.Stacks.{over_table}
 use Rattle.assertion_stack.proofs.Back.{table_back}
 use Rattle.search_loop.specs.Answered.{AreAnswered}
 use Rattle.solve_core.specs.Decisions.{HasDecision}
@@ -41,7 +41,7 @@ returns-in-Ok-clause-checks c = λ s h.
       budget_is = rw c.in-Ok.learned-is c.in-Ok.ensures.budget;
       shown = rw c.in-Ok.evidence-is (c.in-Ok.ensures.shown (limits_meant l) s h.kept h.readable (sym h.stack.symbols ∙ sym (ap (λ v. v.symbols) d.declared)) decided);
       held = record {
-        stack = c.stacks_stand_in_grown_tables.ensures l.terms t c.decide.new.table c.args.stack.now s h.stack (record { extends = d.grown; declared = d.declared });
+        stack = c.stacks_hold_in_grown_tables.ensures l.terms t c.decide.new.table c.args.stack.now s h.stack (record { extends = d.grown; declared = d.declared });
         kept = h.kept;
         readable = h.readable;
       };
@@ -51,4 +51,4 @@ pub returns-in-Err-clause-checks : goal.returns-in-Err-clause-checks
 returns-in-Err-clause-checks c = λ s h.
     let d = c.in_ok-outcome.ensures in
     let back = table_back c.args.table.now c.decide.new.table c.cut.new.self c.len-len.result (record { extends = d.grown; declared = d.declared }) c.len-len.ensures c.cut.ensures.terms c.cut.ensures.declared in
-    subst (λ t. IsHeld c.args.limits.now.terms (standing t c.args.stack.now) s) (sym back) h
+    subst (λ t. IsHeld c.args.limits.now.terms (over_table t c.args.stack.now) s) (sym back) h

@@ -24,7 +24,7 @@ returns-in-Sat-clause-shown c = λ limits s kept readable symbols h.
     let t = c.args.table.now in
     let o = c.args.outcome in
     model_shown limits t s symbols o (λ i. c.commands_keep_stacks.ensures.value limits.terms s i kept.stack) c.in-Sat.interp c.in-Sat.is
-    h.beside (subst (HasEvidence t (speaking (terms_asserted (assertions_of s)) h.beside) o.log o.budget) c.in-Sat.is h.justified.evidence)
+    h.interface (subst (HasEvidence t (speaking (terms_asserted (assertions_of s)) h.interface) o.log o.budget) c.in-Sat.is h.justified.evidence)
 
 pub returns-in_ok-plan-in-Unsat-clause-shown : goal.returns-in_ok-plan-in-Unsat-clause-shown
 returns-in_ok-plan-in-Unsat-clause-shown c = λ limits s kept readable symbols h.
@@ -36,11 +36,11 @@ returns-in_ok-plan-in-Unsat-clause-shown c = λ limits s kept readable symbols h
     let n = step.0 in
     let asked = terms_asserted (assertions_of s) in
     let learned = map (map (literal_at t)) o.budget.learned in
-    let problem = speaking asked h.beside in
+    let problem = speaking asked h.interface in
     let j = h.justified in
     let shown = subst (HasEvidence t problem o.log o.budget) c.in-Unsat.is j.evidence in
     let steps = subst (λ a. HasLogged problem d a learned) c.in-Unsat.is j.learning.logged in
-    let terms = known_readable asked h.beside (asserted_readable (assertions_of s) (c.assertions_are_readable.ensures limits.terms s kept.stack readable)) h.equalities in
+    let terms = known_readable asked h.interface (asserted_readable (assertions_of s) (c.assertions_are_readable.ensures limits.terms s kept.stack readable)) h.equalities in
     let printed : (u : Term) → IsPrinted d n u → IsReadableWhole u =
     printed_readable c.search_makes_readable_terms.ensures.lemmas c.search_makes_readable_terms.ensures.atoms problem terms c.whole_clauses_are_over_whole_terms.ensures d learned j.learning.learns.atoms steps n in
     let planned = c.in_ok-plan-in-Unsat.ensures.plan in
@@ -66,4 +66,4 @@ returns-in-Unknown-clause-shown c = λ limits s kept readable symbols h.
     let t = c.args.table.now in
     let o = c.args.outcome in
     reason_shown limits t s symbols o h c.causes_are_overflows.ensures.search c.in-Unknown.reason c.in-Unknown.is
-    (subst (HasEvidence t (speaking (terms_asserted (assertions_of s)) h.beside) o.log o.budget) c.in-Unknown.is h.justified.evidence)
+    (subst (HasEvidence t (speaking (terms_asserted (assertions_of s)) h.interface) o.log o.budget) c.in-Unknown.is h.justified.evidence)

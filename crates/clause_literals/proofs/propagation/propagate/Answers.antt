@@ -24,4 +24,4 @@ pub returns : goal.returns
 returns c =
     let begun = rw c.in-Some.is at c.in_ok-left.ensures in
     let quiet = rw c.if-branch.false at c.in_ok-take_out_each.ensures in
-    record { advances = advances_on _ _ _ _ begun.advances quiet.advances; settled = quiet.settled }
+    record { advances = advances_on _ _ _ _ begun.advances quiet.advances; inert = quiet.inert }

@@ -14,4 +14,4 @@ returns-then-branch c =
 pub returns : goal.returns
 returns c =
     let quiet = rw (c.if-branch.false, c.deref.ensures.value) at c.in_ok-propagate.ensures in
-    λ start within conflict. no_conflict _ _ _ (λ l i. held_on _ _ _ quiet.advances l (within l i)) (quiet.advances.consistent c.requires) quiet.settled (conflicts_too _ _ (sets_there _ _ c.in_ok-sets.ensures) start conflict)
+    λ start within conflict. no_conflict _ _ _ (λ l i. held_on _ _ _ quiet.advances l (within l i)) (quiet.advances.consistent c.requires) quiet.inert (conflicts_too _ _ (sets_there _ _ c.in_ok-sets.ensures) start conflict)

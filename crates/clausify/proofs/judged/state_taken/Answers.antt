@@ -1,4 +1,4 @@
--- The step follows, since its numbers are read as they are printed, so it stands last.
+-- The step follows, since its numbers are read as they are printed, so it is last.
 use Rattle.std.proofs.Common.{◌≡◌, [], ◌∷◌, List, sym, ap, ◌∙◌, subst}
 use Rattle.spec_numbers.specs.Fractions.{Fraction}
 use Rattle.spec_proofs.specs.declared.Rule.TheVariants.{LaGeneric}
@@ -36,7 +36,7 @@ returns-in_err-number-clause-grows c =
     let t = c.args.table.now in
     subst (λ (log : List Logged). Grows [] t t c.args.log.now log) (sym c.in_err-number.ensures) (Grows-self [] t c.args.log.now c.requires.log)
 
--- the step stands last
+-- the step is last
 grows : (c : In_ok-number) → Grows [] c.args.table.now c.args.table.now c.args.log.now c.add_right.new.self
 grows c =
     let h = c.in_ok-number.ensures in

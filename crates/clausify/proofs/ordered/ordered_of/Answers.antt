@@ -31,4 +31,4 @@ returns-clause-ordered c =
     let all = c.add_facts.new.ids.items in
     let more : HasMore u v some all (flat_marked order_facts marks u.terms) =
     subst (λ (ms : List Bool). HasMore u v some all (flat_marked order_facts ms u.terms)) c.deref-2.ensures.value c.in_ok-add_facts.ensures.more in
-    are_ordered u v (problem_in t c.args.roots.now c.args.beside.now) (marked marks u.terms) some all c.in_ok-ids.ensures.spoken m.each m.only more
+    are_ordered u v (problem_in t c.args.roots.now c.args.interface.now) (marked marks u.terms) some all c.in_ok-ids.ensures.spoken m.each m.only more

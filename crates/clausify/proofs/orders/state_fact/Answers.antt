@@ -15,9 +15,9 @@ use Rattle.clausify.proofs.Equalities.{fact_right, fact_in}
 use Rattle.clausify.proofs.orders.state_fact.Goals as goal
 use Rattle.clausify.proofs.orders.state_fact.Goals.{After-order_fact, In_ok-clause}
 
--- the log stands in the wider table
+-- the log is in the wider table
 still : (c : After-order_fact) → IsLogOf c.order_fact.new.table c.args.log.now
-still c = c.logs_stand_in_grown_tables.ensures.right c.args.table.now c.order_fact.new.table c.args.log.now c.requires.log c.order_fact.ensures.wider.terms
+still c = c.logs_hold_in_grown_tables.ensures.right c.args.table.now c.order_fact.new.table c.args.log.now c.requires.log c.order_fact.ensures.wider.terms
 
 pub returns-in_err-fact-clause-grows : goal.returns-in_err-fact-clause-grows
 returns-in_err-fact-clause-grows c = Grows-wider [] c.args.table.now c.order_fact.new.table c.args.log.now c.order_fact.ensures.wider (still (goal.at.returns-in_err-fact-clause-grows c).After-order_fact)

@@ -24,16 +24,16 @@ use Rattle.clausify.proofs.orders.state_order.Goals.{After-at_most, In_ok-clause
 wide_table : (c : After-at_most) → Widens c.args.table.now c.at_most.new.table
 wide_table c = Widens-trans c.args.table.now c.signed.new.table c.at_most.new.table c.signed.ensures.wider c.at_most.ensures.wider
 
--- the log stands in it
+-- the log is in it
 still : (c : After-at_most) → IsLogOf c.at_most.new.table c.args.log.now
-still c = c.logs_stand_in_grown_tables.ensures.right c.args.table.now c.at_most.new.table c.args.log.now c.requires.log (wide_table c).terms
+still c = c.logs_hold_in_grown_tables.ensures.right c.args.table.now c.at_most.new.table c.args.log.now c.requires.log (wide_table c).terms
 
 pub returns-in_err-denied-clause-grows : goal.returns-in_err-denied-clause-grows
 returns-in_err-denied-clause-grows c =
     let t = c.args.table.now in
     let u = c.signed.new.table in
     let wider = c.signed.ensures.wider in
-    Grows-wider [] t u c.args.log.now wider (c.logs_stand_in_grown_tables.ensures.right t u c.args.log.now c.requires.log wider.terms)
+    Grows-wider [] t u c.args.log.now wider (c.logs_hold_in_grown_tables.ensures.right t u c.args.log.now c.requires.log wider.terms)
 
 pub at_most-requires-clause-left : goal.at_most-requires-clause-left
 at_most-requires-clause-left c = number_kept c.args.table.now c.signed.new.table c.signed.ensures.wider c.args.a c.requires.left

@@ -25,9 +25,9 @@ use Rattle.term_clauses.proofs.Making.{Makes-trans, all_made}
 use Rattle.clausify.proofs.roots.stated_of.Goals as goal
 use Rattle.clausify.proofs.roots.stated_of.Goals.{After-ordered_of, After-state_marked, In_ok-marks}
 
--- the log stands in the wider table
+-- the log is in the wider table
 still : (c : After-ordered_of) → IsLogOf c.ordered_of.new.table c.args.log.now
-still c = c.logs_stand_in_grown_tables.ensures.right c.args.table.now c.ordered_of.new.table c.args.log.now c.requires.log c.ordered_of.ensures.wider.terms
+still c = c.logs_hold_in_grown_tables.ensures.right c.args.table.now c.ordered_of.new.table c.args.log.now c.requires.log c.ordered_of.ensures.wider.terms
 
 -- and nothing came into it
 wide : (c : After-ordered_of) → Grows c.args.roots.now c.args.table.now c.ordered_of.new.table c.args.log.now c.args.log.now
@@ -50,8 +50,8 @@ marks_are : (c : In_ok-marks) → AreMarksOf c.ordered_of.new.table c.in_ok-orde
 marks_are c = subst (λ (ids : List TermId). AreMarksOf c.ordered_of.new.table ids c.in_ok-marks.marks.items) c.deref.ensures.value c.in_ok-marks.ensures
 
 -- and so they are those of its terms
-search_marks : (c : In_ok-marks) → AreMarksOfSearch c.ordered_of.new.table (problem_in c.args.table.now c.args.roots.now c.args.beside.now) c.in_ok-marks.marks.items
-search_marks c = marks_of_search c.ordered_of.new.table (problem_in c.args.table.now c.args.roots.now c.args.beside.now) c.in_ok-ordered.ordered.items c.in_ok-marks.marks.items c.in_ok-ordered.ensures.ordered (marks_are c)
+search_marks : (c : In_ok-marks) → AreMarksOfSearch c.ordered_of.new.table (problem_in c.args.table.now c.args.roots.now c.args.interface.now) c.in_ok-marks.marks.items
+search_marks c = marks_of_search c.ordered_of.new.table (problem_in c.args.table.now c.args.roots.now c.args.interface.now) c.in_ok-ordered.ordered.items c.in_ok-marks.marks.items c.in_ok-ordered.ensures.ordered (marks_are c)
 
 -- which are well sorted
 sorted_marks : (c : In_ok-marks) → All (IsWellSorted c.ordered_of.new.table.symbols []) (marked c.in_ok-marks.marks.items c.ordered_of.new.table.terms)
@@ -83,7 +83,7 @@ returns-in_err-state_marked-clause-grows c =
 pub returns-in_err-state_marked-clause-wide : goal.returns-in_err-state_marked-clause-wide
 returns-in_err-state_marked-clause-wide c =
     let u = c.ordered_of.new.table in
-    let p : Problem = problem_in c.args.table.now c.args.roots.now c.args.beside.now in
+    let p : Problem = problem_in c.args.table.now c.args.roots.now c.args.interface.now in
     let marks = c.deref-2.result.now in
     let m = search_marks (goal.at.returns-in_err-state_marked-clause-wide c).In_ok-marks in
     let only = subst (λ (ms : List Bool). AreAmong (marked ms u.terms) (whole_terms p)) (sym c.deref-2.ensures.value) m.only in
@@ -107,7 +107,7 @@ returns-clause-clauses c =
     let log = c.state_marked.new.log in
     let roots = c.args.roots.now in
     let terms = clause_at t roots in
-    let p : Problem = problem_in t roots c.args.beside.now in
+    let p : Problem = problem_in t roots c.args.interface.now in
     let marks = c.in_ok-marks.marks.items in
     let steps = c.state_marked.new.steps.items in
     let none = Says-none u c.args.log.now c.new-steps.result.items c.new-steps.ensures.items in
@@ -128,7 +128,7 @@ returns-clause-terms c =
     let g = c.state_marked.ensures.grows in
     let marks = c.in_ok-marks.marks.items in
     let ids = c.in_ok-terms.terms.items in
-    are_search_terms u v (record { terms = g.table; declared = g.declared }) (problem_in t c.args.roots.now c.args.beside.now) ids marks (search_marks at.In_ok-marks) (sorted_marks at.In_ok-marks)
+    are_search_terms u v (record { terms = g.table; declared = g.declared }) (problem_in t c.args.roots.now c.args.interface.now) ids marks (search_marks at.In_ok-marks) (sorted_marks at.In_ok-marks)
     (subst (λ (ms : List Bool). AreMarked ms ids) c.deref-3.ensures.value c.in_ok-terms.ensures)
 
 pub returns-clause-made : goal.returns-clause-made

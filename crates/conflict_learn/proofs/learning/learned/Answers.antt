@@ -28,7 +28,7 @@ terms_of-requires c =
     subst (λ (ls : List Lit). All (IsBare c.args.table.now) ls) (sym c.deref.ensures.value) bare
 
 pub log_step-requires-clause-log : goal.log_step-requires-clause-log
-log_step-requires-clause-log c = c.logs_stand_in_grown_tables.ensures.right c.args.table.now c.terms_of.new.table c.args.log.now c.requires.log c.terms_of.ensures.grown
+log_step-requires-clause-log c = c.logs_hold_in_grown_tables.ensures.right c.args.table.now c.terms_of.new.table c.args.log.now c.requires.log c.terms_of.ensures.grown
 
 pub log_step-requires-clause-follows : goal.log_step-requires-clause-follows
 log_step-requires-clause-follows c =
@@ -39,7 +39,7 @@ log_step-requires-clause-follows c =
     let states = subst (λ (ls : List Lit). StateAll u (map (literal_at t) ls) c.in_ok-terms.terms.items) c.deref.ensures.value c.in_ok-terms.ensures.states in
     uip_follows x c.is_sound.ensures.once c.is_sound.ensures.leveled c.requires.clash c.requires.reasons c.requires.log c.terms_are_closed.ensures c.conflict_level-level.result c.conflict_level-level.ensures
     f.clause.items f.premises.items c.in_ok-found.ensures.0 u c.in_ok-terms.terms.items states
-    (c.logs_stand_in_grown_tables.ensures.same t u c.args.log.now c.requires.log c.terms_of.ensures.grown)
+    (c.logs_hold_in_grown_tables.ensures.same t u c.args.log.now c.requires.log c.terms_of.ensures.grown)
 
 pub returns-clause-learned : goal.returns-clause-learned
 returns-clause-learned c =

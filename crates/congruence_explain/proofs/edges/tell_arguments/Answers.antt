@@ -5,7 +5,7 @@ use Rattle.spec_text.specs.Trees.{none}
 use Rattle.spec_rules.specs.Rules.{IsRight}
 use Rattle.congruence_explain.specs.declared.claims.SignedClaim.{SignedClaim}
 use Rattle.congruence_explain.specs.Rules.{arguments_rule}
-use Rattle.congruence_explain.specs.Claims.{IsClaimOf, term_said, literal_said, equality_claim, all_unequal}
+use Rattle.congruence_explain.specs.Claims.{IsClaimOf, claim_as_term, claim_as_literal, equality_claim, all_unequal}
 use Rattle.congruence_explain.specs.Steps.{derived, spoken, steps_since}
 use Rattle.congruence_explain.proofs.Meeting.{meet_at, ends_in, arguments_same, as_many, each_linked, arguments_in, arguments_right, arguments_shown}
 use Rattle.congruence_explain.proofs.edges.tell_arguments.Goals as goal
@@ -86,8 +86,8 @@ put_alone-requires g c =
       c.tell_pairs.ensures.derives,
       (
         subst (λ (ss : List SignedClaim). All (λ s. IsClaimOf (spoken g.start) t s.claim) ss) (sym whole) (arguments_in t ts v f b k lt label xs ys xs_are ys_are x y a_is b_is),
-        subst (λ (ss : List SignedClaim). IsRight c.rule_of_arguments.result [] none (map (term_said t) ss)) (sym whole)
-            (subst (λ r. IsRight r [] none (map (term_said t) (all_unequal xs ys ++ equality_claim x y ∷ []))) (sym rule) (arguments_right t ts v f b k lt label xs ys xs_are ys_are x y a_is b_is)),
+        subst (λ (ss : List SignedClaim). IsRight c.rule_of_arguments.result [] none (map (claim_as_term t) ss)) (sym whole)
+            (subst (λ r. IsRight r [] none (map (claim_as_term t) (all_unequal xs ys ++ equality_claim x y ∷ []))) (sym rule) (arguments_right t ts v f b k lt label xs ys xs_are ys_are x y a_is b_is)),
       ),
     )
 
@@ -118,4 +118,4 @@ returns-clause-told g c =
     let mid = steps_since g.start (derived c.tell_pairs.new.table c.tell_pairs.new.log) in
     let new = steps_since g.start (derived c.put_alone.new.table c.put_alone.new.log) in
     arguments_shown t ts v f b k lt label xs ys xs_are ys_are x y a_is b_is c.args.needed.now c.tell_pairs.new.needed old mid new c.in_ok-clause.ensures.told
-    (c.in_ok-put_alone.ensures.put.last ∙ ap (λ ss. mid ++ map (literal_said t) ss ∷ []) whole)
+    (c.in_ok-put_alone.ensures.put.last ∙ ap (λ ss. mid ++ map (claim_as_literal t) ss ∷ []) whole)

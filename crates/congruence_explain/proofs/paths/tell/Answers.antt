@@ -6,7 +6,7 @@ use Rattle.spec_rules.specs.Rules.{IsRight}
 use Rattle.explain_forest.specs.Forest.{path}
 use Rattle.term_clauses.proofs.Arguments.{Widens-self}
 use Rattle.congruence_explain.specs.declared.claims.SignedClaim.{SignedClaim}
-use Rattle.congruence_explain.specs.Claims.{IsOneEquality, IsClaimIn, IsClaimOf, term_said, literal_said, denied_step}
+use Rattle.congruence_explain.specs.Claims.{IsOneEquality, IsClaimIn, IsClaimOf, claim_as_term, claim_as_literal, denied_step}
 use Rattle.congruence_explain.specs.Steps.{derived, spoken, setting, steps_since, marked, edges_on}
 use Rattle.congruence_explain.proofs.Terms.{claims_in}
 use Rattle.congruence_explain.proofs.Logging.{start_wide, claims_wide}
@@ -28,8 +28,8 @@ put_alone-requires g c =
       c.requires.0,
       (
         subst (λ (ss : List SignedClaim). All (λ s. IsClaimOf (spoken g.start) t s.claim) ss) (sym whole) (path_in t ts v f b x y c.requires.1.1.0),
-        subst (λ (ss : List SignedClaim). IsRight c.rule_of_path.result [] none (map (term_said t) ss)) (sym whole)
-            (subst (λ r. IsRight r [] none (map (term_said t) (path_clause ts (path v.edges x.0 y.0) x y))) (sym c.rule_of_path.ensures) (path_right t ts v f b x y c.requires.1.1.0)),
+        subst (λ (ss : List SignedClaim). IsRight c.rule_of_path.result [] none (map (claim_as_term t) ss)) (sym whole)
+            (subst (λ r. IsRight r [] none (map (claim_as_term t) (path_clause ts (path v.edges x.0 y.0) x y))) (sym c.rule_of_path.ensures) (path_right t ts v f b x y c.requires.1.1.0)),
       ),
     )
 
@@ -47,10 +47,10 @@ returns-clause-told g c =
     let new = derived c.put_alone.new.table c.put_alone.new.log in
     tells_path (setting t ts v) c.args.needed.now c.deny_path.new.needed (steps_since g.start old) (steps_since g.start new) x y c.requires.1.1.1
     (c.in_ok-clause.ensures.needed ∙ ap (λ ss. marked c.args.needed.now (edges_on ss)) told)
-    (c.in_ok-put_alone.ensures.put.last ∙ ap (λ ss. steps_since g.start old ++ map (literal_said t) ss ∷ []) whole)
+    (c.in_ok-put_alone.ensures.put.last ∙ ap (λ ss. steps_since g.start old ++ map (claim_as_literal t) ss ∷ []) whole)
 
-pub is_said-requires : goal.is_said-requires
-is_said-requires g c =
+pub is_claimed-requires : goal.is_claimed-requires
+is_claimed-requires g c =
     let t = g.start.table in
     let u = c.args.table.now in
     let ts = c.args.truths in
@@ -60,8 +60,8 @@ is_said-requires g c =
     let claims = claims_wide g.start u u c.args.log.now c.requires.0 (Widens-self u) (map (denied_step ts) (path v.edges c.args.x.0 c.args.y.0)) (steps_in t ts v g.start.facts c.requires.1.0 c.args.x c.args.y) in
     subst (λ (ss : List SignedClaim). All (λ s. IsClaimIn u s.claim) ss) (sym whole) claims
 
-pub returns-then-is_said-clause-told : goal.returns-then-is_said-clause-told
-returns-then-is_said-clause-told g c =
+pub returns-then-is_claimed-clause-told : goal.returns-then-is_claimed-clause-told
+returns-then-is_claimed-clause-told g c =
     let t = g.start.table in
     let u = c.args.table.now in
     let ts = c.args.truths in
@@ -71,7 +71,7 @@ returns-then-is_said-clause-told g c =
     let steps = map (denied_step ts) (path v.edges x.0 y.0) in
     let told = c.deref.ensures.value ∙ c.in_ok-path.ensures in
     let whole : c.deref-2.result.now ≡ steps = c.deref-2.ensures.value ∙ c.in_ok-clause.ensures.clause ∙ ap (map (denied_step ts)) told in
-    let q = subst (λ (ss : List SignedClaim). IsOneEquality u ss x y) whole (c.is_said.ensures c.if-is_said.true) in
+    let q = subst (λ (ss : List SignedClaim). IsOneEquality u ss x y) whole (c.is_claimed.ensures c.if-is_claimed.true) in
     let says_so = one_equality_back t u (start_wide g.start u c.args.log.now c.requires.0) steps (claims_in (spoken g.start) t steps (steps_in t ts v g.start.facts c.requires.1.0 x y)) x y c.requires.1.1.0.one.0 c.requires.1.1.0.other.0 q in
     let here = steps_since g.start (derived u c.args.log.now) in
     tells_edge_alone (setting t ts v) c.args.needed.now c.deny_path.new.needed here here x y c.requires.1.1.1

@@ -8,22 +8,22 @@ use Rattle.congruence_explain.proofs.Terms.{claim_kept}
 use Rattle.congruence_explain.proofs.Logging.{terms_more}
 use Rattle.congruence_explain.proofs.putting.terms_of.Goals as goal
 
-pub loop-said-init : goal.loop-said-init
-loop-said-init c = record {
+pub loop-signed_claim-init : goal.loop-signed_claim-init
+loop-signed_claim-init c = record {
   wider = Widens-self c.args.table.now;
   formulas = subst (AreFormulasIn c.args.table.now) (sym c.new-terms.ensures.items) (All-nil (IsFormulaIn c.args.table.now));
   means = ap (clause_at c.args.table.now) c.new-terms.ensures.items;
 }
 
 pub term_of-requires : goal.term_of-requires
-term_of-requires c = claim_kept c.args.table.now c.loop-said.table c.loop-said.invariant.wider _ (c.requires c.loop-said.said-index _ c.loop-said-test.true)
+term_of-requires c = claim_kept c.args.table.now c.loop-signed_claim.table c.loop-signed_claim.invariant.wider _ (c.requires c.loop-signed_claim.signed_claim-index _ c.loop-signed_claim-test.true)
 
 pub returns-in_err-term-clause-wider : goal.returns-in_err-term-clause-wider
-returns-in_err-term-clause-wider c = Widens-trans c.args.table.now c.loop-said.table c.term_of.new.table c.loop-said.invariant.wider c.term_of.ensures.wider
+returns-in_err-term-clause-wider c = Widens-trans c.args.table.now c.loop-signed_claim.table c.term_of.new.table c.loop-signed_claim.invariant.wider c.term_of.ensures.wider
 
-pub loop-said-preserved : goal.loop-said-preserved
-loop-said-preserved c =
-    let v = c.loop-said.invariant in
-    let more = terms_more c.args.table.now c.loop-said.table c.term_of.new.table v.wider c.term_of.ensures.wider c.args.clause.now c.loop-said.said-index _ c.loop-said-test.true c.requires
-    c.loop-said.terms.items c.push.new.self.items c.in_ok-term.term c.in_ok-push.ensures.items v.formulas v.means c.in_ok-term.ensures.means.0 (λ i. c.in_ok-term.ensures.means.1 i ∷ []) in
-    record { wider = Widens-trans c.args.table.now c.loop-said.table c.term_of.new.table v.wider c.term_of.ensures.wider; formulas = more.0; means = more.1 }
+pub loop-signed_claim-preserved : goal.loop-signed_claim-preserved
+loop-signed_claim-preserved c =
+    let v = c.loop-signed_claim.invariant in
+    let more = terms_more c.args.table.now c.loop-signed_claim.table c.term_of.new.table v.wider c.term_of.ensures.wider c.args.clause.now c.loop-signed_claim.signed_claim-index _ c.loop-signed_claim-test.true c.requires
+    c.loop-signed_claim.terms.items c.push.new.self.items c.in_ok-term.term c.in_ok-push.ensures.items v.formulas v.means c.in_ok-term.ensures.means.0 (λ i. c.in_ok-term.ensures.means.1 i ∷ []) in
+    record { wider = Widens-trans c.args.table.now c.loop-signed_claim.table c.term_of.new.table v.wider c.term_of.ensures.wider; formulas = more.0; means = more.1 }

@@ -3,12 +3,12 @@ use Rattle.std.proofs.Common.{◌≡◌, map, take}
 use Rattle.term_core.specs.Tables.{clause_at}
 use Rattle.proof_log.specs.Logs.{AreFormulasIn}
 use Rattle.term_clauses.specs.Stating.{Widens}
-use Rattle.congruence_explain.specs.Claims.{term_said}
+use Rattle.congruence_explain.specs.Claims.{claim_as_term}
 use Rattle.congruence_explain.proofs.putting.terms_of.Given as goal
 
-abbrev pub invariant-loop-said : goal.invariant-loop-said
-invariant-loop-said l = record {
+abbrev pub invariant-loop-signed_claim : goal.invariant-loop-signed_claim
+invariant-loop-signed_claim l = record {
   wider : Widens l.fn.table l.table;
   formulas : AreFormulasIn l.table l.terms.items;
-  means : clause_at l.table l.terms.items ≡ map (term_said l.fn.table) (take l.said-index l.clause);
+  means : clause_at l.table l.terms.items ≡ map (claim_as_term l.fn.table) (take l.signed_claim-index l.clause);
 }

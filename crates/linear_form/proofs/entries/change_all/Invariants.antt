@@ -1,4 +1,4 @@
--- What was kept stands before what becomes of the rest, and its variables are among those that were taken.
+-- What was kept is before what becomes of the rest, and its variables are among those that were taken.
 use Rattle.std.proofs.Common.{◌≡◌, ℕ, take, drop, nat_eq}
 use Rattle.std.specs.HashMap.{get}
 use Rattle.spec_arithmetic.specs.Forms.{each_number}

@@ -1,4 +1,4 @@
--- What was taken stands before what is left.
+-- What was taken is before what is left.
 use Rattle.std.proofs.Common.{◌≡◌, ◌++◌, Ok, map, All}
 use Rattle.term_core.specs.Tables.{TableView}
 use Rattle.linear_form.specs.Making.{forms_meant, HaveVariables}

@@ -53,5 +53,5 @@ returns-clause-means c =
     let two : slice ≡ get_or slice 0 d ∷ get_or slice 1 d ∷ [] = two_of_length slice d (omega (arith, c.in-len2.len_at_least, c.in-len2.len_below)) in
     let means : term_at t l.term ≡ pair (head_meant t n.head) (term_at t (get_or slice 0 d)) (term_at t (get_or slice 1 d)) =
     c.node-node.ensures.means ∙ ap (λ (ids : List TermId). of (head_meant t n.head) (clause_at t ids)) (sym c.as_slice.ensures ∙ two) in
-    ap (negation_meant t) c.said_by.ensures ∙ numbers_say t (get_or slice 0 d) (get_or slice 1 d) l.term c.if-not-are_numbers.ensures n.head l.positive means
+    ap (negation_meant t) c.denial_by.ensures ∙ numbers_say t (get_or slice 0 d) (get_or slice 1 d) l.term c.if-not-are_numbers.ensures n.head l.positive means
     ∙ of_literal t l (term_at t c.args.id) c.literal-literal.ensures.means

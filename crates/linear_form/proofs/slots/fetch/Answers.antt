@@ -1,4 +1,4 @@
--- What is used stands there, and what is used again stays.
+-- What is used is there, and what is used again stays.
 use Rattle.linear_form.proofs.ReadyForms.{ready_here, ready_next, p_fits}
 use Rattle.linear_form.proofs.slots.fetch.Goals as goal
 

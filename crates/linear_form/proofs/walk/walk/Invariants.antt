@@ -1,4 +1,4 @@
--- What is still used stands at its place, and the places that are left are those of the terms that are left, and of the root.
+-- What is still used is at its place, and the places that are left are those of the terms that are left, and of the root.
 use Rattle.std.proofs.Common.{◌≡◌, ◌++◌, ◌∷◌, [], length, drop}
 use Rattle.std.specs.List.{flat_map}
 use Rattle.linear_form.specs.Walks.{needed_at, numbers_at, HoldsUsed}

@@ -29,7 +29,7 @@ returns-clause-begins c =
     let steps = c.in_ok-steps.field-0.steps in
     let terms = c.in_ok-steps.field-0.terms.items in
     let atoms = c.in_ok-atoms.atoms.items in
-    let answered = answered_both (clause_at t c.args.roots.now) (clause_at t c.args.beside.now) c.requires.answered c.requires.answered_beside in
+    let answered = answered_both (clause_at t c.args.roots.now) (clause_at t c.args.interface.now) c.requires.answered c.requires.answered_interface in
     let stored : IsStoreOf u log steps store = subst (λ (xs : List StepId). IsStoreOf u log xs store) c.as_slice.ensures c.in_ok-store.ensures in
     let begun = c.in_ok-trail.ensures in
     let none : c.in_ok-budget.budget.learned ≡ [] = ap (λ b. b.learned) c.in_ok-budget.ensures in
@@ -46,12 +46,12 @@ returns-clause-begins c =
         decided = decided_first atoms store.clauses trail begun.same;
         atoms_are = record {
           there = made.terms.there;
-          closed = closed t u c.ids_are_unique.ensures c.args.roots.now c.args.beside.now c.requires.roots c.requires.beside answered log c.new-log.result c.new-log.ensures steps made.grown made.clauses made.made store stored terms atoms made.terms chosen;
+          closed = closed t u c.ids_are_unique.ensures c.args.roots.now c.args.interface.now c.requires.roots c.requires.interface answered log c.new-log.result c.new-log.ensures steps made.grown made.clauses made.made store stored terms atoms made.terms chosen;
           rising = made.terms.rising;
           chosen = chosen;
         };
         variables = λ k d lt. let there = (made.terms.there k d lt).0 in omega (arith, there, begun.vars);
-        covered = covered t u c.ids_are_unique.ensures c.args.roots.now c.args.beside.now c.requires.roots c.requires.beside answered log c.new-log.result c.new-log.ensures steps made.grown made.clauses made.made store stored terms atoms made.terms chosen;
+        covered = covered t u c.ids_are_unique.ensures c.args.roots.now c.args.interface.now c.requires.roots c.requires.interface answered log c.new-log.result c.new-log.ensures steps made.grown made.clauses made.made store stored terms atoms made.terms chosen;
         waiting = subst (λ (ls : List Lit). AreWaiting atoms ls c.in_ok-decider.decider) (sym begun.same.literals) waits;
         sized = c.in_ok-decider.ensures.1 ∙ c.vars.ensures;
         learned = subst (AreAllOf u) (sym none) (All-nil (AreLiteralsIn u));
@@ -59,7 +59,7 @@ returns-clause-begins c =
       empty = begun.same.literals;
       level = begun.same.level;
       fed = refl;
-      search = search_begins t u c.ids_are_unique.ensures c.args.roots.now c.args.beside.now c.requires.roots c.requires.beside answered log c.new-log.result c.new-log.ensures steps made.grown made.clauses made.made store stored terms atoms made.terms chosen x refl refl refl none;
+      search = search_begins t u c.ids_are_unique.ensures c.args.roots.now c.args.interface.now c.requires.roots c.requires.interface answered log c.new-log.result c.new-log.ensures steps made.grown made.clauses made.made store stored terms atoms made.terms chosen x refl refl refl none;
       limits_are = (ap (λ b. b.limit) c.in_ok-budget.ensures, ap (λ b. b.pivots) c.in_ok-budget.ensures);
       unspent = ap (λ b. b.exchanges) c.in_ok-budget.ensures;
     }

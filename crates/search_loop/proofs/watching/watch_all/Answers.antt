@@ -61,8 +61,8 @@ pub returns-in_err-watch_term-clause-stops : goal.returns-in_err-watch_term-clau
 returns-in_err-watch_term-clause-stops g c =
     let ids = c.args.terms.now in
     let k = c.terms.id-index in
-    let strains : List Term → Strain → Type 0 = g.T.Theory.strains c.watch_term.new.self c.args.table.now in
-    let shown : List TermId → Stop → Type 0 = λ watched stop. StopsBy (strains (clause_at c.args.table.now watched)) (λ _. ⊥) stop in
+    let may_overflow : List Term → Strain → Type 0 = g.T.Theory.may_overflow c.watch_term.new.self c.args.table.now in
+    let shown : List TermId → Stop → Type 0 = λ watched stop. StopsBy (may_overflow (clause_at c.args.table.now watched)) (λ _. ⊥) stop in
     let up_to = ap (λ (v : TheoryView). v.watched ++ get_or ids k no_id ∷ []) c.terms.invariant.view ∙ sym (take_more ids k no_id c.terms-test.true) in
     let before = ap (λ (v : TheoryView). v.watched) c.in_err-watch_term.ensures.watches ∙ ap (λ (v : TheoryView). v.watched) c.terms.invariant.view in
     handed_on (λ stop. (n : ℕ) × (n < length ids) × ((g.T.Theory.view c.watch_term.new.self).watched ≡ take n ids) × shown (take (n + 1) ids) stop) c.from_residual.result c.in_err-watch_term.field-0.0 c.from_residual.ensures.1

@@ -4,5 +4,5 @@ use Rattle.std.specs.HashMap.{get}
 use Rattle.simplex.specs.Values.{TellsValues}
 use Rattle.simplex.proofs.numbers.values_by_term.Given as goal
 
-abbrev pub invariant-places : goal.invariant-places
-invariant-places l = TellsValues (get nat_eq l.known) l.terms l.values l.at
+abbrev pub invariant-slacks : goal.invariant-slacks
+invariant-slacks l = TellsValues (get nat_eq l.known) l.terms l.values l.at

@@ -9,7 +9,7 @@ use Rattle.simplex_atoms.proofs.numbering.entries_of.Goals as goal
 pub variables-init : goal.variables-init
 variables-init c = record {
   counted = c.requires;
-  grows = grows_same c.args.owners.now.list _ c.args.board.now _ refl refl;
+  grows = grows_same c.args.owners.now.list _ c.args.assignment.now _ refl refl;
   grounded = λ h. h;
   there = λ t _ h. h;
   came = λ t f _ _ ts n es among h. h;
@@ -28,7 +28,7 @@ pub variables-preserved : goal.variables-preserved
 variables-preserved c = record {
   counted = c.entry_of.ensures.counted;
   grows =
-      grows_on (ground_of c.args.owners.now.list c.args.board.now) (ground_of c.variables.owners.list c.variables.board) (ground_of c.entry_of.new.owners.list c.entry_of.new.board)
+      grows_on (ground_of c.args.owners.now.list c.args.assignment.now) (ground_of c.variables.owners.list c.variables.assignment) (ground_of c.entry_of.new.owners.list c.entry_of.new.assignment)
       c.variables.invariant.grows c.entry_of.ensures.grows;
   grounded = λ h. c.entry_of.ensures.grounded (c.variables.invariant.grounded h);
   there = λ t all h. c.entry_of.ensures.there t

@@ -8,15 +8,15 @@ use Rattle.term_core.specs.Tables.{TableView, IsIn}
 use Rattle.simplex_atoms.specs.Owners.{AreOwnersIn}
 use Rattle.simplex_atoms.specs.Atoms.{ground_of, AreCounted, IsGrounded, GroundGrows}
 use Rattle.simplex_atoms.specs.Watching.{EntriesAreNumbered}
-use Rattle.simplex_atoms.specs.Standings.{GroundLeads, TellsOwners, IsVariableOf}
+use Rattle.simplex_atoms.specs.TermTableauViews.{GroundLeads, TellsOwners, IsVariableOf}
 use Rattle.simplex_atoms.proofs.numbering.entries_of.Given as goal
 
 abbrev pub invariant-variables : goal.invariant-variables
 invariant-variables l = record {
-  counted : AreCounted (ground_of l.owners.list l.board);
-  grows : GroundGrows (ground_of l.initial.owners.list l.initial.board) (ground_of l.owners.list l.board);
-  grounded : IsGrounded (ground_of l.initial.owners.list l.initial.board) → IsGrounded (ground_of l.owners.list l.board);
+  counted : AreCounted (ground_of l.owners.list l.assignment);
+  grows : GroundGrows (ground_of l.initial.owners.list l.initial.assignment) (ground_of l.owners.list l.assignment);
+  grounded : IsGrounded (ground_of l.initial.owners.list l.initial.assignment) → IsGrounded (ground_of l.owners.list l.assignment);
   there : (t : TableView) → All (λ (p : TermId × Ratio). IsIn t p.0) l.variables → AreOwnersIn t l.initial.owners.list → AreOwnersIn t l.owners.list;
-  came : (t : TableView) (f : Form) → TellsOwners t l.initial.owners.list → All (IsVariableOf t f) l.variables → GroundLeads t f (ground_of l.initial.owners.list l.initial.board) (ground_of l.owners.list l.board);
+  came : (t : TableView) (f : Form) → TellsOwners t l.initial.owners.list → All (IsVariableOf t f) l.variables → GroundLeads t f (ground_of l.initial.owners.list l.initial.assignment) (ground_of l.owners.list l.assignment);
   so_far : EntriesAreNumbered l.owners.list l.entries.items (take l.at l.variables);
 }

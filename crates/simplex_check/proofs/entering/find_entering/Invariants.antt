@@ -9,7 +9,7 @@ use Rattle.simplex_check.proofs.entering.find_entering.Given as goal
 
 abbrev pub invariant-loop-e : goal.invariant-loop-e
 invariant-loop-e l =
-    Passed numbers (λ y. ranges.moves_by deltas (ranges_in l.bounds.held y) (point_in l.board.values y) l.up) (entries_of l.fn.entries) (entries_of l.rest)
+    Passed numbers (λ y. ranges.moves_by deltas (ranges_in l.bounds.held y) (point_in l.assignment.values y) l.up) (entries_of l.fn.entries) (entries_of l.rest)
 
 abbrev pub decreases-loop-e : goal.decreases-loop-e
 decreases-loop-e l = length l.rest

@@ -1,4 +1,4 @@
--- The negation is put, or the atom stands there.
+-- The negation is put, or the atom is there.
 use Rattle.std.proofs.Common.{◌≡◌, true}
 use Rattle.std.proofs.lemmas.Bool.{not-false}
 use Rattle.term_clauses.proofs.Arguments.{Widens-self}

@@ -2,7 +2,7 @@
 use Rattle.std.proofs.Common.{rules}
 use Rattle.std.proofs.lemmas.List.Sorted.{answers_always}
 use Rattle.simplex_numbers.specs.Values.{by_value}
-use Rattle.simplex_numbers.proofs.Neighbours.{compared, ranks, is_from, least_from, strains_from}
+use Rattle.simplex_numbers.proofs.Neighbours.{compared, ranks, is_from, least_from, overflows_from}
 use Rattle.simplex_numbers.proofs.apart.narrowed_apart.Goals as goal
 
 pub narrowed_beside-requires-clause-sorted : goal.narrowed_beside-requires-clause-sorted
@@ -19,4 +19,4 @@ returns-clause-least c =
 
 pub returns-clause-wide : goal.returns-clause-wide
 returns-clause-wide c =
-    strains_from c.args.values.now c.sort_unstable_by.new.self c.sort_unstable_by.ensures.permutation c.narrowed_beside.result c.narrowed_beside.ensures.wide
+    overflows_from c.args.values.now c.sort_unstable_by.new.self c.sort_unstable_by.ensures.permutation c.narrowed_beside.result c.narrowed_beside.ensures.wide

@@ -4,44 +4,44 @@ use Rattle.spec_text.proofs.AnswerLaws.{told}
 use Rattle.ratio128.specs.Meant.{overflow}
 use Rattle.tableau.specs.Numbers.{number_of}
 use Rattle.simplex_bounds.specs.Deltas.{pair_of}
-use Rattle.spec_strains.specs.Halves.{StrainsApart}
+use Rattle.spec_strains.specs.Halves.{OverflowsApart}
 use Rattle.simplex_numbers.proofs.Orders.{irreflexive, smaller_smaller}
-use Rattle.simplex_numbers.proofs.Neighbours.{clear_more, half_more, strains_more, none_among}
+use Rattle.simplex_numbers.proofs.Neighbours.{clear_more, half_more, overflows_more, none_among}
 use Rattle.simplex_numbers.proofs.apart.narrowed_beside.Goals as goal
 
-pub places-init : goal.places-init
-places-init c = record {
+pub slacks-init : goal.slacks-init
+slacks-init c = record {
   smaller = (c.requires.positive, irreflexive (number_of c.args.e));
   one_of = inl refl;
   clear = λ k d lt. absurd (omega (arith, lt));
 }
 
-pub places-preserved : goal.places-preserved
-places-preserved c =
+pub slacks-preserved : goal.slacks-preserved
+slacks-preserved c =
     let xs = c.args.values.now in
-    let at = c.places.at in
+    let at = c.slacks.at in
     let x = c.index-values-at.result in
-    let y = c.index-values-at-in-places.result in
-    let s = c.places.small in
+    let y = c.index-values-at-in-slacks.result in
+    let s = c.slacks.small in
     let d = c.in_ok-small.small in
-    let some : 0 < c.places.at = omega (arith, c.places.auto.at) in
-    let lt : c.places.at < length xs = omega (arith, c.places-test.true) in
+    let some : 0 < c.slacks.at = omega (arith, c.slacks.auto.at) in
+    let lt : c.slacks.at < length xs = omega (arith, c.slacks-test.true) in
     record {
-      smaller = smaller_smaller (number_of c.args.e) (number_of s) (number_of d) c.places.invariant.smaller c.in_ok-small.ensures.smaller;
-      one_of = half_more xs at x y some lt c.index-values-at.is c.index-values-at-in-places.is c.requires.sorted c.args.e s d c.places.invariant.one_of c.in_ok-small.ensures.is;
-      clear = clear_more xs at x y some lt c.index-values-at.is c.index-values-at-in-places.is (number_of s) (number_of d) c.in_ok-small.ensures.smaller c.places.invariant.clear c.in_ok-small.ensures.least;
+      smaller = smaller_smaller (number_of c.args.e) (number_of s) (number_of d) c.slacks.invariant.smaller c.in_ok-small.ensures.smaller;
+      one_of = half_more xs at x y some lt c.index-values-at.is c.index-values-at-in-slacks.is c.requires.sorted c.args.e s d c.slacks.invariant.one_of c.in_ok-small.ensures.is;
+      clear = clear_more xs at x y some lt c.index-values-at.is c.index-values-at-in-slacks.is (number_of s) (number_of d) c.in_ok-small.ensures.smaller c.slacks.invariant.clear c.in_ok-small.ensures.least;
     }
 
 pub returns-in_err-small-clause-wide : goal.returns-in_err-small-clause-wide
 returns-in_err-small-clause-wide c =
     let xs = c.args.values.now in
-    let some : 0 < c.places.at = omega (arith, c.places.auto.at) in
-    let lt : c.places.at < length xs = omega (arith, c.places-test.true) in
-    told (λ w. StrainsApart (map pair_of xs) (overflow w)) c.from_residual.result c.in_err-small.field-0.0 c.from_residual.ensures.1
-    (strains_more xs c.places.at c.index-values-at.result c.index-values-at-in-places.result some lt c.index-values-at.is c.index-values-at-in-places.is c.requires.sorted
+    let some : 0 < c.slacks.at = omega (arith, c.slacks.auto.at) in
+    let lt : c.slacks.at < length xs = omega (arith, c.slacks-test.true) in
+    told (λ w. OverflowsApart (map pair_of xs) (overflow w)) c.from_residual.result c.in_err-small.field-0.0 c.from_residual.ensures.1
+    (overflows_more xs c.slacks.at c.index-values-at.result c.index-values-at-in-slacks.result some lt c.index-values-at.is c.index-values-at-in-slacks.is c.requires.sorted
     (overflow c.in_err-small.field-0.0) c.in_err-small.ensures.wide)
 
 pub returns-clause-least : goal.returns-clause-least
 returns-clause-least c =
-    none_among (number_of c.places.small) c.places.invariant.smaller.0 c.args.values.now c.requires.sorted
-    (λ k d lt. c.places.invariant.clear k d (omega (arith, lt, c.places-test.false)))
+    none_among (number_of c.slacks.small) c.slacks.invariant.smaller.0 c.args.values.now c.requires.sorted
+    (λ k d lt. c.slacks.invariant.clear k d (omega (arith, lt, c.slacks-test.false)))

@@ -7,8 +7,8 @@ use Rattle.spec_causes.specs.Causes.{IsHalfAmong}
 use Rattle.simplex_numbers.specs.Values.{IsSmaller, IsClear}
 use Rattle.simplex_numbers.proofs.apart.narrowed_beside.Given as goal
 
-abbrev pub invariant-places : goal.invariant-places
-invariant-places l = record {
+abbrev pub invariant-slacks : goal.invariant-slacks
+invariant-slacks l = record {
   smaller : IsSmaller (number_of l.small) (number_of l.fn.e);
   one_of : (l.small ≡ l.fn.e) ⊎ IsHalfAmong (map pair_of l.values) (number_of l.small);
   clear : AllAdjacentBelow (λ x y. IsClear (number_of l.small) (pair_of x) (pair_of y)) l.values l.at;

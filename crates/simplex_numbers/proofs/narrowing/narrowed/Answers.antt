@@ -7,7 +7,7 @@ use Rattle.spec_tableaux.specs.Numbers.{Number, numbers}
 use Rattle.ratio128.specs.Meant.{overflow}
 use Rattle.tableau.specs.Numbers.{number_of}
 use Rattle.simplex_bounds.specs.Deltas.{pair_of}
-use Rattle.spec_strains.specs.Halves.{is_less, IsSteeper, meeting, halfway, StrainsOrder, half}
+use Rattle.spec_strains.specs.Halves.{is_less, IsSteeper, meeting, halfway, OverflowsOrder, half}
 use Rattle.simplex_numbers.proofs.Orders.{irreflexive, level_stays, rises_not_zero, two_not_zero, steep_less, half_above, half_stays, steep_stays}
 use Rattle.simplex_numbers.proofs.Epsilons.{half_or}
 use Rattle.simplex_numbers.proofs.narrowing.narrowed.Goals as goal
@@ -33,7 +33,7 @@ returns-in_err-half-clause-wide c =
     let y = pair_of c.args.y in
     let at : number_of c.in_ok-meeting.meeting ≡ meeting x y = c.in_ok-meeting.ensures.ok ∙ (λ i. numbers.times (c.in_ok-gap.ensures.ok i) (numbers.inverse (c.in_ok-steepness.ensures.ok i))) in
     let o = overflow c.in_err-half.field-0.0 in
-    told (λ w. StrainsOrder x y (overflow w)) c.from_residual-in_err-half.result c.in_err-half.field-0.0 c.from_residual-in_err-half.ensures.1
+    told (λ w. OverflowsOrder x y (overflow w)) c.from_residual-in_err-half.result c.in_err-half.field-0.0 c.from_residual-in_err-half.ensures.1
     (sym c.less.ensures ∙ c.if-not-less.false, half ((λ i. divided (sym at i).fraction (sym c.two.ensures i).fraction) ∙ c.in_err-half.ensures.wide))
 
 pub lesser-requires-clause-first : goal.lesser-requires-clause-first

@@ -10,13 +10,13 @@ use Rattle.tableau.specs.Numbers.{number_of}
 use Rattle.simplex_bounds.specs.Deltas.{pair_of, range_of}
 use Rattle.simplex_bounds.specs.Held.{ranges_in}
 use Rattle.spec_strains.specs.Points.{point_in}
-use Rattle.spec_strains.specs.Halves.{is_less, StrainsRange, StrainsNumber}
+use Rattle.spec_strains.specs.Halves.{is_less, OverflowsRange, OverflowsNumber}
 use Rattle.spec_strains.specs.Halves as halves
 use Rattle.simplex_reasons.proofs.Distances.{one_above}
 use Rattle.simplex_numbers.proofs.Orders.{irreflexive, not_above}
 use Rattle.simplex_numbers.proofs.Keeping.{off_after, kept_after}
 use Rattle.simplex_numbers.proofs.Everywhere.{everywhere, one_more, none_more, epsilon_of_all}
-use Rattle.simplex_numbers.proofs.Epsilons.{one_of_more, epsilon_after, strains_after}
+use Rattle.simplex_numbers.proofs.Epsilons.{one_of_more, epsilon_after, overflows_after}
 use Rattle.simplex_numbers.proofs.Neighbours.{apart_after}
 use Rattle.simplex_numbers.proofs.small.small_number.Goals as goal
 
@@ -32,7 +32,7 @@ loop-y-init c = record {
 pub loop-y-preserved : goal.loop-y-preserved
 loop-y-preserved c =
     let held = c.args.bounds.now.held in
-    let v = point_in c.args.board.now.values in
+    let v = point_in c.args.assignment.now.values in
     let e = number_of c.loop-y.e in
     let d = number_of c.in_ok-e.e in
     let r = range_of c.range.result in
@@ -48,16 +48,16 @@ loop-y-preserved c =
 pub returns-in_err-e-clause-wide : goal.returns-in_err-e-clause-wide
 returns-in_err-e-clause-wide c =
     let ranges = ranges_in c.args.bounds.now.held in
-    let v = point_in c.args.board.now.values in
+    let v = point_in c.args.assignment.now.values in
     let w = overflow c.in_err-e.field-0.0 in
-    told (λ w. StrainsNumber ranges v (map pair_of c.args.apart.now) (overflow w)) c.from_residual.result c.in_err-e.field-0.0 c.from_residual.ensures.1
-    (halves.bounds c.loop-y.y (subst (λ (r : Range (Pair Number)). StrainsRange r (v c.loop-y.y) w) c.range.ensures
-    (subst (λ (x : Pair Number). StrainsRange (range_of c.range.result) x w) c.value.ensures c.in_err-e.ensures.wide)))
+    told (λ w. OverflowsNumber ranges v (map pair_of c.args.apart.now) (overflow w)) c.from_residual.result c.in_err-e.field-0.0 c.from_residual.ensures.1
+    (halves.bounds c.loop-y.y (subst (λ (r : Range (Pair Number)). OverflowsRange r (v c.loop-y.y) w) c.range.ensures
+    (subst (λ (x : Pair Number). OverflowsRange (range_of c.range.result) x w) c.value.ensures c.in_err-e.ensures.wide)))
 
 pub returns-clause-keeps : goal.returns-clause-keeps
 returns-clause-keeps c =
     let held = c.args.bounds.now.held in
-    let v = point_in c.args.board.now.values in
+    let v = point_in c.args.assignment.now.values in
     let e = number_of c.loop-y.e in
     let off = everywhere held v e c.args.bounds.now.variables c.held_are_of_variables.ensures
     (λ z lt. c.loop-y.invariant.off z (omega (arith, lt, c.loop-y-test.false, c.variables-y-end.ensures))) in
@@ -66,7 +66,7 @@ returns-clause-keeps c =
 pub returns-clause-off : goal.returns-clause-off
 returns-clause-off c =
     let held = c.args.bounds.now.held in
-    let v = point_in c.args.board.now.values in
+    let v = point_in c.args.assignment.now.values in
     let e = number_of c.loop-y.e in
     let off = everywhere held v e c.args.bounds.now.variables c.held_are_of_variables.ensures
     (λ z lt. c.loop-y.invariant.off z (omega (arith, lt, c.loop-y-test.false, c.variables-y-end.ensures))) in
@@ -79,7 +79,7 @@ returns-clause-apart c =
 pub returns-clause-is : goal.returns-clause-is
 returns-clause-is c =
     let held = c.args.bounds.now.held in
-    let v = point_in c.args.board.now.values in
+    let v = point_in c.args.assignment.now.values in
     epsilon_after c.narrowed_apart.result c.loop-y.e (ranges_in held) v (map pair_of c.args.apart.now)
     (epsilon_of_all held v (number_of c.loop-y.e) c.args.bounds.now.variables c.held_are_of_variables.ensures c.loop-y.invariant.one_of c.loop-y.invariant.most_one
     (λ z lt. c.loop-y.invariant.most_each z (omega (arith, lt, c.loop-y-test.false, c.variables-y-end.ensures))))
@@ -87,4 +87,4 @@ returns-clause-is c =
 
 pub returns-clause-wide : goal.returns-clause-wide
 returns-clause-wide c =
-    strains_after c.narrowed_apart.result (ranges_in c.args.bounds.now.held) (point_in c.args.board.now.values) (map pair_of c.args.apart.now) c.narrowed_apart.ensures.wide
+    overflows_after c.narrowed_apart.result (ranges_in c.args.bounds.now.held) (point_in c.args.assignment.now.values) (map pair_of c.args.apart.now) c.narrowed_apart.ensures.wide

@@ -13,8 +13,8 @@ use Rattle.simplex_numbers.proofs.small.small_number.Given as goal
 abbrev pub invariant-loop-y : goal.invariant-loop-y
 invariant-loop-y l = record {
   positive : is_positive numbers (number_of l.e) ≡ true;
-  off : (y : ℕ) → y < l.y → StaysOff (number_of l.e) (ranges_in l.bounds.held y) (point_in l.board.values y);
-  one_of : (number_of l.e ≡ numbers.one) ⊎ ((y : ℕ) × IsHalfIn (ranges_in l.bounds.held y) (point_in l.board.values y) (number_of l.e));
+  off : (y : ℕ) → y < l.y → StaysOff (number_of l.e) (ranges_in l.bounds.held y) (point_in l.assignment.values y);
+  one_of : (number_of l.e ≡ numbers.one) ⊎ ((y : ℕ) × IsHalfIn (ranges_in l.bounds.held y) (point_in l.assignment.values y) (number_of l.e));
   most_one : is_less numbers.one (number_of l.e) ≡ false;
-  most_each : (y : ℕ) → y < l.y → IsAboveNone (IsHalfIn (ranges_in l.bounds.held y) (point_in l.board.values y)) (number_of l.e);
+  most_each : (y : ℕ) → y < l.y → IsAboveNone (IsHalfIn (ranges_in l.bounds.held y) (point_in l.assignment.values y)) (number_of l.e);
 }

@@ -9,17 +9,17 @@ use Rattle.tableau.specs.Entries.{entry_of, entries_of}
 use Rattle.simplex_explain.specs.declared.weighted.Weighted.{Weighted}
 use Rattle.simplex_reasons.specs.declared.stop.ReasonStop.TheVariants as stops
 use Rattle.spec_causes.specs.Reasons.{with_basic}
-use Rattle.simplex_reasons.specs.Reasons.{footing, IsBoundReason, StrainsReason, StrainsReasons, OnReasonOverflow}
-use Rattle.simplex_reasons.proofs.Telling.{Told, told_first, told_more, told_all, told_strain, first_strain}
+use Rattle.simplex_reasons.specs.Reasons.{footing, IsBoundReason, OverflowsReason, OverflowsReasons, OnReasonOverflow}
+use Rattle.simplex_reasons.proofs.Telling.{Told, told_first, told_more, told_all, told_overflow, first_overflowing}
 use Rattle.simplex_reasons.proofs.sums.reasons_for.Goals as goal
 
 pub returns-in_err-first-clause-wide : goal.returns-in_err-first-clause-wide
 returns-in_err-first-clause-wide c =
     let f = footing c.args.atoms.now c.args.bounds.now in
     let own : number_of c.negative.result ≡ numbers.opposite numbers.one = c.negative.ensures ∙ ap numbers.opposite c.one.ensures in
-    told (OnReasonOverflow (StrainsReasons f c.args.up (with_basic c.args.basic (entries_of c.args.entries.now)))) c.from_residual.result (stops.Wide c.in_err-first.field-0.0) c.from_residual.ensures.1
-    (first_strain f c.args.up (record { variable = c.args.basic; coefficient = numbers.opposite numbers.one }) (entries_of c.args.entries.now) (overflow c.in_err-first.field-0.0)
-    (subst (λ (k : Number). StrainsReason f c.args.up (record { variable = c.args.basic; coefficient = k }) (overflow c.in_err-first.field-0.0)) own c.in_err-first.ensures.wide))
+    told (OnReasonOverflow (OverflowsReasons f c.args.up (with_basic c.args.basic (entries_of c.args.entries.now)))) c.from_residual.result (stops.Wide c.in_err-first.field-0.0) c.from_residual.ensures.1
+    (first_overflowing f c.args.up (record { variable = c.args.basic; coefficient = numbers.opposite numbers.one }) (entries_of c.args.entries.now) (overflow c.in_err-first.field-0.0)
+    (subst (λ (k : Number). OverflowsReason f c.args.up (record { variable = c.args.basic; coefficient = k }) (overflow c.in_err-first.field-0.0)) own c.in_err-first.ensures.wide))
 
 pub loop-e-init : goal.loop-e-init
 loop-e-init c =
@@ -34,8 +34,8 @@ pub returns-in_err-reason-clause-wide : goal.returns-in_err-reason-clause-wide
 returns-in_err-reason-clause-wide c =
     let f = footing c.args.atoms.now c.args.bounds.now in
     let some : c.loop-e.rest.now ≡ c.in-Some.e.now ∷ c.in-Some.more.now = search rules in
-    told (OnReasonOverflow (StrainsReasons f c.args.up (with_basic c.args.basic (entries_of c.args.entries.now)))) c.from_residual-in_err-reason.result (stops.Wide c.in_err-reason.field-0.0) c.from_residual-in_err-reason.ensures.1
-    (told_strain f c.args.up (with_basic c.args.basic (entries_of c.args.entries.now)) (entries_of c.loop-e.rest.now) (entry_of c.in-Some.e.now) (entries_of c.in-Some.more.now) c.loop-e.reasons.items (overflow c.in_err-reason.field-0.0)
+    told (OnReasonOverflow (OverflowsReasons f c.args.up (with_basic c.args.basic (entries_of c.args.entries.now)))) c.from_residual-in_err-reason.result (stops.Wide c.in_err-reason.field-0.0) c.from_residual-in_err-reason.ensures.1
+    (told_overflow f c.args.up (with_basic c.args.basic (entries_of c.args.entries.now)) (entries_of c.loop-e.rest.now) (entry_of c.in-Some.e.now) (entries_of c.in-Some.more.now) c.loop-e.reasons.items (overflow c.in_err-reason.field-0.0)
     (ap entries_of some) c.loop-e.invariant c.in_err-reason.ensures.wide)
 
 pub loop-e-preserved : goal.loop-e-preserved

@@ -3,7 +3,7 @@ use Rattle.std.proofs.Common.{[], refl, sym, ap, ◌∙◌, subst}
 use Rattle.spec_commands.specs.Stack.{done, unsupported, check, say, leave}
 use Rattle.spec_sessions.specs.Responses.{success, not_supported, answered, said, ended}
 use Rattle.smt_sexpr.specs.Items.{tree_of}
-use Rattle.assertion_stack.specs.Stacks.{Standing, standing}
+use Rattle.assertion_stack.specs.Stacks.{OverTable, over_table}
 use Rattle.check_evidence.specs.Evidence.{limits_meant, checked_on, IsHeld, IsEvidence}
 use Rattle.smt_session.proofs.Taking.{kept_on, taken_as, back, refused_as, refused_keeps}
 use Rattle.smt_session.proofs.session.take.Goals as goal
@@ -71,8 +71,8 @@ returns-in-Ok-clause-takes c = λ s h.
 pub returns-in-Err-clause-takes : goal.returns-in-Err-clause-takes
 returns-in-Err-clause-takes c = λ s h.
     let same = c.in-Err.ensures.same in
-    let held = subst (λ (z : Standing). IsHeld c.args.limits.now.terms z s) (sym (λ i. standing (same.1 i) (same.0 i))) h in
-    refused_as (limits_meant c.args.limits.now) s c.args.command.now c.in-Err.stop (standing c.command.new.table c.command.new.self) c.args.budget.now c.rejected.result held (c.in-Err.ensures.steps c.args.limits.now.terms s h.stack) c.rejected.ensures
+    let held = subst (λ (z : OverTable). IsHeld c.args.limits.now.terms z s) (sym (λ i. over_table (same.1 i) (same.0 i))) h in
+    refused_as (limits_meant c.args.limits.now) s c.args.command.now c.in-Err.stop (over_table c.command.new.table c.command.new.self) c.args.budget.now c.rejected.result held (c.in-Err.ensures.steps c.args.limits.now.terms s h.stack) c.rejected.ensures
 
 pub returns-in-Err-clause-budget : goal.returns-in-Err-clause-budget
 returns-in-Err-clause-budget c = refused_keeps c.in-Err.stop c.args.budget.now c.rejected.result c.rejected.ensures
@@ -85,8 +85,8 @@ returns-in-Err-check-clause-stack c =
 pub returns-in-Err-check-clause-table : goal.returns-in-Err-check-clause-table
 returns-in-Err-check-clause-table c =
     let begun = rw c.in-Ok-Check.field-0-is at c.in-Ok-Check.ensures.check in
-    c.in-Err-check.ensures.table ∙ ap (λ (z : Standing). z.table) begun
+    c.in-Err-check.ensures.table ∙ ap (λ (z : OverTable). z.table) begun
 
 pub returns-in-Err-check-clause-takes : goal.returns-in-Err-check-clause-takes
 returns-in-Err-check-clause-takes c = λ s h.
-    subst (λ (z : Standing). IsHeld c.args.limits.now.terms z s) (sym (λ i. standing (returns-in-Err-check-clause-table c i) (returns-in-Err-check-clause-stack c i))) h
+    subst (λ (z : OverTable). IsHeld c.args.limits.now.terms z s) (sym (λ i. over_table (returns-in-Err-check-clause-table c i) (returns-in-Err-check-clause-stack c i))) h

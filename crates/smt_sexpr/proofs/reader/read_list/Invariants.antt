@@ -1,4 +1,4 @@
--- The list is open, and what was read of it stands in its context.
+-- The list is open, and what was read of it is in its context.
 use Rattle.std.proofs.Common.{◌+◌, ◌-◌, ◌<◌, ◌≤◌, ◌∷◌, [], ◌++◌, length}
 use Rattle.spec_text.specs.Places.{IsPlaceOf}
 use Rattle.spec_text.specs.Lexemes.{opens, lexemes_from}

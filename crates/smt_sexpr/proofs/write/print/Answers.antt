@@ -1,4 +1,4 @@
--- The item's tree stands in the text, from its first token up to its last.
+-- The item's tree is in the text, from its first token up to its last.
 use Rattle.std.proofs.Common.{arith, ap, ◌∙◌}
 use Rattle.smt_sexpr.proofs.Inner.{inner, tree_from}
 use Rattle.smt_sexpr.proofs.write.print.Goals as goal

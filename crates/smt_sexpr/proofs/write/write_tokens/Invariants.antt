@@ -1,4 +1,4 @@
--- What was written and what is left are the tree, wherever one stands there.
+-- What was written and what is left are the tree, wherever one is there.
 use Rattle.std.proofs.Common.{ℕ, List, length, ◌-◌}
 use Rattle.spec_text.specs.Places.{IsPlaceOf}
 use Rattle.spec_text.specs.Trees.{Tree}

@@ -2,7 +2,7 @@
 use Rattle.std.proofs.Common.{refl, subst}
 use Rattle.world_io.specs.Memory.{text_named, seen_sink}
 use Rattle.smt_top.specs.Arguments.{asked}
-use Rattle.smt_top.specs.Ends.{RunMeans}
+use Rattle.smt_top.specs.RunMeans.{RunMeans}
 use Rattle.smt_top.proofs.InMemory.{ends_in_memory, fault_counted}
 use Rattle.smt_top.proofs.in_memory.run_in_memory.Goals as goal
 

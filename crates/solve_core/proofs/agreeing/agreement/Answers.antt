@@ -12,14 +12,14 @@ use Rattle.congruence_closure.specs.Closure.{ClosureView, TellClasses}
 use Rattle.congruence_relation.specs.Relation.{AreFactsOf}
 use Rattle.agreement.specs.declared.agreeing.Shared.{Shared}
 use Rattle.agreement.specs.Agreeing.{Agree, ArePairs}
-use Rattle.solve_core.specs.Agreeing.{AreSaid}
+use Rattle.solve_core.specs.Agreeing.{AreTheoryValues}
 use Rattle.congruence.specs.Views.{theory_of, AreEqualBy}
 use Rattle.simplex.specs.Views.{SimplexView}
 use Rattle.simplex.specs.Numbers.{HoldApart}
-use Rattle.simplex.specs.Coming.{IsStrainAt}
+use Rattle.simplex.specs.Coming.{IsOverflowAt}
 use Rattle.sat_budget.specs.Budgets.{StopsBy}
 use Rattle.search_loop.proofs.SearchSpends.{handed_on}
-use Rattle.solve_core.proofs.SearchNumbers.{over_rested}
+use Rattle.solve_core.proofs.SearchNumbers.{over_saturated}
 use Rattle.solve_core.proofs.SearchAgreed.{shared_watched, shared_linear, all_there}
 use Rattle.solve_core.proofs.SearchTogether.{agreed_together, differ_open}
 use Rattle.solve_core.proofs.agreeing.agreement.Goals as goal
@@ -30,7 +30,7 @@ numbers-requires-clause-over c =
     let t = c.args.table.now in
     let theory = c.args.theory.now in
     subst (λ (v : SimplexView). IsTheoryOver t v.theory) (sym c.simplex.ensures)
-    (subst (IsTheoryOver t) c.parts_hold_the_same.ensures (over_rested t c.args.search.now (theory_of theory.congruence) _ c.requires.rested))
+    (subst (IsTheoryOver t) c.parts_hold_the_same.ensures (over_saturated t c.args.search.now (theory_of theory.congruence) _ c.requires.search_saturated))
 
 pub numbers-requires-clause-terms : goal.numbers-requires-clause-terms
 numbers-requires-clause-terms c =
@@ -39,7 +39,7 @@ numbers-requires-clause-terms c =
     let theory = c.args.theory.now in
     let ids = c.args.shared.now in
     let all : c.deref-2.result.now ≡ x.terms.items ++ ids = c.deref-2.ensures.value ∙ c.in_ok-terms.ensures ∙ ap (λ (is : List TermId). is ++ ids) c.deref.ensures.value in
-    subst (AreIn t) (sym all) (all_there t c.ids_are_unique.ensures x (theory_of theory.congruence) _ c.requires.rested ids c.requires.asked.0 c.requires.asked.1)
+    subst (AreIn t) (sym all) (all_there t c.ids_are_unique.ensures x (theory_of theory.congruence) _ c.requires.search_saturated ids c.requires.asked.0 c.requires.asked.1)
 
 pub numbers-requires-clause-there : goal.numbers-requires-clause-there
 numbers-requires-clause-there c = c.requires.asked.1.shared.there
@@ -51,7 +51,7 @@ numbers-requires-clause-shared c = λ k d lt.
     let ids = c.args.shared.now in
     let u = get_or (clause_at t ids) k d in
     subst (λ (v : SimplexView). IsSharedAmong (terms_watched t v.theory) u) (sym c.simplex.ensures)
-    (shared_watched t c.ids_are_unique.ensures c.args.search.now (theory_of theory.congruence) _ c.requires.rested ids c.requires.asked.0 c.requires.asked.1 theory.simplex.theory c.parts_hold_the_same.ensures u
+    (shared_watched t c.ids_are_unique.ensures c.args.search.now (theory_of theory.congruence) _ c.requires.search_saturated ids c.requires.asked.0 c.requires.asked.1 theory.simplex.theory c.parts_hold_the_same.ensures u
     (Contains-get_or (clause_at t ids) k d lt))
 
 pub numbers-requires-clause-linear : goal.numbers-requires-clause-linear
@@ -59,15 +59,15 @@ numbers-requires-clause-linear c = λ k d lt.
     let t = c.args.table.now in
     let theory = c.args.theory.now in
     let ids = c.args.shared.now in
-    shared_linear t c.ids_are_unique.ensures c.args.search.now (theory_of theory.congruence) _ c.requires.rested ids c.requires.asked.0 c.requires.asked.1 c.terms_of_linear_checks_are_linear.ensures
+    shared_linear t c.ids_are_unique.ensures c.args.search.now (theory_of theory.congruence) _ c.requires.search_saturated ids c.requires.asked.0 c.requires.asked.1 c.terms_of_linear_checks_are_linear.ensures
     (get_or (clause_at t ids) k d) (Contains-get_or (clause_at t ids) k d lt)
 
 pub returns-in_err-numbers-clause-stops : goal.returns-in_err-numbers-clause-stops
 returns-in_err-numbers-clause-stops c =
     let t = c.args.table.now in
     let theory = c.args.theory.now in
-    handed_on (StopsBy (λ s. IsStrainAt t (terms_watched t theory.simplex.theory) s theory.simplex) (λ _. ⊥)) c.from_residual-in_err-numbers.result c.in_err-numbers.field-0.0 c.from_residual-in_err-numbers.ensures.1
-    (subst (λ (v : SimplexView). StopsBy (λ e. IsStrainAt t (terms_watched t v.theory) e v) (λ _. ⊥) c.in_err-numbers.field-0.0) c.simplex.ensures c.in_err-numbers.ensures.stops)
+    handed_on (StopsBy (λ s. IsOverflowAt t (terms_watched t theory.simplex.theory) s theory.simplex) (λ _. ⊥)) c.from_residual-in_err-numbers.result c.in_err-numbers.field-0.0 c.from_residual-in_err-numbers.ensures.1
+    (subst (λ (v : SimplexView). StopsBy (λ e. IsOverflowAt t (terms_watched t v.theory) e v) (λ _. ⊥) c.in_err-numbers.field-0.0) c.simplex.ensures c.in_err-numbers.ensures.stops)
 
 pub shared_of-requires-clause-numbers : goal.shared_of-requires-clause-numbers
 shared_of-requires-clause-numbers c =
@@ -95,9 +95,9 @@ all_told c =
     let v = theory_of theory.congruence in
     let all : c.deref-3.result.now ≡ x.terms.items ++ ids = c.deref-3.ensures.value ∙ c.in_ok-terms.ensures ∙ ap (λ (is : List TermId). is ++ ids) c.deref.ensures.value in
     let declared = subst (λ (d : SymbolsView). AreDeclared d.sorts d.symbols) c.symbols.ensures c.are_declared.ensures in
-    let there = subst (AreIn t) (sym all) (all_there t c.ids_are_unique.ensures x v _ c.requires.rested ids c.requires.asked.0 c.requires.asked.1) in
+    let there = subst (AreIn t) (sym all) (all_there t c.ids_are_unique.ensures x v _ c.requires.search_saturated ids c.requires.asked.0 c.requires.asked.1) in
     let told = c.in_ok-classes.ensures.exact t c.ids_are_unique.ensures declared
-    (subst (λ (k : ClosureView). AreFactsOf t k.now.facts) (sym c.congruence.ensures) c.requires.congruence) there (subst (λ (k : ClosureView). k.now.settled ≡ true) (sym c.congruence.ensures) c.requires.rested.agrees.0.1) in
+    (subst (λ (k : ClosureView). AreFactsOf t k.now.facts) (sym c.congruence.ensures) c.requires.congruence) there (subst (λ (k : ClosureView). k.now.saturated ≡ true) (sym c.congruence.ensures) c.requires.search_saturated.agrees.0.1) in
     subst (λ (is : List TermId). TellClasses (AreEqualBy t v) is ns) all (subst (λ (k : ClosureView). TellClasses (AreEqualBy t (theory_of k)) c.deref-3.result.now ns) c.congruence.ensures told)
 
 all_counted : (c : In_ok-xs) → length c.in_ok-classes.classes.items ≡ length (c.args.search.now.terms.items ++ c.args.shared.now)
@@ -114,8 +114,8 @@ all_apart c =
     subst (λ (v : SimplexView). HoldApart t v (clause_at t (c.args.search.now.terms.items ++ ids)) (clause_at t ids) xs) c.simplex.ensures
     (subst (λ (is : List TermId). HoldApart t c.simplex.result.now (clause_at t is) (clause_at t ids) xs) all c.in_ok-numbers.ensures.ok)
 
-all_said : (c : In_ok-xs) → AreSaid c.args.shared.now c.in_ok-classes.classes.items (map fraction c.in_ok-numbers.numbers.items) (length c.args.search.now.terms.items) c.in_ok-xs.xs.items
-all_said c = subst (λ (n : ℕ). AreSaid c.args.shared.now c.in_ok-classes.classes.items (map fraction c.in_ok-numbers.numbers.items) n c.in_ok-xs.xs.items) (front_many c) c.in_ok-xs.ensures
+all_theory_values : (c : In_ok-xs) → AreTheoryValues c.args.shared.now c.in_ok-classes.classes.items (map fraction c.in_ok-numbers.numbers.items) (length c.args.search.now.terms.items) c.in_ok-xs.xs.items
+all_theory_values c = subst (λ (n : ℕ). AreTheoryValues c.args.shared.now c.in_ok-classes.classes.items (map fraction c.in_ok-numbers.numbers.items) n c.in_ok-xs.xs.items) (front_many c) c.in_ok-xs.ensures
 
 pub returns-in-Pairs-clause-found : goal.returns-in-Pairs-clause-found
 returns-in-Pairs-clause-found c = λ p a.
@@ -123,9 +123,9 @@ returns-in-Pairs-clause-found c = λ p a.
     let t = c.args.table.now in
     let theory = c.args.theory.now in
     let pairs = subst (λ (xs : List Shared). ArePairs xs c.in-Pairs.pairs.items × (0 < length c.in-Pairs.pairs.items)) c.as_mut_slice.ensures.value (rw c.in-Pairs.is at c.in_ok-pairs.ensures.answer) in
-    differ_open t c.ids_are_unique.ensures c.args.search.now (theory_of theory.congruence) _ c.requires.rested c.args.shared.now p a c.is_sound.ensures.consistent c.requires.rested.agrees.0.0
+    differ_open t c.ids_are_unique.ensures c.args.search.now (theory_of theory.congruence) _ c.requires.search_saturated c.args.shared.now p a c.is_sound.ensures.consistent c.requires.search_saturated.agrees.0.0
     c.listed_terms_have_their_places_class.ensures c.terms_of_linear_checks_are_linear.ensures c.in_ok-classes.classes.items (all_told d) (all_counted d) theory.simplex c.parts_hold_the_same.ensures
-    (map fraction c.in_ok-numbers.numbers.items) (all_apart d) c.in_ok-xs.xs.items (all_said d) c.sides_of_equalities_agree.ensures c.in-Pairs.pairs.items pairs.0 pairs.1
+    (map fraction c.in_ok-numbers.numbers.items) (all_apart d) c.in_ok-xs.xs.items (all_theory_values d) c.sides_of_equalities_agree.ensures c.in-Pairs.pairs.items pairs.0 pairs.1
 
 pub returns-clause-found : goal.returns-clause-found
 returns-clause-found c =
@@ -134,8 +134,8 @@ returns-clause-found c =
     let theory = c.args.theory.now in
     let ns = c.in_ok-numbers.numbers.items in
     let agree = subst (λ (xs : List Shared). Agree xs) c.as_mut_slice.ensures.value (rw c.in-Agreed.is at c.in_ok-pairs.ensures.answer) in
-    agreed_together t c.ids_are_unique.ensures c.args.search.now (theory_of theory.congruence) _ c.requires.rested c.args.shared.now c.requires.asked.0 c.requires.asked.1 c.is_sound.ensures.consistent
-    c.requires.rested.agrees.0.0 c.listed_terms_have_their_places_class.ensures c.terms_of_linear_checks_are_linear.ensures c.in_ok-classes.classes.items (all_told d) (all_counted d) theory.simplex
-    c.parts_hold_the_same.ensures (map fraction ns) (all_apart d) c.in_ok-xs.xs.items (all_said d) c.equalities_beside_apply_nothing_more.ensures agree
+    agreed_together t c.ids_are_unique.ensures c.args.search.now (theory_of theory.congruence) _ c.requires.search_saturated c.args.shared.now c.requires.asked.0 c.requires.asked.1 c.is_sound.ensures.consistent
+    c.requires.search_saturated.agrees.0.0 c.listed_terms_have_their_places_class.ensures c.terms_of_linear_checks_are_linear.ensures c.in_ok-classes.classes.items (all_told d) (all_counted d) theory.simplex
+    c.parts_hold_the_same.ensures (map fraction ns) (all_apart d) c.in_ok-xs.xs.items (all_theory_values d) c.interface_equalities_apply_nothing_more.ensures agree
     c.truncate.new.self.items (c.truncate.ensures.items ∙ ap (λ (n : ℕ). take n c.in_ok-classes.classes.items) (front_many d))
     (map fraction c.truncate-in-Agreed.new.self.items) (ap (map fraction) (c.truncate-in-Agreed.ensures.items ∙ ap (λ (n : ℕ). take n ns) (front_many d)) ∙ sym (take-map fraction (length c.args.search.now.terms.items) ns))

@@ -17,7 +17,7 @@ search_classes-requires-clause-begins c =
     let e = c.truth_values.ensures in
     let b = c.requires.begins in
     let r = b.2.ready in
-    let laws = c.logs_stand_in_grown_tables.ensures in
+    let laws = c.logs_hold_in_grown_tables.ensures in
     (b.0, b.1, begins_wider t u e.grown e.declared x (laws.right t u x.log r.right e.grown) (laws.same t u x.log r.right e.grown) r b.0 b.1 b.2)
 
 pub search_classes-requires-clause-plain : goal.search_classes-requires-clause-plain
@@ -33,7 +33,7 @@ returns-clause-answered c =
     let y = c.search_classes.new.search in
     let e = c.truth_values.ensures in
     let r = c.requires.begins.2.ready in
-    let laws = c.logs_stand_in_grown_tables.ensures in
+    let laws = c.logs_hold_in_grown_tables.ensures in
     let wider = continues_wider t u e.grown e.declared x (laws.right t u x.log r.right e.grown) (laws.same t u x.log r.right e.grown) r in
     IfOk-weaker c.search_classes.result (IsAnswered (state u x) (state w y)) (IsAnswered (state t x) (state w y)) (λ a. answered_on t u w x x y wider a) c.search_classes.ensures.answered
 

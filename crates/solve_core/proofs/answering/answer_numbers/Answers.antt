@@ -17,7 +17,7 @@ search_with-requires-clause-begins c =
     let p = c.requires.begins.0 in
     let limits = c.requires.begins.1 in
     let b = c.in_ok-relate_bounds.ensures.related.begins p limits c.requires.begins.2 in
-    let laws = c.logs_stand_in_grown_tables.ensures in
+    let laws = c.logs_hold_in_grown_tables.ensures in
     (p, limits, begins_wider t u e.grown e.declared x (laws.right t u x.log b.ready.right e.grown) (laws.same t u x.log b.ready.right e.grown) b.ready p limits b)
 
 pub search_with-requires-clause-asked : goal.search_with-requires-clause-asked
@@ -30,7 +30,7 @@ search_with-requires-clause-asked c =
     let e = c.truth_values.ensures in
     let related = c.in_ok-relate_bounds.ensures.related in
     let b = related.begins c.requires.begins.0 c.requires.begins.1 c.requires.begins.2 in
-    let laws = c.logs_stand_in_grown_tables.ensures in
+    let laws = c.logs_hold_in_grown_tables.ensures in
     let wider = continues_wider s u e.grown e.declared y (laws.right s u y.log b.ready.right e.grown) (laws.same s u y.log b.ready.right e.grown) b.ready in
     let on = continues_on t s u x y y related.continues wider in
     (c.requires.asked.0, asked_on t u on.table c.args.shared.now c.requires.asked.0 x y (on.search c.requires.asked.0) c.requires.asked.1)
@@ -47,7 +47,7 @@ returns-in-Ok-clause-ends c =
     let e = c.truth_values.ensures in
     let related = c.in_ok-relate_bounds.ensures.related in
     let b = related.begins c.requires.begins.0 c.requires.begins.1 c.requires.begins.2 in
-    let laws = c.logs_stand_in_grown_tables.ensures in
+    let laws = c.logs_hold_in_grown_tables.ensures in
     let wider = continues_wider s u e.grown e.declared y (laws.right s u y.log b.ready.right e.grown) (laws.same s u y.log b.ready.right e.grown) b.ready in
     ends_on t u w x y z (continues_on t s u x y y related.continues wider) c.args.shared.now c.in-Ok.round (rw c.in-Ok.is at c.search_with.ensures.ends)
 
@@ -63,7 +63,7 @@ returns-clause-ends c =
     let e = c.truth_values.ensures in
     let related = c.in_ok-relate_bounds.ensures.related in
     let b = related.begins c.requires.begins.0 c.requires.begins.1 c.requires.begins.2 in
-    let laws = c.logs_stand_in_grown_tables.ensures in
+    let laws = c.logs_hold_in_grown_tables.ensures in
     let wider = continues_wider s u e.grown e.declared y (laws.right s u y.log b.ready.right e.grown) (laws.same s u y.log b.ready.right e.grown) b.ready in
     let stop = c.in-Err.stop in
     answers_show (state t x) (state w z) c.args.shared.now stop c.answer_to.result c.answer_to.ensures

@@ -34,31 +34,31 @@ model-requires c =
     let t = c.args.table.now in
     let x = c.args.search.now in
     let v = theory_of c.run.new.theory in
-    let ends = rw c.in-Rests.is at (rw c.in-Ok-run.is at c.run.ensures.ends) in
+    let ends = rw c.in-Saturated.is at (rw c.in-Ok-run.is at c.run.ensures.ends) in
     let plain : (u : Term) → Contains (clause_at w y.terms.items) u → sort_of u ≢ Number =
     plain_later t w c.run.ensures.grown x y c.requires.begins.2.ready ends.1.terms c.requires.plain in
     let all : c.len.result ≡ length y.terms.items = omega (arith, c.len.ensures, y.terms.ok.0) in
     let ids = y.terms.items in
-    let ns = c.in_ok-classes-in-Rests.classes.items in
+    let ns = c.in_ok-classes-in-Saturated.classes.items in
     let declared = subst (λ (d : SymbolsView). AreDeclared d.sorts d.symbols) c.symbols.ensures c.are_declared.ensures in
-    let there : AreIn w c.deref-in-Rests.result.now = subst (AreIn w) (sym c.deref-in-Rests.ensures.value) (All-weaker (IsTermIn w) (IsIn w) (λ id k. k.0) ids ends.0.ready.atoms_are.there) in
-    let told = c.in_ok-classes-in-Rests.ensures.exact w c.ids_are_unique.ensures declared (rw c.in-Ok-run.is at c.run.ensures.with) there ends.0.agrees.1 in
-    let tell = subst (λ (is : List TermId). TellClasses (AreEqualBy w v) is ns) c.deref-in-Rests.ensures.value told in
-    let count = c.in_ok-classes-in-Rests.ensures.count ∙ ap length c.deref-in-Rests.ensures.value in
-    let zeros = c.in_ok-numbers-in-Rests.ensures ∙ ap₂ replicate all zero_is in
-    record { rested = (v, rests_with w y v (λ a. a.0) ends.0, zeros_hold w y v _ ends.0 plain ns tell count (map fraction c.in_ok-numbers-in-Rests.numbers.items) zeros) }
+    let there : AreIn w c.deref-in-Saturated.result.now = subst (AreIn w) (sym c.deref-in-Saturated.ensures.value) (All-weaker (IsTermIn w) (IsIn w) (λ id k. k.0) ids ends.0.ready.atoms_are.there) in
+    let told = c.in_ok-classes-in-Saturated.ensures.exact w c.ids_are_unique.ensures declared (rw c.in-Ok-run.is at c.run.ensures.with) there ends.0.agrees.1 in
+    let tell = subst (λ (is : List TermId). TellClasses (AreEqualBy w v) is ns) c.deref-in-Saturated.ensures.value told in
+    let count = c.in_ok-classes-in-Saturated.ensures.count ∙ ap length c.deref-in-Saturated.ensures.value in
+    let zeros = c.in_ok-numbers-in-Saturated.ensures ∙ ap₂ replicate all zero_is in
+    record { search_saturated = (v, rests_with w y v (λ a. a.0) ends.0, zeros_hold w y v _ ends.0 plain ns tell count (map fraction c.in_ok-numbers-in-Saturated.numbers.items) zeros) }
 
-pub returns-in_ok-model-in-Rests-clause-answered : goal.returns-in_ok-model-in-Rests-clause-answered
-returns-in_ok-model-in-Rests-clause-answered c =
+pub returns-in_ok-model-in-Saturated-clause-answered : goal.returns-in_ok-model-in-Saturated-clause-answered
+returns-in_ok-model-in-Saturated-clause-answered c =
     let t = c.args.table.now in
     let w = c.run.new.table in
     let x = c.args.search.now in
     let y = c.run.new.self in
-    let ends = rw c.in-Rests.is at (rw c.in-Ok-run.is at c.run.ensures.ends) in
+    let ends = rw c.in-Saturated.is at (rw c.in-Ok-run.is at c.run.ensures.ends) in
     record {
       right = rw c.in-Ok-run.is at c.run.ensures.right;
       limits = rw c.in-Ok-run.is at c.run.ensures.limits;
-      shows = shows_on t w w x y y (Sat c.in_ok-model-in-Rests.model) ends.1 c.in_ok-model-in-Rests.ensures;
+      shows = shows_on t w w x y y (Sat c.in_ok-model-in-Saturated.model) ends.1 c.in_ok-model-in-Saturated.ensures;
     }
 
 pub returns-in-Refuted-clause-answered : goal.returns-in-Refuted-clause-answered

@@ -21,30 +21,30 @@ use Rattle.solve_core.proofs.SearchModelled.{given, taken, rests, nothing_assume
 use Rattle.solve_core.proofs.modelling.model.Goals as goal
 
 pub model_of-requires-clause-rising : goal.model_of-requires-clause-rising
-model_of-requires-clause-rising c = subst AreRising (sym c.deref.ensures.value) c.requires.rested.1.ready.atoms_are.rising
+model_of-requires-clause-rising c = subst AreRising (sym c.deref.ensures.value) c.requires.search_saturated.1.ready.atoms_are.rising
 
 pub model_of-requires-clause-closed : goal.model_of-requires-clause-closed
-model_of-requires-clause-closed c = subst (λ (ids : List TermId). IsClosed (clause_at c.args.table.now ids)) (sym c.deref.ensures.value) c.requires.rested.1.ready.atoms_are.closed
+model_of-requires-clause-closed c = subst (λ (ids : List TermId). IsClosed (clause_at c.args.table.now ids)) (sym c.deref.ensures.value) c.requires.search_saturated.1.ready.atoms_are.closed
 
 pub model_of-requires-clause-known : goal.model_of-requires-clause-known
-model_of-requires-clause-known c = subst (λ (ids : List TermId). All (λ (id : TermId). id.0 < c.args.search.now.trail.vars) ids) (sym c.deref.ensures.value) c.requires.rested.1.ready.variables
+model_of-requires-clause-known c = subst (λ (ids : List TermId). All (λ (id : TermId). id.0 < c.args.search.now.trail.vars) ids) (sym c.deref.ensures.value) c.requires.search_saturated.1.ready.variables
 
 pub model_of-requires-clause-literals : goal.model_of-requires-clause-literals
 model_of-requires-clause-literals c = λ k d lt.
     let ls = c.args.search.now.trail.literals in
-    held_in c.args.table.now c.args.search.now c.requires.rested.1.ready (get_or ls k d) (Contains-get_or ls k d lt)
+    held_in c.args.table.now c.args.search.now c.requires.search_saturated.1.ready (get_or ls k d) (Contains-get_or ls k d lt)
 
 -- there is a class for each term
 pub model_of-requires-clause-classes : goal.model_of-requires-clause-classes
-model_of-requires-clause-classes c = ap length c.deref-2.ensures.value ∙ c.requires.rested.2.values.count ∙ sym (ap length c.deref.ensures.value)
+model_of-requires-clause-classes c = ap length c.deref-2.ensures.value ∙ c.requires.search_saturated.2.values.count ∙ sym (ap length c.deref.ensures.value)
 
 -- and a number
 pub model_of-requires-clause-numbers : goal.model_of-requires-clause-numbers
 model_of-requires-clause-numbers c =
     let t = c.args.table.now in
-    let k = c.requires.rested.2.values in
+    let k = c.requires.search_saturated.2.values in
     let ids = c.args.search.now.terms.items in
-    let ns = c.args.said.now.numbers.items in
+    let ns = c.args.assigned_values.now.numbers.items in
     let are : length ns ≡ length ids = sym (length-map ns fraction) ∙ ap length k.are ∙ length-map (clause_at t ids) k.number ∙ length-map ids (term_at t) in
     ap length c.deref-3.ensures.value ∙ are ∙ sym (ap length c.deref.ensures.value)
 
@@ -52,12 +52,12 @@ pub returns : goal.returns
 returns c =
     let t = c.args.table.now in
     let x = c.args.search.now in
-    let v = c.requires.rested.0 in
-    let h = c.requires.rested.1 in
-    let k = c.requires.rested.2 in
+    let v = c.requires.search_saturated.0 in
+    let h = c.requires.search_saturated.1 in
+    let k = c.requires.search_saturated.2 in
     let number = k.values.number in
     let ids = x.terms.items in
-    let ns = c.args.said.now.classes.items in
+    let ns = c.args.assigned_values.now.classes.items in
     let terms = clause_at t ids in
     let ls = x.trail.literals in
     let held : List Literal = map (literal_at t) ls in
@@ -74,13 +74,13 @@ returns c =
     let place = c.listed_terms_have_their_places_class.ensures in
     let linear = c.terms_of_linear_checks_are_linear.ensures in
     let g = given t differ x v _ h consistent h.agrees ns tell problem s place linear number k.values.reduced kept in
-    let resting = rests t differ x v _ h consistent h.agrees ns tell problem s place linear number k.values.reduced kept k.shared k.shares k.heads k.agree in
+    let saturation = rests t differ x v _ h consistent h.agrees ns tell problem s place linear number k.values.reduced kept k.shared k.shares k.heads k.agree in
     let arguments = taken t differ x v _ h consistent h.agrees ns tell problem s place linear number k.values.reduced kept k.shared k.shares k.heads k.agree in
     let assumed = nothing_assumed t differ x v _ h consistent h.agrees ns tell problem s in (
       has_model t differ x v _ h consistent h.agrees ns tell problem s place linear number k.values.reduced kept interp good
           (c.made_models_stand.ensures.stands t ls ids ns (map number terms) interp declared.names_apart good)
           (c.made_models_are_those_of_numbers.ensures t ls ids ns number interp arguments good)
-          (λ i by. c.searches_that_rest_on_numbers_have_models.ensures.interprets t.symbols problem terms held g i resting by)
-          (λ i by. c.searches_that_rest_on_numbers_have_models.ensures.all t.symbols problem terms held g i resting by assumed),
+          (λ i by. c.searches_saturated_on_numbers_have_models.ensures.interprets t.symbols problem terms held g i saturation by)
+          (λ i by. c.searches_saturated_on_numbers_have_models.ensures.all t.symbols problem terms held g i saturation by assumed),
       learning_shows t problem x (Sat interp) (λ steps. steps) h.ready.right s,
     )) c.model_of.ensures

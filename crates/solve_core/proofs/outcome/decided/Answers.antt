@@ -13,8 +13,8 @@ use Rattle.spec_derivations.specs.Problems.{subterms_in}
 use Rattle.spec_derivations.specs.Examples.{asserting}
 use Rattle.term_core.specs.Tables.{clause_at}
 use Rattle.term_core.proofs.TermsExtend.{Extends-self, Extends-trans, clause_at-kept}
-use Rattle.solve_core.specs.Decisions.{HasDecision, IsStrainedBy}
-use Rattle.solve_core.proofs.SearchStrained.{strained_justified}
+use Rattle.solve_core.specs.Decisions.{HasDecision, IsOverflowedBy}
+use Rattle.solve_core.proofs.SearchOverflowed.{overflowed_justified}
 use Rattle.solve_core.proofs.SearchRounds.{open_first}
 use Rattle.solve_core.proofs.outcome.decided.Goals as goal
 
@@ -27,11 +27,11 @@ returns-in-Some-clause-decided c =
     let ts = clause_at t c.args.roots.now in
     let limits = c.args.limits.now in
     let found = rw c.in-Some.is at c.in_ok-wide.ensures in
-    IfOk-weaker c.strained.result (IsStrainedBy limits c.in-Some.wide) (HasDecision t ts limits) (λ d by. record {
-      beside = [];
+    IfOk-weaker c.overflowed.result (IsOverflowedBy limits c.in-Some.wide) (HasDecision t ts limits) (λ d by. record {
+      interface = [];
       equalities = All-nil (IsSharedEquality (subterms_in (asserting ts)));
-      justified = strained_justified t (asserting ts) limits (c.empty_logs_are_right.ensures t) c.in-Some.wide d by (inl found);
-    }) c.strained.ensures
+      justified = overflowed_justified t (asserting ts) limits (c.empty_logs_are_right.ensures t) c.in-Some.wide d by (inl found);
+    }) c.overflowed.ensures
 
 pub returns-in_err-wide-clause-grown : goal.returns-in_err-wide-clause-grown
 returns-in_err-wide-clause-grown c = Extends-self c.args.table.now
@@ -50,7 +50,7 @@ rounds-init c =
     record {
       grown = Extends-self t;
       declared = refl;
-      ready = subst (λ (bs : List TermId). IsOpenFor roots ids (record { table = t; beside = bs })) (sym c.new.ensures.items) (open_first roots ids t c.requires.roots c.requires.answered forms shared);
+      ready = subst (λ (bs : List TermId). IsOpenFor roots ids (record { table = t; interface = bs })) (sym c.new.ensures.items) (open_first roots ids t c.requires.roots c.requires.answered forms shared);
     }
 
 pub returns-in-Some-2-clause-decided : goal.returns-in-Some-2-clause-decided

@@ -8,8 +8,8 @@ abbrev pub invariant-rounds : goal.invariant-rounds
 invariant-rounds l = record {
   grown : Extends l.fn.table l.table;
   declared : declared_in l.table ≡ declared_in l.fn.table;
-  ready : IsOpenFor l.roots l.shared.items (record { table = l.table; beside = l.passed.beside.items });
+  ready : IsOpenFor l.roots l.shared.items (record { table = l.table; interface = l.passed.interface.items });
 }
 
 abbrev pub decreases-rounds : goal.decreases-rounds
-decreases-rounds l = unspoken_at l.shared.items (record { table = l.table; beside = l.passed.beside.items })
+decreases-rounds l = unspoken_at l.shared.items (record { table = l.table; interface = l.passed.interface.items })

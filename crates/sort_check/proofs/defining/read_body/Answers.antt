@@ -5,7 +5,7 @@ use Rattle.spec_sorts.specs.Terms.{Sort}
 use Rattle.smt_sexpr.specs.Items.{tree_meant}
 use Rattle.term_core.specs.Symbols.{HasSortIn, sort_meant}
 use Rattle.term_reader.specs.Names.{setting_meant}
-use Rattle.term_reader.proofs.Standing.{stands_kept}
+use Rattle.term_reader.proofs.OverTable.{meaning_kept}
 use Rattle.sort_check.specs.Reads.{store}
 use Rattle.sort_check.specs.Rows.{EndsOne}
 use Rattle.sort_check.proofs.Widening.{widens_same, grows_along}
@@ -17,7 +17,7 @@ returns-in-Err-clause-grows c = record { keeps = c.bind_parameters.ensures.keeps
 pub read_of_sort-requires-clause-known : goal.read_of_sort-requires-clause-known
 read_of_sort-requires-clause-known c =
     let e = c.requires.known in
-    (e.0, stands_kept c.args.table.now c.bind_parameters.new.table c.bind_parameters.ensures.keeps c.args.scope.now e.0 e.1)
+    (e.0, meaning_kept c.args.table.now c.bind_parameters.new.table c.bind_parameters.ensures.keeps c.args.scope.now e.0 e.1)
 
 pub read_of_sort-requires-clause-sort : goal.read_of_sort-requires-clause-sort
 read_of_sort-requires-clause-sort c = subst (λ ss. HasSortIn ss c.args.sort) (sym (ap (λ d. d.sorts) c.bind_parameters.ensures.keeps.declared)) c.requires.sort
@@ -31,7 +31,7 @@ returns-in-Ok-clause-ends c =
     let new = store c.read_of_sort.new.table c.read_of_sort.new.scope in
     λ s h.
     subst (λ (ss : Bound × Sort). EndsOne s new (reading_of_sort w s ss.0 ss.1 t) c.read_of_sort.result) (λ i. (c.in-Ok.ensures.ends.1 i, sort_meant (sorts i) c.args.sort))
-    (c.read_of_sort.ensures.ends s (stands_kept c.args.table.now c.bind_parameters.new.table keeps c.args.scope.now s h))
+    (c.read_of_sort.ensures.ends s (meaning_kept c.args.table.now c.bind_parameters.new.table keeps c.args.scope.now s h))
 
 pub returns-in-Ok-clause-grows : goal.returns-in-Ok-clause-grows
 returns-in-Ok-clause-grows c =

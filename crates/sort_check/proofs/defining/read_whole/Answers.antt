@@ -113,7 +113,7 @@ returns-clause-ends c =
       definitions = made ++ it ∷ [];
       read = whole_read w s d n fresh params ps.read result q.1 r.reading r.read;
       stands = subst (λ (x : ScopeView). ScopeMeans u x (with_definitions s (made ++ it ∷ []))) (sym c.in_default.ensures.added)
-          (whole_stands w s d n fresh params ps.read result q.1 r.reading r.read u v r.stands h.sorted (record { parameters = p.1; result = sort; body = id }) macro c.each_name_stands_for_something.ensures.functions);
+          (whole_stands w s d n fresh params ps.read result q.1 r.reading r.read u v r.stands h.sorted (record { parameters = p.1; result = sort; body = id }) macro c.each_name_means_something.ensures.functions);
       terms = subst (λ ids. AllMean u ids (terms_of_definitions (made ++ it ∷ []))) (sym c.in_default-push.ensures.items)
           (subst (AllMean u (c.in-Ok-read_body.named.items ++ id ∷ [])) (sym (map-append (λ (x : Definition). x.term) made (it ∷ [])))
           (mean_push u c.in-Ok-read_body.named.items id (terms_of_definitions made) r.reading.term r.named r.term.0 r.term.1));

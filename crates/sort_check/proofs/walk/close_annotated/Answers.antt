@@ -10,7 +10,7 @@ use Rattle.sort_check.specs.Reads.{HasFault}
 use Rattle.sort_check.specs.Walks.{here}
 use Rattle.sort_check.proofs.Widening.{widens_same}
 use Rattle.sort_check.proofs.Walking.{ends_by, less_by, on_along, frames_push}
-use Rattle.sort_check.proofs.Annotating.{annotated_value, known, names_stand, meant, annotated_closes, annotated_stops}
+use Rattle.sort_check.proofs.Annotating.{annotated_value, known, names_mean, meant, annotated_closes, annotated_stops}
 use Rattle.sort_check.proofs.walk.close_annotated.Goals as goal
 
 pub index-id-requires : goal.index-id-requires
@@ -40,7 +40,7 @@ returns-in-Ok-name_term-clause-goes c =
     let id = c.index-id.result.now in
     let nums = c.name_term.new.named.items in
     λ root k.
-    let a = c.in-Ok-name_term.ensures.ends (known w root h f k c.args.at c.args.text c.args.attributes c.requires.opened) (tree_meant c.args.text) (names_stand w root h f k c.args.at c.args.text c.args.attributes c.requires.opened) in
+    let a = c.in-Ok-name_term.ensures.ends (known w root h f k c.args.at c.args.text c.args.attributes c.requires.opened) (tree_meant c.args.text) (names_mean w root h f k c.args.at c.args.text c.args.attributes c.requires.opened) in
     let same = meant w root h f k c.args.at c.args.text c.args.attributes c.requires.opened id id c.in-Ok.may_name c.index-id.ensures c.in-Ok.ensures in
     ends_by w root (here t v c.replace.new.walk) (record h { scope = v; values = take f.from h.values ++ get_or h.values f.from id ∷ []; named = nums; rest = trees_meant f.after }) c.replace.result
     (on_along c.replace.result (here t v c.replace.new.walk) (record h { scope = v; values = take f.from h.values ++ id ∷ []; named = nums; rest = trees_meant f.after }) (record h { scope = v; values = take f.from h.values ++ get_or h.values f.from id ∷ []; named = nums; rest = trees_meant f.after }) (c.replace.ensures.replaced t v)
@@ -65,7 +65,7 @@ returns-in-Err-clause-goes c =
     let f = c.args.frame in
     let id = c.index-id.result.now in
     λ root k.
-    let a = c.in-Err.ensures.ends (known w root h f k c.args.at c.args.text c.args.attributes c.requires.opened) (tree_meant c.args.text) (names_stand w root h f k c.args.at c.args.text c.args.attributes c.requires.opened) in
+    let a = c.in-Err.ensures.ends (known w root h f k c.args.at c.args.text c.args.attributes c.requires.opened) (tree_meant c.args.text) (names_mean w root h f k c.args.at c.args.text c.args.attributes c.requires.opened) in
     let same = meant w root h f k c.args.at c.args.text c.args.attributes c.requires.opened id id c.in-Ok.may_name c.index-id.ensures c.in-Ok.ensures in
     annotated_stops w root h f k c.args.at c.args.text c.args.attributes c.requires.opened c.in-Err.stop
     (subst (λ x. HasFault (made_by w (known w root h f k c.args.at c.args.text c.args.attributes c.requires.opened) x (named_words a_keyword (trees_meant c.args.attributes))) c.in-Err.stop) same a)

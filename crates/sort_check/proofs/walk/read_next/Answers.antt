@@ -1,4 +1,4 @@
--- The text that stands next.
+-- The text that is next.
 use Rattle.std.proofs.Common.{◌≡◌, ◌+◌, sym, ap, ◌∙◌, arith}
 use Rattle.spec_text.specs.Trees.{Tree, list, more}
 use Rattle.smt_sexpr.specs.Items.{trees_meant, tree_meant}

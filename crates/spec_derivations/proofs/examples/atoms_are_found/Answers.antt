@@ -12,10 +12,10 @@ use Rattle.spec_derivations.proofs.Spending.{p_sort}
 use Rattle.spec_derivations.proofs.examples.atoms_are_found.Goals as goal
 
 -- a check that asks nothing, with a disjunction beside it
-abbrev disjunction_beside : Problem
-disjunction_beside = speaking [] (p_or_not_q ∷ [])
+abbrev disjunction_interface : Problem
+disjunction_interface = speaking [] (p_or_not_q ∷ [])
 
-p_there : has_term (known_subterms disjunction_beside) p ≡ true
+p_there : has_term (known_subterms disjunction_interface) p ≡ true
 unfolding same_term with_subterms with_all_subterms
 p_there = refl
 
@@ -53,7 +53,7 @@ chosen_sort = refl
 
 pub returns : goal.returns
 returns c = record {
-  beside = subterm p ((has_term-Decides (known_subterms disjunction_beside) p).0 p_there) p_sort (λ e. cc) (λ e. cc);
+  interface = subterm p ((has_term-Decides (known_subterms disjunction_interface) p).0 p_there) p_sort (λ e. cc) (λ e. cc);
   choice = equality_is_atom;
   order = back chosen a equality_is_atom chosen_sort;
   no_truth_value = λ k h. no_truth_value k _ h refl;

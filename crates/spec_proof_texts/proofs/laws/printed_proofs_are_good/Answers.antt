@@ -1,4 +1,4 @@
--- The lines stand where they were printed, and each is right after those before it.
+-- The lines are where they were printed, and each is right after those before it.
 use Rattle.std.proofs.Common.{◌+◌, ℕ, List, ◌++◌, None}
 use Rattle.std.specs.Prelude.{codes}
 use Rattle.spec_commands.specs.Stack.{signature_of, terms_asserted}

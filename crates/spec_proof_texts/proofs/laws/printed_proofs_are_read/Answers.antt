@@ -1,4 +1,4 @@
--- The lines stand where they were printed.
+-- The lines are where they were printed.
 use Rattle.std.proofs.Common.{map}
 use Rattle.spec_text.proofs.Printing.{all_moved}
 use Rattle.spec_models.specs.Values.{trees_of}

@@ -1,4 +1,4 @@
--- The lines stand where they were printed, and each is right after those before it.
+-- The lines are where they were printed, and each is right after those before it.
 use Rattle.std.proofs.Common.{Some, None}
 use Rattle.spec_proof_texts.specs.Meaning.{nothing_told}
 use Rattle.spec_proof_texts.proofs.Lexed.{commands_at, alone_whole}

@@ -26,5 +26,5 @@ pub returns-clause-asked : goal.returns-clause-asked
 returns-clause-asked c = λ limit text k here is. each_asked c.read_numbers_are_decimals.ensures limit text k here is (c.assertions_have_their_texts_value.ensures.kept limit text k here is)
 
 pub returns-clause-terms : goal.returns-clause-terms
-returns-clause-terms c = λ limit text k here beside is.
-    terms_have IsReadableWhole here beside (each_asked c.read_numbers_are_decimals.ensures limit text k here is (c.assertions_have_their_texts_value.ensures.kept limit text k here is))
+returns-clause-terms c = λ limit text k here interface is.
+    terms_have IsReadableWhole here interface (each_asked c.read_numbers_are_decimals.ensures limit text k here is (c.assertions_have_their_texts_value.ensures.kept limit text k here is))

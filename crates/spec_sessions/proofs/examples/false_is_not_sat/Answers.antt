@@ -11,7 +11,7 @@ use Rattle.spec_sorts.specs.Written.{trees_in}
 use Rattle.spec_commands.specs.Stack.{Assertion, Stack, empty_stack, begun, with_assertion}
 use Rattle.spec_commands.specs.Checks.{Check}
 use Rattle.spec_commands.specs.OnLiterals.{commands_on_literals}
-use Rattle.spec_sessions.specs.Evidence.{Found, model, proof, spent, strained, out_of_pivots, Justifies}
+use Rattle.spec_sessions.specs.Evidence.{Found, model, proof, spent, overflowed, out_of_pivots, Justifies}
 use Rattle.spec_sessions.specs.Responses.{solve, Response, success, Answered, Answers, answer_text, response_text}
 use Rattle.spec_sessions.specs.Transcripts.{Follows, Runs, closing, closing_text}
 use Rattle.spec_sessions.specs.Examples.{limits, false_asserted}
@@ -45,7 +45,7 @@ none_found (model i) shown xs ys e =
     cc
 none_found (proof p) shown xs ys e = cc
 none_found (spent n d learned) shown xs ys e = cc
-none_found (strained o k) shown xs ys e = cc
+none_found (overflowed o k) shown xs ys e = cc
 none_found (out_of_pivots n k) shown xs ys e = cc
 
 at_check : (r : Response) (s : Stack) (xs ys : List ℕ) → Answers limits asserted check (record { response = r; stack = s }) → codes "success\nsat\n" ≡ codes "success\n" ++ ((response_text solve (kept false_asserted) (record { response = r; stack = s }) ++ xs) ++ ys) → ⊥

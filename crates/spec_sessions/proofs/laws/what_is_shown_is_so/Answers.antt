@@ -24,7 +24,7 @@ use Rattle.spec_models.specs.Meaning.{IsSymbolIn}
 use Rattle.spec_proof_texts.specs.Lines.{proof_text}
 use Rattle.spec_proof_texts.specs.Meaning.{AreRightLines}
 use Rattle.spec_proof_texts.specs.ReadBack.{AreScriptNames, numbers_in}
-use Rattle.spec_sessions.specs.Evidence.{Limits, Found, model, proof, spent, strained, out_of_pivots, IsModelOf, Justifies}
+use Rattle.spec_sessions.specs.Evidence.{Limits, Found, model, proof, spent, overflowed, out_of_pivots, IsModelOf, Justifies}
 use Rattle.spec_sessions.specs.Refutations.{IsProofOf, lines_in}
 use Rattle.spec_sessions.specs.Meaning.{IsKeptCheck, ModelMeans, MeansAt, HasFewNumerals, ProofMeans, FindingMeans}
 use Rattle.spec_sessions.proofs.laws.what_is_shown_is_so.Goals as goal
@@ -106,7 +106,7 @@ module _ (c : goal.After-printed_proofs_are_accepted) where
     means_at limits (model i) h = model_at i h
     means_at limits (proof p) h = proof_at p h
     means_at limits (spent n d learned) h = tt
-    means_at limits (strained o kept) h = tt
+    means_at limits (overflowed o kept) h = tt
     means_at limits (out_of_pivots n kept) h = tt
 
     module _ (limit : ℕ) (text : List ℕ) (k : ℕ) (current : IsCurrent limit text k x) where
@@ -147,7 +147,7 @@ module _ (c : goal.After-printed_proofs_are_accepted) where
       means_so limits e (model i) h = subst (λ n. ModelMeans (λ j. MakesTrue n j text k) g i) (sym e) (of_model i (model_at i h))
       means_so limits e (proof p) h = subst (λ n. ProofMeans n text k p) (sym e) (of_proof p h)
       means_so limits e (spent n d learned) h = tt
-      means_so limits e (strained o kept) h = tt
+      means_so limits e (overflowed o kept) h = tt
       means_so limits e (out_of_pivots n kept) h = tt
 
 pub returns-clause-at : goal.returns-clause-at

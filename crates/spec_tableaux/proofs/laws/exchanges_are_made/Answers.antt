@@ -1,4 +1,4 @@
-use Rattle.spec_tableaux.proofs.Steps.{exchange_made, exchange_settled, one_exchange}
+use Rattle.spec_tableaux.proofs.Steps.{exchange_made, exchange_updated, one_exchange}
 use Rattle.spec_tableaux.proofs.Returns.{says_pivot}
 use Rattle.spec_tableaux.proofs.laws.exchanges_are_made.Goals as goal
 
@@ -7,5 +7,5 @@ returns c d = record {
   pivot = says_pivot;
   made = λ s l ranges t b x w i a h. exchange_made s l ranges t b x w i a h.basic h.entry;
   one = λ s l ranges t u w b x i h. one_exchange s l ranges t u w b x i h.basic h.nonbasic h.entry;
-  settled = exchange_settled;
+  nonbasic_updated = exchange_updated;
 }

@@ -1,5 +1,5 @@
 use Rattle.spec_tableaux.proofs.Steps.{moves_solve}
-use Rattle.spec_tableaux.proofs.Settling.{moved_moves}
+use Rattle.spec_tableaux.proofs.UpdatingNonbasic.{moved_moves}
 use Rattle.spec_tableaux.proofs.laws.points_move.Goals as goal
 
 pub returns : goal.returns

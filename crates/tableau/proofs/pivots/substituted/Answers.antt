@@ -5,11 +5,11 @@ use Rattle.spec_tableaux.specs.Numbers.{numbers}
 use Rattle.spec_tableaux.proofs.SolvedForms.{tidy_without}
 use Rattle.tableau.specs.Numbers.{number_of}
 use Rattle.tableau.specs.Entries.{entries_of}
-use Rattle.tableau.specs.Sums.{StrainsCombined, combined}
-use Rattle.tableau.specs.Pivots.{pivot_meant, StrainsRow}
+use Rattle.tableau.specs.Sums.{OverflowsCombined, combined}
+use Rattle.tableau.specs.Pivots.{pivot_meant, OverflowsRow}
 use Rattle.tableau.proofs.Loops.{merged_new, substituted_made}
 use Rattle.tableau.proofs.Telling.{passed_on}
-use Rattle.tableau.proofs.Straining.{of_combined}
+use Rattle.tableau.proofs.RowOverflowing.{of_combined}
 use Rattle.tableau.proofs.pivots.substituted.Goals as goal
 
 pub merge-requires-clause-es_tidy : goal.merge-requires-clause-es_tidy
@@ -17,7 +17,7 @@ merge-requires-clause-es_tidy c = subst (IsTidy numbers 0) (sym (ap entries_of c
 
 pub returns-in_err-merged-clause-wide : goal.returns-in_err-merged-clause-wide
 returns-in_err-merged-clause-wide c =
-    passed_on (StrainsCombined true (entries_of c.deref.result.now) (number_of c.args.c) (entries_of c.deref-2.result.now)) (StrainsRow (pivot_meant c.args.pivot.now) (number_of c.args.c) (entries_of c.args.entries.now))
+    passed_on (OverflowsCombined true (entries_of c.deref.result.now) (number_of c.args.c) (entries_of c.deref-2.result.now)) (OverflowsRow (pivot_meant c.args.pivot.now) (number_of c.args.c) (entries_of c.args.entries.now))
     c.from_residual-in_err-merged.result c.in_err-merged.field-0.0
     (of_combined (pivot_meant c.args.pivot.now) (number_of c.args.c) (entries_of c.args.entries.now) (entries_of c.deref.result.now) (entries_of c.deref-2.result.now) (ap entries_of c.deref.ensures.value ∙ c.in_ok-rest.ensures) (ap entries_of c.deref-2.ensures.value))
     c.from_residual-in_err-merged.ensures.1 c.in_err-merged.ensures.wide

@@ -1,7 +1,7 @@
 use Rattle.std.proofs.Common.{rules, ◌≡◌, ◌∷◌, [], ap}
 use Rattle.tableau.specs.Numbers.{number_of}
 use Rattle.tableau.specs.Entries.{entry_of, entries_of}
-use Rattle.tableau.specs.Sums.{StrainsCombined}
+use Rattle.tableau.specs.Sums.{OverflowsCombined}
 use Rattle.tableau.proofs.Turns.{used_turn, unused_turn, tidy_later, left_later, left_first, left_then}
 use Rattle.tableau.proofs.Telling.{passed_on, combined_more}
 use Rattle.tableau.proofs.sums.merge.Goals as goal
@@ -10,8 +10,8 @@ pub returns-in_err-rest-clause-wide : goal.returns-in_err-rest-clause-wide
 returns-in_err-rest-clause-wide c =
     let some : c.loop-g.taken.now ≡ c.in-Some.g.now ∷ c.in-Some.later.now = search rules in
     let i = c.loop-g.invariant in
-    passed_on (StrainsCombined c.args.minus (entries_of c.loop-g.left.now) (number_of c.args.k) (entry_of c.in-Some.g.now ∷ []))
-    (StrainsCombined c.args.minus (entries_of c.args.es.now) (number_of c.args.k) (entries_of c.args.gs.now))
+    passed_on (OverflowsCombined c.args.minus (entries_of c.loop-g.left.now) (number_of c.args.k) (entry_of c.in-Some.g.now ∷ []))
+    (OverflowsCombined c.args.minus (entries_of c.args.es.now) (number_of c.args.k) (entries_of c.args.gs.now))
     c.from_residual.result c.in_err-rest.field-0.0
     (λ o. combined_more c.args.minus (entries_of c.args.es.now) (entries_of c.loop-g.left.now) (entries_of c.args.gs.now) (number_of c.args.k) (entry_of c.in-Some.g.now) o i.es_left
     (left_first (entry_of c.in-Some.g.now) (entries_of c.loop-g.taken.now) (entries_of c.in-Some.later.now) (entries_of c.args.gs.now) (ap entries_of some) i.gs_left))

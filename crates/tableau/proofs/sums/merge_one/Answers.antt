@@ -5,14 +5,14 @@ use Rattle.spec_tableaux.specs.Numbers.{numbers}
 use Rattle.tableau.specs.Numbers.{number_of}
 use Rattle.tableau.specs.Entries.{entry_of, entries_of}
 use Rattle.ratio128.specs.Meant.{overflow}
-use Rattle.tableau.specs.Sums.{turned, AreAbove, StrainsCombined}
+use Rattle.tableau.specs.Sums.{turned, AreAbove, OverflowsCombined}
 use Rattle.tableau.proofs.Telling.{told_wide, combined_product, combined_sum}
 use Rattle.tableau.proofs.Merging.{step_first, step_second, step_both, above_all}
 use Rattle.tableau.proofs.Turns.{left_later}
 use Rattle.tableau.proofs.sums.merge_one.Goals as goal
 
 pub returns-in_err-product-clause-wide : goal.returns-in_err-product-clause-wide
-returns-in_err-product-clause-wide c = told_wide (StrainsCombined c.args.minus (entries_of c.args.es.now) (number_of c.args.k) (entry_of c.args.g ∷ [])) c.from_residual.result c.in_err-product.field-0.0 c.from_residual.ensures.1
+returns-in_err-product-clause-wide c = told_wide (OverflowsCombined c.args.minus (entries_of c.args.es.now) (number_of c.args.k) (entry_of c.args.g ∷ [])) c.from_residual.result c.in_err-product.field-0.0 c.from_residual.ensures.1
     (combined_product c.args.minus (entries_of c.args.es.now) (number_of c.args.k) (entry_of c.args.g) (overflow c.in_err-product.field-0.0) c.in_err-product.ensures.wide)
 
 pub returns-in_default-clause-merges : goal.returns-in_default-clause-merges
@@ -34,13 +34,13 @@ returns-then-e-g-clause-left c =
     left_later (entry_of c.in-Some.e.now) (entries_of c.args.es.now) (entries_of c.in-Some.rest.now) (entries_of c.args.es.now) (ap entries_of some) (λ e h. h)
 
 pub returns-in_err-taken-clause-wide : goal.returns-in_err-taken-clause-wide
-returns-in_err-taken-clause-wide c = told_wide (StrainsCombined c.args.minus (entries_of c.args.es.now) (number_of c.args.k) (entry_of c.args.g ∷ [])) c.from_residual-in_err-taken.result c.in_err-taken.field-0.0 c.from_residual-in_err-taken.ensures.1
+returns-in_err-taken-clause-wide c = told_wide (OverflowsCombined c.args.minus (entries_of c.args.es.now) (number_of c.args.k) (entry_of c.args.g ∷ [])) c.from_residual-in_err-taken.result c.in_err-taken.field-0.0 c.from_residual-in_err-taken.ensures.1
     (combined_product c.args.minus (entries_of c.args.es.now) (number_of c.args.k) (entry_of c.args.g) (overflow c.in_err-taken.field-0.0) c.in_err-taken.ensures.wide)
 
 pub returns-in_err-total-clause-wide : goal.returns-in_err-total-clause-wide
 returns-in_err-total-clause-wide c =
     let some : c.args.es.now ≡ c.in-Some.e.now ∷ c.in-Some.rest.now = search rules in
-    told_wide (StrainsCombined c.args.minus (entries_of c.args.es.now) (number_of c.args.k) (entry_of c.args.g ∷ [])) c.from_residual-in_err-total.result c.in_err-total.field-0.0 c.from_residual-in_err-total.ensures.1
+    told_wide (OverflowsCombined c.args.minus (entries_of c.args.es.now) (number_of c.args.k) (entry_of c.args.g ∷ [])) c.from_residual-in_err-total.result c.in_err-total.field-0.0 c.from_residual-in_err-total.ensures.1
     (combined_sum c.args.minus (entries_of c.args.es.now) (entries_of c.in-Some.rest.now) (number_of c.args.k) (entry_of c.in-Some.e.now) (entry_of c.args.g) (number_of c.in_ok-taken.taken) (overflow c.in_err-total.field-0.0)
     (ap entries_of some) (omega arith) c.in_ok-taken.ensures.ok c.in_err-total.ensures.wide)
 

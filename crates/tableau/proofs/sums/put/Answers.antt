@@ -3,7 +3,7 @@ use Rattle.std.proofs.lemmas.List.{map-append}
 use Rattle.ratio128.specs.Meant.{overflow}
 use Rattle.tableau.specs.Numbers.{number_of}
 use Rattle.tableau.specs.Entries.{entry_of, entries_of}
-use Rattle.tableau.specs.Sums.{StrainsPut}
+use Rattle.tableau.specs.Sums.{OverflowsPut}
 use Rattle.tableau.proofs.Turns.{left_later}
 use Rattle.tableau.proofs.Loops.{put_step}
 use Rattle.tableau.proofs.Telling.{told_wide, put_sum}
@@ -12,7 +12,7 @@ use Rattle.tableau.proofs.sums.put.Goals as goal
 pub returns-in_err-sum-clause-wide : goal.returns-in_err-sum-clause-wide
 returns-in_err-sum-clause-wide c =
     let some : c.loop-e.rest.now ≡ c.in-Some.e.now ∷ c.in-Some.more.now = search rules in
-    told_wide (StrainsPut (entries_of c.args.entries.now) c.args.x (number_of c.args.c)) c.from_residual-in_err-sum.result c.in_err-sum.field-0.0 c.from_residual-in_err-sum.ensures.1
+    told_wide (OverflowsPut (entries_of c.args.entries.now) c.args.x (number_of c.args.c)) c.from_residual-in_err-sum.result c.in_err-sum.field-0.0 c.from_residual-in_err-sum.ensures.1
     (put_sum (entries_of c.args.entries.now) (entries_of c.loop-e.rest.now) (entries_of c.in-Some.more.now) c.args.x (number_of c.args.c) (entry_of c.in-Some.e.now) (overflow c.in_err-sum.field-0.0)
     c.loop-e.invariant.left (ap entries_of some) (omega arith) c.in_err-sum.ensures.wide)
 

@@ -16,9 +16,9 @@ use Rattle.term_clauses.proofs.Growing.{Grows-wider, Grows-made, Tells-made, Tel
 use Rattle.term_clauses.proofs.choices.state_branch.Goals as goal
 use Rattle.term_clauses.proofs.choices.state_branch.Goals.{After-equality, In_ok-clause}
 
--- the log stands in the wider table
+-- the log is in the wider table
 still : (c : After-equality) → IsLogOf c.equality.new.table c.args.log.now
-still c = c.logs_stand_in_grown_tables.ensures.right c.args.table.now c.equality.new.table c.args.log.now c.requires.log c.equality.ensures.wider.terms
+still c = c.logs_hold_in_grown_tables.ensures.right c.args.table.now c.equality.new.table c.args.log.now c.requires.log c.equality.ensures.wider.terms
 
 pub returns-in_err-equal-clause-grows : goal.returns-in_err-equal-clause-grows
 returns-in_err-equal-clause-grows c = Grows-wider [] c.args.table.now c.equality.new.table c.args.log.now c.equality.ensures.wider (still (goal.at.returns-in_err-equal-clause-grows c).After-equality)

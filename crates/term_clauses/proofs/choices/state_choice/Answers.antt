@@ -19,9 +19,9 @@ use Rattle.term_clauses.proofs.Growing.{Grows-self, Grows-wider, Grows-trans, Gr
 use Rattle.term_clauses.proofs.choices.state_choice.Goals as goal
 use Rattle.term_clauses.proofs.choices.state_choice.Goals.{After-signed}
 
--- the log stands in the wider table
+-- the log is in the wider table
 still : (c : After-signed) → IsLogOf c.signed.new.table c.args.log.now
-still c = c.logs_stand_in_grown_tables.ensures.right c.args.table.now c.signed.new.table c.args.log.now c.requires.log c.signed.ensures.wider.terms
+still c = c.logs_hold_in_grown_tables.ensures.right c.args.table.now c.signed.new.table c.args.log.now c.requires.log c.signed.ensures.wider.terms
 
 -- the choice is one there
 there : (c : After-signed) → IsIteTerm c.signed.new.table c.args.id c.in-Some.choice

@@ -1,4 +1,4 @@
--- The formulas are listed, those beside them first, then equalities come.
+-- The formulas are listed, the interface equalities first, then equalities come.
 use Rattle.std.proofs.Common.{◌≡◌, [], ◌++◌, Bool, List, All, sym, ap, ◌∙◌, subst}
 use Rattle.std.proofs.lemmas.List.{map-append}
 use Rattle.std.proofs.lemmas.List.Elements.{All-append}
@@ -28,12 +28,12 @@ pub returns-in_err-marks-clause-wider : goal.returns-in_err-marks-clause-wider
 returns-in_err-marks-clause-wider c = Widens-self c.args.table.now
 
 -- what is listed first
-are_listed : (c : In_ok-extend_from_slice) → c.extend_from_slice.new.self.items ≡ c.args.beside.now ++ c.args.roots.now
+are_listed : (c : In_ok-extend_from_slice) → c.extend_from_slice.new.self.items ≡ c.args.interface.now ++ c.args.roots.now
 are_listed c = c.in_ok-extend_from_slice.ensures.items ∙ ap (λ (ids : List TermId). ids ++ c.args.roots.now) c.in_ok-ids.ensures.items
 
 -- these are formulas
 first_formulas : (c : In_ok-extend_from_slice) → AreFormulasIn c.args.table.now c.extend_from_slice.new.self.items
-first_formulas c = subst (AreFormulasIn c.args.table.now) (sym (are_listed c)) (All-append (IsFormulaIn c.args.table.now) c.args.beside.now c.args.roots.now c.requires.beside c.requires.roots)
+first_formulas c = subst (AreFormulasIn c.args.table.now) (sym (are_listed c)) (All-append (IsFormulaIn c.args.table.now) c.args.interface.now c.args.roots.now c.requires.interface c.requires.roots)
 
 pub marks_of-requires : goal.marks_of-requires
 marks_of-requires c =
@@ -62,17 +62,17 @@ returns-clause-spoken c =
     let u = c.add_branches.new.table in
     let v = c.add_truth_facts.new.table in
     let roots = c.args.roots.now in
-    let beside = c.args.beside.now in
+    let interface = c.args.interface.now in
     let first = c.extend_from_slice.new.self.items in
     let some = c.add_branches.new.ids.items in
     let all = c.add_truth_facts.new.ids.items in
     let marks = c.in_ok-marks.marks.items in
     let us = marked marks t.terms in
     let m = marks_are at.In_ok-marks in
-    let told : clause_at t first ≡ clause_at t beside ++ clause_at t roots = ap (clause_at t) (are_listed at.In_ok-extend_from_slice) ∙ map-append (term_at t) beside roots in
+    let told : clause_at t first ≡ clause_at t interface ++ clause_at t roots = ap (clause_at t) (are_listed at.In_ok-extend_from_slice) ∙ map-append (term_at t) interface roots in
     let branches : HasMore t u first some (flat_marked branch_equalities marks t.terms) =
     subst (λ (ms : List Bool). HasMore t u first some (flat_marked branch_equalities ms t.terms)) c.deref-2.ensures.value c.in_ok-add_branches.ensures.more in
     let more = more_trans t u v first some all (flat_marked branch_equalities marks t.terms) truth_facts branches c.in_ok-add_truth_facts.ensures.more in
-    are_spoken v (clause_at t roots) (clause_at t beside) us all
+    are_spoken v (clause_at t roots) (clause_at t interface) us all
     (subst (λ (ts : List Term). AreAmong (subterms_of ts) us) told m.each) (subst (λ (ts : List Term). AreAmong us (subterms_of ts)) told m.only) more.formulas
     (more.same ∙ ap (λ (ts : List Term). ts ++ (flat_marked branch_equalities marks t.terms ++ truth_facts)) told)

@@ -1,4 +1,4 @@
--- The term in front, as it stands or negated, and the rests of the rule's scheme.
+-- The term in front, as it is or negated, and the rests of the rule's scheme.
 use Rattle.std.proofs.Common.{◌≡◌, true, [], Contains, sym, ap, ◌∙◌, subst}
 use Rattle.std.specs.Prelude.{length}
 use Rattle.std.proofs.lemmas.Result.{on_ok_weaker}
@@ -41,10 +41,10 @@ unreachable-requires c = subst states_nothing c.requires.rule.0 c.in_default.ens
 pub returns-in_err-front-clause-grows : goal.returns-in_err-front-clause-grows
 returns-in_err-front-clause-grows c =
     let wider = c.signed.ensures.wider in
-    Grows-wider [] c.args.table.now c.signed.new.table c.args.log.now wider (c.logs_stand_in_grown_tables.ensures.right c.args.table.now c.signed.new.table c.args.log.now c.requires.log wider.terms)
+    Grows-wider [] c.args.table.now c.signed.new.table c.args.log.now wider (c.logs_hold_in_grown_tables.ensures.right c.args.table.now c.signed.new.table c.args.log.now c.requires.log wider.terms)
 
 pub state_rests-requires-clause-log : goal.state_rests-requires-clause-log
-state_rests-requires-clause-log c = c.logs_stand_in_grown_tables.ensures.right c.args.table.now c.signed.new.table c.args.log.now c.requires.log c.signed.ensures.wider.terms
+state_rests-requires-clause-log c = c.logs_hold_in_grown_tables.ensures.right c.args.table.now c.signed.new.table c.args.log.now c.requires.log c.signed.ensures.wider.terms
 
 pub state_rests-requires-clause-there : goal.state_rests-requires-clause-there
 state_rests-requires-clause-there c =
@@ -94,5 +94,5 @@ returns-clause-tells c =
     ap (λ (w : Term). before front (rests_of s.rest (arguments_of w))) (term_at-kept t u made.wider.terms c.args.id c.requires.there.there)
     ∙ given s term front (formula (goal.at.returns-clause-tells c).In-Some s kind) (sym made.means.1)
     ∙ ap (λ (x : Scheme). clauses_by x term) (sym (same_scheme c.args.rule s kind)) in
-    let still = c.logs_stand_in_grown_tables.ensures.right t u old c.requires.log made.wider.terms in
+    let still = c.logs_hold_in_grown_tables.ensures.right t u old c.requires.log made.wider.terms in
     on_ok_weaker c.state_rests.result (λ tells. Tells-made t u v made.wider old new c.requires.log still steps all clauses (Tells-same u v old new steps all told clauses same tells)) c.state_rests.ensures.tells

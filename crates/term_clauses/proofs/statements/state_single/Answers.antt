@@ -15,10 +15,10 @@ use Rattle.term_clauses.proofs.statements.state_single.Goals as goal
 pub returns-in_err-clause-clause-grows : goal.returns-in_err-clause-clause-grows
 returns-in_err-clause-clause-grows c =
     let wider = c.with_rest.ensures.wider in
-    Grows-wider [] c.args.table.now c.with_rest.new.table c.args.log.now wider (c.logs_stand_in_grown_tables.ensures.right c.args.table.now c.with_rest.new.table c.args.log.now c.requires.log wider.terms)
+    Grows-wider [] c.args.table.now c.with_rest.new.table c.args.log.now wider (c.logs_hold_in_grown_tables.ensures.right c.args.table.now c.with_rest.new.table c.args.log.now c.requires.log wider.terms)
 
 pub state-requires-clause-log : goal.state-requires-clause-log
-state-requires-clause-log c = c.logs_stand_in_grown_tables.ensures.right c.args.table.now c.with_rest.new.table c.args.log.now c.requires.log c.with_rest.ensures.wider.terms
+state-requires-clause-log c = c.logs_hold_in_grown_tables.ensures.right c.args.table.now c.with_rest.new.table c.args.log.now c.requires.log c.with_rest.ensures.wider.terms
 
 pub state-requires-clause-clause : goal.state-requires-clause-clause
 state-requires-clause-clause c =
@@ -37,7 +37,7 @@ returns-clause-grows c =
     let t = c.args.table.now in
     let u = c.with_rest.new.table in
     let wider = c.with_rest.ensures.wider in
-    Grows-made t u u wider c.args.log.now c.state.new.log c.requires.log (c.logs_stand_in_grown_tables.ensures.right t u c.args.log.now c.requires.log wider.terms) c.state.ensures.grows
+    Grows-made t u u wider c.args.log.now c.state.new.log c.requires.log (c.logs_hold_in_grown_tables.ensures.right t u c.args.log.now c.requires.log wider.terms) c.state.ensures.grows
 
 pub returns-clause-tells : goal.returns-clause-tells
 returns-clause-tells c =
@@ -48,7 +48,7 @@ returns-clause-tells c =
     let steps = c.args.steps.now.items in
     let all = c.state.new.steps.items in
     let wider = c.with_rest.ensures.wider in
-    let still = c.logs_stand_in_grown_tables.ensures.right t u old c.requires.log wider.terms in
+    let still = c.logs_hold_in_grown_tables.ensures.right t u old c.requires.log wider.terms in
     let clause = term_at t c.args.front ∷ single c.args.rest (arguments_of (term_at t c.args.id)) in
     let same : clause_at u c.in_ok-clause.clause.items ≡ clause = c.in_ok-clause.ensures.means.1 in
     on_ok_weaker c.state.result (λ tells. Tells-made t u u wider old new c.requires.log still steps all (clause ∷ []) (Tells-same u u old new steps all (clause_at u c.in_ok-clause.clause.items ∷ []) (clause ∷ []) (ap (λ (ls : Clause). ls ∷ []) same) tells)) c.state.ensures.tells

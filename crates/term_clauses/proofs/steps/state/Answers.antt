@@ -1,4 +1,4 @@
--- The step is right, so it stands last, or there is no memory.
+-- The step is right, so it is last, or there is no memory.
 use Rattle.std.proofs.Common.{◌≡◌, [], ◌∷◌, List, sym, subst}
 use Rattle.term_core.specs.declared.ids.TermId.{TermId}
 use Rattle.term_core.specs.Tables.{clause_at}
@@ -9,7 +9,7 @@ use Rattle.term_clauses.proofs.Growing.{Grows-self, Grows-push, Tells-push}
 use Rattle.term_clauses.proofs.steps.state.Goals as goal
 use Rattle.term_clauses.proofs.steps.state.Goals.{In-Ok}
 
--- the step stands last
+-- the step is last
 grows : (c : In-Ok) → Grows [] c.args.table.now c.args.table.now c.args.log.now c.add.new.self
 grows c = Grows-push [] c.args.table.now c.args.log.now c.add.new.self (stepped c.args.rule c.from.result c.from-2.result c.from-3.result) c.in-Ok.ensures.last tt c.in-Ok.ensures.right
 

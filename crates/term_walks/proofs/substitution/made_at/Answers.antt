@@ -1,4 +1,4 @@
--- The filled term stands at the place of the number.
+-- The filled term is at the place of the number.
 use Rattle.std.proofs.Common.{get_or, subst}
 use Rattle.term_walks.specs.FilledTerms.{IsFilled}
 use Rattle.term_walks.proofs.Named.{no_number}

@@ -1,4 +1,4 @@
--- What is known stands at the place of the number.
+-- What is known is at the place of the number.
 use Rattle.std.proofs.Common.{◌<◌, [], length, ap, sym, ◌∙◌, subst}
 use Rattle.spec_sorts.specs.BoundedValues.{bounded_value}
 use Rattle.term_walks.specs.Orders.{number_term}

@@ -4,7 +4,7 @@ use Rattle.spec_commands.specs.Stack.{did, begun, with_definitions, with_asserti
 use Rattle.smt_sexpr.specs.Items.{tree_meant}
 use Rattle.term_reader.specs.Names.{setting_meant}
 use Rattle.sort_check.specs.Reads.{room_meant, store}
-use Rattle.assertion_stack.specs.Stacks.{standing, IsStack}
+use Rattle.assertion_stack.specs.Stacks.{over_table, IsStack}
 use Rattle.assertion_stack.proofs.Stacks.{assert_done, assert_fails, named, one_asserted}
 use Rattle.assertion_stack.proofs.stack.Stack.assert.Goals as goal
 
@@ -21,7 +21,7 @@ returns-in-Ok-add_written-clause-performs c limit s h =
       did next,
       assert_done limit c.args.at s tree (room_meant c.room-room.result) (setting_meant c.in_script.result) room c.in_script.ensures r.reading r.read,
       refl,
-      subst (λ z. IsStack limit (standing t z) next) (sym added)
+      subst (λ z. IsStack limit (over_table t z) next) (sym added)
           (one_asserted limit t y (with_definitions s r.reading.made) tree r.reading.term c.in-Ok.id (named limit c.args.table.now t x s c.term.new.scope r.reading.made h c.in-Ok.ensures.grows.keeps r.stands) r.term),
     )
 

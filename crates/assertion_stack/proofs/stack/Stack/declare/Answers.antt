@@ -9,7 +9,7 @@ use Rattle.smt_sexpr.specs.Items.{tree_meant, trees_meant}
 use Rattle.smt_sexpr.specs.Views.{word_view}
 use Rattle.term_core.specs.Symbols.{HaveSortsIn, sort_meant, sorts_meant, symbol_of}
 use Rattle.term_reader.specs.Names.{located_of}
-use Rattle.assertion_stack.specs.Stacks.{standing, Performs}
+use Rattle.assertion_stack.specs.Stacks.{over_table, Performs}
 use Rattle.assertion_stack.proofs.Stacks.{function_refused, parameters_fail, result_refused, function_declared}
 use Rattle.assertion_stack.proofs.stack.Stack.declare.Goals as goal
 
@@ -46,7 +46,7 @@ returns-in-Ok-sort_in-clause-performs c limit s h =
     let sorts = c.in-Ok-sorts_in.ensures t g h.scope in
     let sort = c.in-Ok-sort_in.ensures t g h.scope in
     let same = ap (λ ps. roomy limit c.args.at [] (begun (with_declaration s (of_function (declared (symbol_of t.sorts name ps c.in-Ok-sort_in.gives)))))) c.as_slice.ensures.value in
-    subst (λ a. Performs limit a (standing c.declare_over.new.table c.declare_over.new.stack) c.declare_over.result)
+    subst (λ a. Performs limit a (over_table c.declare_over.new.table c.declare_over.new.stack) c.declare_over.result)
     (same ∙ sym (function_declared limit c.args.at s (word_view c.args.word) (trees_meant c.args.parameters) (tree_meant c.args.sort) name (sorts_meant t.sorts c.in-Ok-sorts_in.parameters.items) (sort_meant t.sorts c.in-Ok-sort_in.gives) named sorts.1 sort.1))
     (c.declare_over.ensures.performs limit s h free)
 

@@ -10,7 +10,7 @@ use Rattle.smt_sexpr.specs.Items.{tree_meant}
 use Rattle.smt_sexpr.specs.Views.{word_view}
 use Rattle.term_core.specs.Symbols.{sort_meant}
 use Rattle.term_reader.specs.Names.{located_of}
-use Rattle.assertion_stack.specs.Stacks.{standing, Performs}
+use Rattle.assertion_stack.specs.Stacks.{over_table, Performs}
 use Rattle.assertion_stack.proofs.SortLists.{none_left}
 use Rattle.assertion_stack.proofs.Stacks.{function_refused, result_refused, function_declared}
 use Rattle.assertion_stack.proofs.stack.Stack.declare_const.Goals as goal
@@ -33,7 +33,7 @@ returns-in-Ok-sort_in-clause-performs c limit s h =
     let named : new_name script (is_function g) (word_view c.args.word) ≡ Ok name = sym (c.in-Ok.ensures t g h.scope) in
     let free : known_as g name ≡ None = unknown g name (not_taken script (is_function g) (word_view c.args.word) name named) in
     let sort = c.in-Ok-sort_in.ensures t g h.scope in
-    subst (λ a. Performs limit a (standing c.declare_over.new.table c.declare_over.new.stack) c.declare_over.result)
+    subst (λ a. Performs limit a (over_table c.declare_over.new.table c.declare_over.new.stack) c.declare_over.result)
     (sym (function_declared limit c.args.at s (word_view c.args.word) none (tree_meant c.args.sort) name [] (sort_meant t.sorts c.in-Ok-sort_in.gives) named (none_left g) sort.1))
     (c.declare_over.ensures.performs limit s h free)
 

@@ -9,7 +9,7 @@ use Rattle.spec_commands.specs.Stack.{did, begun, with_declaration, signature_of
 use Rattle.smt_sexpr.specs.Views.{word_view}
 use Rattle.term_core.specs.Tables.{Extends}
 use Rattle.term_reader.specs.Names.{located_of}
-use Rattle.assertion_stack.specs.Stacks.{standing, IsStack}
+use Rattle.assertion_stack.specs.Stacks.{over_table, IsStack}
 use Rattle.assertion_stack.proofs.Known.{unknown_sort}
 use Rattle.assertion_stack.proofs.Stacks.{sort_name_refused, sort_declared, no_room, has_place}
 use Rattle.assertion_stack.proofs.Declared.{sort_grows, declared_stack}
@@ -46,7 +46,7 @@ returns-in-Ok-add_sort-clause-performs c limit s h =
       did next,
       sort_declared limit c.args.at s (word_view c.args.word) name named ∙ has_place limit c.args.at s (of_sort name (Declared name)) n h.scope.count fits,
       refl,
-      subst (λ y. IsStack limit y next) (λ i. standing (sym c.in-Ok-add_sort.ensures.declared i) (sym c.in-Ok-add_sort.ensures.named i)) (declared_stack limit t x s name h c.each_name_stands_for_something.ensures.sorts free),
+      subst (λ y. IsStack limit y next) (λ i. over_table (sym c.in-Ok-add_sort.ensures.declared i) (sym c.in-Ok-add_sort.ensures.named i)) (declared_stack limit t x s name h c.each_name_means_something.ensures.sorts free),
     )
 
 pub returns-in-Ok-add_sort-clause-kept : goal.returns-in-Ok-add_sort-clause-kept

@@ -9,7 +9,7 @@ use Rattle.smt_sexpr.specs.Items.{tree_meant}
 use Rattle.smt_sexpr.specs.Views.{word_view}
 use Rattle.term_core.specs.Symbols.{sort_meant}
 use Rattle.term_reader.specs.Names.{located_of}
-use Rattle.assertion_stack.specs.Stacks.{standing, IsStack}
+use Rattle.assertion_stack.specs.Stacks.{over_table, IsStack}
 use Rattle.assertion_stack.proofs.Known.{unknown_sort}
 use Rattle.assertion_stack.proofs.Stacks.{alias_refused, alias_not_sorted, alias_defined, no_room, has_place}
 use Rattle.assertion_stack.proofs.Declared.{alias_stack}
@@ -49,5 +49,5 @@ returns-in-Ok-add_name-clause-performs c limit s h =
       did next,
       alias_defined limit c.args.at s (word_view c.args.word) (tree_meant c.args.sort) name r named sort.1 ∙ has_place limit c.args.at s (of_sort name r) n h.scope.count fits,
       refl,
-      subst (λ z. IsStack limit (standing t z) next) (sym c.in-Ok-add_name.ensures.added) (alias_stack limit t x s name y r h c.each_name_stands_for_something.ensures.sorts free sort.0 refl),
+      subst (λ z. IsStack limit (over_table t z) next) (sym c.in-Ok-add_name.ensures.added) (alias_stack limit t x s name y r h c.each_name_means_something.ensures.sorts free sort.0 refl),
     )

@@ -18,16 +18,16 @@ pub returns-in-Some-clause-kept : goal.returns-in-Some-clause-kept
 returns-in-Some-clause-kept c = kept_by c.begin.new.self c.begin.new.trail c.begin.ensures.work
 
 pub returns-in_err-n-clause-kept : goal.returns-in_err-n-clause-kept
-returns-in_err-n-clause-kept c = kept_by c.settle_all.new.self c.settle_all.new.trail c.settle_all.ensures.work
+returns-in_err-n-clause-kept c = kept_by c.attach_all.new.self c.attach_all.new.trail c.attach_all.ensures.work
 
 pub returns-in_err-n-clause-adds : goal.returns-in_err-n-clause-adds
-returns-in_err-n-clause-adds c = adds_after c.args.self.now c.begin.new.self c.settle_all.new.self c.args.trail.now c.begin.new.trail c.settle_all.new.trail c.begin.ensures.watched c.begin.ensures.advances c.settle_all.ensures.goes
+returns-in_err-n-clause-adds c = adds_after c.args.self.now c.begin.new.self c.attach_all.new.self c.args.trail.now c.begin.new.trail c.attach_all.new.trail c.begin.ensures.watched c.begin.ensures.advances c.attach_all.ensures.goes
 
 pub returns-in-Some-2-clause-kept : goal.returns-in-Some-2-clause-kept
-returns-in-Some-2-clause-kept c = kept_by c.settle_all.new.self c.settle_all.new.trail c.settle_all.ensures.work
+returns-in-Some-2-clause-kept c = kept_by c.attach_all.new.self c.attach_all.new.trail c.attach_all.ensures.work
 
 pub returns-in-Some-2-clause-adds : goal.returns-in-Some-2-clause-adds
-returns-in-Some-2-clause-adds c = adds_after c.args.self.now c.begin.new.self c.settle_all.new.self c.args.trail.now c.begin.new.trail c.settle_all.new.trail c.begin.ensures.watched c.begin.ensures.advances c.settle_all.ensures.goes
+returns-in-Some-2-clause-adds c = adds_after c.args.self.now c.begin.new.self c.attach_all.new.self c.args.trail.now c.begin.new.trail c.attach_all.new.trail c.begin.ensures.watched c.begin.ensures.advances c.attach_all.ensures.goes
 
 pub walk_from-requires-clause-from : goal.walk_from-requires-clause-from
 walk_from-requires-clause-from c =
@@ -40,7 +40,7 @@ walk_from-requires-clause-from c =
           w.from-is ∙ last_read rests (w.len.result - 1) w.index.result.now (omega (arith, w.len.ensures, c.begin.new.self.rests.ok.0)) some w.index.ensures
     ] in
     let within : last_of rests ≤ length c.begin.new.trail.literals = omega (arith, last_within rests c.begin.new.trail.propagated c.begin.ensures.work.rests.within, c.is_sound.ensures.propagated) in
-    let a = c.settle_all.ensures.goes.advances.0 in
+    let a = c.attach_all.ensures.goes.advances.0 in
     omega (arith, from, within, ap length a.literals, length-append c.begin.new.trail.literals a.more)
 
 pub walk_from-requires-clause-rested : goal.walk_from-requires-clause-rested
@@ -54,36 +54,36 @@ walk_from-requires-clause-rested c =
           w.from-is ∙ last_read rests (w.len.result - 1) w.index.result.now (omega (arith, w.len.ensures, c.begin.new.self.rests.ok.0)) some w.index.ensures
     ] in
     let within : last_of rests ≤ length c.begin.new.trail.literals = omega (arith, last_within rests c.begin.new.trail.propagated c.begin.ensures.work.rests.within, c.is_sound.ensures.propagated) in
-    subst (λ (n : ℕ). AreResting c.settle_all.new.self.settled c.settle_all.new.self.watched.pairs.items (take n c.settle_all.new.trail.literals) c.settle_all.new.trail.literals) (sym from)
-    (rested_still c.begin.new.self c.settle_all.new.self c.begin.new.trail c.settle_all.new.trail (last_of rests) within c.settle_all.ensures.goes c.in_default.ensures.ends)
+    subst (λ (n : ℕ). AreResting c.attach_all.new.self.attached c.attach_all.new.self.watched.pairs.items (take n c.attach_all.new.trail.literals) c.attach_all.new.trail.literals) (sym from)
+    (rested_still c.begin.new.self c.attach_all.new.self c.begin.new.trail c.attach_all.new.trail (last_of rests) within c.attach_all.ensures.goes c.in_default.ensures.ends)
 
 pub returns-in_err-n-2-clause-kept : goal.returns-in_err-n-2-clause-kept
 returns-in_err-n-2-clause-kept c = kept_by c.walk_from.new.self c.walk_from.new.trail c.walk_from.ensures.work
 
 pub returns-in_err-n-2-clause-adds : goal.returns-in_err-n-2-clause-adds
 returns-in_err-n-2-clause-adds c = adds_after c.args.self.now c.begin.new.self c.walk_from.new.self c.args.trail.now c.begin.new.trail c.walk_from.new.trail c.begin.ensures.watched c.begin.ensures.advances
-    (works_on c.begin.new.self c.settle_all.new.self c.walk_from.new.self c.begin.new.trail c.settle_all.new.trail c.walk_from.new.trail c.settle_all.ensures.goes c.walk_from.ensures.goes)
+    (works_on c.begin.new.self c.attach_all.new.self c.walk_from.new.self c.begin.new.trail c.attach_all.new.trail c.walk_from.new.trail c.attach_all.ensures.goes c.walk_from.ensures.goes)
 
 pub returns-in-Some-3-clause-kept : goal.returns-in-Some-3-clause-kept
 returns-in-Some-3-clause-kept c = kept_by c.walk_from.new.self c.walk_from.new.trail c.walk_from.ensures.work
 
 pub returns-in-Some-3-clause-adds : goal.returns-in-Some-3-clause-adds
 returns-in-Some-3-clause-adds c = adds_after c.args.self.now c.begin.new.self c.walk_from.new.self c.args.trail.now c.begin.new.trail c.walk_from.new.trail c.begin.ensures.watched c.begin.ensures.advances
-    (works_on c.begin.new.self c.settle_all.new.self c.walk_from.new.self c.begin.new.trail c.settle_all.new.trail c.walk_from.new.trail c.settle_all.ensures.goes c.walk_from.ensures.goes)
+    (works_on c.begin.new.self c.attach_all.new.self c.walk_from.new.self c.begin.new.trail c.attach_all.new.trail c.walk_from.new.trail c.attach_all.ensures.goes c.walk_from.ensures.goes)
 
 pub returns-in_err-finish-clause-adds : goal.returns-in_err-finish-clause-adds
 returns-in_err-finish-clause-adds c = adds_marked (bare c.args.self.now.watched.entries.items) c.args.trail.now c.walk_from.new.trail c.finish.new.trail
     (adds_after c.args.self.now c.begin.new.self c.walk_from.new.self c.args.trail.now c.begin.new.trail c.walk_from.new.trail c.begin.ensures.watched c.begin.ensures.advances
-    (works_on c.begin.new.self c.settle_all.new.self c.walk_from.new.self c.begin.new.trail c.settle_all.new.trail c.walk_from.new.trail c.settle_all.ensures.goes c.walk_from.ensures.goes)) c.finish.ensures.same
+    (works_on c.begin.new.self c.attach_all.new.self c.walk_from.new.self c.begin.new.trail c.attach_all.new.trail c.walk_from.new.trail c.attach_all.ensures.goes c.walk_from.ensures.goes)) c.finish.ensures.same
 
 pub returns-clause-adds : goal.returns-clause-adds
 returns-clause-adds c = adds_marked (bare c.args.self.now.watched.entries.items) c.args.trail.now c.walk_from.new.trail c.finish.new.trail
     (adds_after c.args.self.now c.begin.new.self c.walk_from.new.self c.args.trail.now c.begin.new.trail c.walk_from.new.trail c.begin.ensures.watched c.begin.ensures.advances
-    (works_on c.begin.new.self c.settle_all.new.self c.walk_from.new.self c.begin.new.trail c.settle_all.new.trail c.walk_from.new.trail c.settle_all.ensures.goes c.walk_from.ensures.goes)) c.finish.ensures.same
+    (works_on c.begin.new.self c.attach_all.new.self c.walk_from.new.self c.begin.new.trail c.attach_all.new.trail c.walk_from.new.trail c.attach_all.ensures.goes c.walk_from.ensures.goes)) c.finish.ensures.same
 
 pub returns-clause-ends : goal.returns-clause-ends
 returns-clause-ends c =
-    let es : c.walk_from.new.self.watched.entries.items ≡ c.args.self.now.watched.entries.items = c.walk_from.ensures.goes.entries ∙ c.settle_all.ensures.goes.entries ∙ ap (λ (w : Watched). w.entries.items) c.begin.ensures.watched in
+    let es : c.walk_from.new.self.watched.entries.items ≡ c.args.self.now.watched.entries.items = c.walk_from.ensures.goes.entries ∙ c.attach_all.ensures.goes.entries ∙ ap (λ (w : Watched). w.entries.items) c.begin.ensures.watched in
     subst (λ (xs : List StoredClause). IsPropagated (clauses_of xs) c.finish.new.trail.literals) es
     (subst (IsPropagated (clauses_of c.walk_from.new.self.watched.entries.items)) (sym c.finish.ensures.same.same.literals)
     (quiet_by c.walk_from.new.self c.walk_from.new.trail c.walk_from.ensures.work c.walk_from.ensures.all (rw c.in_default-3.is at c.in_ok-n-2.ensures.ends)))

@@ -7,10 +7,10 @@ use Rattle.clause_store.proofs.parts.StoreParts.walk_from.Given as goal
 abbrev pub invariant-literals : goal.invariant-literals
 invariant-literals l = record {
   work : IsAtWork l.self l.trail;
-  all : l.self.settled ≡ length l.self.watched.entries.items;
+  all : l.self.attached ≡ length l.self.watched.entries.items;
   there : l.done ≤ length l.trail.literals;
   goes : WorksOn l.fn.self l.self l.fn.trail l.trail;
-  rested : AreResting l.self.settled l.self.watched.pairs.items (take l.done l.trail.literals) l.trail.literals;
+  rested : AreResting l.self.attached l.self.watched.pairs.items (take l.done l.trail.literals) l.trail.literals;
 }
 
 abbrev pub decreases-literals : goal.decreases-literals

@@ -1,5 +1,5 @@
 -- The parts fit together with a clause more.
-use Rattle.clause_store.proofs.Entering.{settled_with, rested_with, settled_before, rested_before}
+use Rattle.clause_store.proofs.Entering.{attached_with, rested_with, attached_before, rested_before}
 use Rattle.clause_store.proofs.store.ClauseStore.add.Goals as goal
 use Rattle.clause_store.proofs.store.ClauseStore.add.Goals.{in-Ok, in-Err}
 
@@ -9,12 +9,12 @@ invariant_of-self c =
     let kept = c.self.invariant in
     record {
       watched = c.add.ensures.watched;
-      settled = elim c.match-add.branch [
-        | in-Ok w ↦ settled_with p.watched c.add.new.self _ kept.watched w.in-Ok.ensures.ok p.settled p.short.items kept.settled
-        | in-Err w ↦ settled_before p.watched c.add.new.self p.settled p.short.items w.in-Err.ensures.err kept.settled
+      attached = elim c.match-add.branch [
+        | in-Ok w ↦ attached_with p.watched c.add.new.self _ kept.watched w.in-Ok.ensures.ok p.attached p.short.items kept.attached
+        | in-Err w ↦ attached_before p.watched c.add.new.self p.attached p.short.items w.in-Err.ensures.err kept.attached
       ];
       rests = elim c.match-add.branch [
-        | in-Ok w ↦ rested_with p.watched c.add.new.self _ kept.watched w.in-Ok.ensures.ok p.settled p.short.items kept.settled p.rests.items _ p.seen.items kept.rests
-        | in-Err w ↦ rested_before p.watched c.add.new.self p.rests.items p.settled _ p.seen.items w.in-Err.ensures.err kept.rests
+        | in-Ok w ↦ rested_with p.watched c.add.new.self _ kept.watched w.in-Ok.ensures.ok p.attached p.short.items kept.attached p.rests.items _ p.seen.items kept.rests
+        | in-Err w ↦ rested_before p.watched c.add.new.self p.rests.items p.attached _ p.seen.items w.in-Err.ensures.err kept.rests
       ];
     }

@@ -1,4 +1,4 @@
--- What stands before the place has passed.
+-- What is before the place has passed.
 use Rattle.std.proofs.Common.{◌≡◌, ◌-◌, length, Contains}
 use Rattle.clause_literals.specs.Literals.{lit_complement}
 use Rattle.watch_index.specs.Indexes.{list_of}

@@ -61,7 +61,7 @@ returns-in-Fine-clause-stops c =
     let nothing = c.in_ok-step.ensures.nothing_came (ap Ok c.in-Fine.is) in
     let view : s.theory ≡ theory_of c.args.self.now.congruence = sym c.self.invariant ∙ ap (λ (x : CombinedView). theory_of x.congruence) c.self.view_is in
     let w = c.check-in-Fine.new.table in
-    subst (λ (ts : List Term). IfErr c.check-in-Fine.result (StopsBy (of_simplex.ghosts.strains u w ts) (AreSpent (of_simplex.ghosts.needs_more u w ts) c.check-in-Fine.new.budget)))
+    subst (λ (ts : List Term). IfErr c.check-in-Fine.result (StopsBy (of_simplex.ghosts.may_overflow u w ts) (AreSpent (of_simplex.ghosts.needs_more u w ts) c.check-in-Fine.new.budget)))
     (λ i. terms_watched (nothing.0 i) (view i)) c.check-in-Fine.ensures.stops
 
 pub returns-in-Clash-clause-came : goal.returns-in-Clash-clause-came

@@ -9,7 +9,7 @@ use Rattle.proof_log.specs.Theories.{TheoryView, with_watched, with_mark, gone_b
 use Rattle.congruence.specs.Views.{theory_of}
 use Rattle.held_literals.specs.Room.{without_mark}
 use Rattle.simplex.specs.Checks.{Suits}
-use Rattle.simplex.specs.Coming.{CameBy, StoppedBy, IsStrainAt}
+use Rattle.simplex.specs.Coming.{CameBy, StoppedBy, IsOverflowAt}
 use Rattle.simplex.proofs.Suiting.{suits_same}
 use Rattle.simplex.proofs.Coming.{came_marked, came_onward, stopped_same}
 use Rattle.combined.specs.Views.{CombinedView}
@@ -22,21 +22,21 @@ returns-in-Err-clause-stops c =
     let t = c.args.table.now in
     let u = theory_of c.args.self.now.congruence in
     let view : c.mark.new.self.theory ≡ with_mark u = c.in_ok-mark.ensures.marks ∙ ap with_mark (sym c.self.invariant ∙ ap (λ (x : CombinedView). theory_of x.congruence) c.self.view_is) in
-    same_stop t (terms_watched t (with_watched u c.args.id)) c.watch_term.new.self c.forget_mark.new.self c.in-Err.stop c.forget_mark.ensures.atoms c.forget_mark.ensures.board
-    (subst (λ (x : TheoryView). StopsBy (λ e. IsStrainAt t (terms_watched t (with_watched x c.args.id)) e c.watch_term.new.self) (λ _. ⊥) c.in-Err.stop) view c.in-Err.ensures.stops)
+    same_stop t (terms_watched t (with_watched u c.args.id)) c.watch_term.new.self c.forget_mark.new.self c.in-Err.stop c.forget_mark.ensures.atoms c.forget_mark.ensures.assignment
+    (subst (λ (x : TheoryView). StopsBy (λ e. IsOverflowAt t (terms_watched t (with_watched x c.args.id)) e c.watch_term.new.self) (λ _. ⊥) c.in-Err.stop) view c.in-Err.ensures.stops)
 
 pub returns-in-Err-clause-came : goal.returns-in-Err-clause-came
 returns-in-Err-clause-came c ts n es there came =
     let t = c.args.table.now in
     let s = c.self.inside.simplex in
     let marked : CameBy t ts n es c.mark.new.self =
-    came_marked t ts n es s c.mark.new.self (subst (λ (v : CombinedView). CameBy t ts n es v.simplex) (sym c.self.view_is) came) c.mark.result c.mark.ensures.atoms c.mark.ensures.board c.mark.ensures.bounds c.mark.ensures.marks in
+    came_marked t ts n es s c.mark.new.self (subst (λ (v : CombinedView). CameBy t ts n es v.simplex) (sym c.self.view_is) came) c.mark.result c.mark.ensures.atoms c.mark.ensures.assignment c.mark.ensures.bounds c.mark.ensures.marks in
     let w = c.watch_term.new.self in
     let u = c.forget_mark.new.self in
     let m = counted (term_at t c.args.id) n in
     came_onward (Err c.in-Err.stop) (λ _. CameBy t ts m es w) (λ _. CameBy t ts m es u) (StoppedBy t ts n es w) (StoppedBy t ts n es u) (Unit {0}) (Unit {0})
-    (λ x on. unmarked_came t ts m es w u on c.forget_mark.ensures.atoms c.forget_mark.ensures.board c.forget_mark.ensures.bounds c.forget_mark.ensures.forgets)
-    (stopped_same t ts n es w u c.forget_mark.ensures.atoms c.forget_mark.ensures.board) (λ x. x)
+    (λ x on. unmarked_came t ts m es w u on c.forget_mark.ensures.atoms c.forget_mark.ensures.assignment c.forget_mark.ensures.bounds c.forget_mark.ensures.forgets)
+    (stopped_same t ts n es w u c.forget_mark.ensures.atoms c.forget_mark.ensures.assignment) (λ x. x)
     (c.in-Err.ensures.came ts n es there marked)
 
 pub returns-in-Err-watch_term-clause-came : goal.returns-in-Err-watch_term-clause-came
@@ -51,10 +51,10 @@ returns-clause-came c ts n es there came =
     let t = c.args.table.now in
     let s = c.self.inside.simplex in
     let marked : CameBy t ts n es c.mark.new.self =
-    came_marked t ts n es s c.mark.new.self (subst (λ (v : CombinedView). CameBy t ts n es v.simplex) (sym c.self.view_is) came) c.mark.result c.mark.ensures.atoms c.mark.ensures.board c.mark.ensures.bounds c.mark.ensures.marks in
+    came_marked t ts n es s c.mark.new.self (subst (λ (v : CombinedView). CameBy t ts n es v.simplex) (sym c.self.view_is) came) c.mark.result c.mark.ensures.atoms c.mark.ensures.assignment c.mark.ensures.bounds c.mark.ensures.marks in
     let m = counted (term_at t c.args.id) n in
     let f = c.forget_mark-2.ensures in
-    unmarked_came t ts m es c.watch_term.new.self c.forget_mark-2.new.self (c.in_default.ensures.came ts n es there marked) f.atoms f.board f.bounds f.forgets
+    unmarked_came t ts m es c.watch_term.new.self c.forget_mark-2.new.self (c.in_default.ensures.came ts n es there marked) f.atoms f.assignment f.bounds f.forgets
 
 pub returns-in-Err-watch_term-clause-with : goal.returns-in-Err-watch_term-clause-with
 returns-in-Err-watch_term-clause-with c =

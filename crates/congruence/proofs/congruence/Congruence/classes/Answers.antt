@@ -14,11 +14,11 @@ use Rattle.congruence.proofs.Terms.{watched_are_listed}
 use Rattle.congruence.proofs.congruence.Congruence.classes.Goals as goal
 
 pub returns-clause-exact : goal.returns-clause-exact
-returns-clause-exact c t different declared of_table there settled =
+returns-clause-exact c t different declared of_table there saturated =
     let v = c.args.self.now in
     let terms = c.args.terms.now in
     let by_numbers : Vec ℕ Global → Type 0 = λ x. TellClasses (IsCongruentIn v.now.facts) terms x.items in
-    let exact : IfOk c.classes.result by_numbers = subst (λ (w : ClosureView). w.now.settled ≡ true → IfOk c.classes.result (λ x. TellClasses (IsCongruentIn w.now.facts) terms x.items)) c.self.view_is c.classes.ensures.exact settled in
+    let exact : IfOk c.classes.result by_numbers = subst (λ (w : ClosureView). w.now.saturated ≡ true → IfOk c.classes.result (λ x. TellClasses (IsCongruentIn w.now.facts) terms x.items)) c.self.view_is c.classes.ensures.exact saturated in
     IfOk-weaker c.classes.result by_numbers (λ x. TellClasses (AreEqualBy t (theory_of v)) terms x.items) (λ x tell i j i_low j_low.
     let a = get_or terms i no_term_id in
     let b = get_or terms j no_term_id in

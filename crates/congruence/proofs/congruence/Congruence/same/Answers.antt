@@ -16,10 +16,10 @@ returns-clause-sound c t different declared of_table a_there b_there same =
     (subst (λ (w : ClosureView). IsCongruentIn w.now.facts c.args.a c.args.b) c.self.view_is (c.same.ensures.sound same)))
 
 pub returns-clause-exact : goal.returns-clause-exact
-returns-clause-exact c t different declared of_table a_there b_there settled =
+returns-clause-exact c t different declared of_table a_there b_there saturated =
     let v = c.args.self.now in
     let agree = c.numbers_and_terms_agree.ensures t v.now.facts different declared of_table c.args.a c.args.b a_there b_there in
-    let exact : (c.same.result ≡ true) ↔ IsCongruentIn v.now.facts c.args.a c.args.b = subst (λ (w : ClosureView). w.now.settled ≡ true → (c.same.result ≡ true) ↔ IsCongruentIn w.now.facts c.args.a c.args.b) c.self.view_is c.same.ensures.exact settled in (
+    let exact : (c.same.result ≡ true) ↔ IsCongruentIn v.now.facts c.args.a c.args.b = subst (λ (w : ClosureView). w.now.saturated ≡ true → (c.same.result ≡ true) ↔ IsCongruentIn w.now.facts c.args.a c.args.b) c.self.view_is c.same.ensures.exact saturated in (
       returns-clause-sound c t different declared of_table a_there b_there,
       λ equal. exact.1 (agree.1 (subst (λ (ts : List Term). AreEqual ts (map (literal_at t) v.now.facts.held) (term_at t c.args.a) (term_at t c.args.b)) (watched_are_listed t v) equal)),
     )

@@ -8,7 +8,7 @@ use Rattle.congruence_closure.specs.Closure.{ClosureView, TellClasses}
 use Rattle.congruence_closure.specs.Listed.{no_term_id}
 use Rattle.congruence_closure.specs.Whole.{closure_of}
 use Rattle.congruence_closure.specs.State.{class_number}
-use Rattle.congruence_closure.proofs.Settled.{settled_closed}
+use Rattle.congruence_closure.proofs.SaturatedClosure.{saturated_closed}
 use Rattle.congruence_closure.proofs.Numbering.{numbers_sound, numbers_exact}
 use Rattle.congruence_closure.proofs.closure.Closure.classes.Goals as goal
 
@@ -23,12 +23,12 @@ returns-clause-sound c =
     (IfOk-weaker c.classes.result are (sound (closure_of c.self.inside)) (λ v is. numbers_sound s.facts s.numbers s.edges kept.joint kept.reasons terms v.items is) c.classes.ensures)
 
 pub returns-clause-exact : goal.returns-clause-exact
-returns-clause-exact c settled =
+returns-clause-exact c saturated =
     let terms = c.args.terms.now in
     let s = c.self.inside.parts.now in
     let kept = c.are_kept.ensures.kept in
-    let done = c.self.invariant.done (ap (λ (w : ClosureView). w.now.settled) c.self.view_is ∙ settled) in
+    let done = c.self.invariant.done (ap (λ (w : ClosureView). w.now.saturated) c.self.view_is ∙ saturated) in
     let are : Vec ℕ Global → Type 0 = λ v. v.items ≡ map (class_number s.numbers) terms in
     let exact : ClosureView → Vec ℕ Global → Type 0 = λ w v. TellClasses (IsCongruentIn w.now.facts) terms v.items in
     subst (λ (w : ClosureView). IfOk c.classes.result (exact w)) c.self.view_is
-    (IfOk-weaker c.classes.result are (exact (closure_of c.self.inside)) (λ v is. numbers_exact s.facts s.numbers s.edges kept.joint kept.reasons terms v.items is (settled_closed s kept done)) c.classes.ensures)
+    (IfOk-weaker c.classes.result are (exact (closure_of c.self.inside)) (λ v is. numbers_exact s.facts s.numbers s.edges kept.joint kept.reasons terms v.items is (saturated_closed s kept done)) c.classes.ensures)

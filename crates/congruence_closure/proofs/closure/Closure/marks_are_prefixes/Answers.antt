@@ -7,4 +7,4 @@ use Rattle.congruence_closure.proofs.closure.Closure.marks_are_prefixes.Goals as
 
 pub returns : goal.returns
 returns c = subst (λ (v : ClosureView). (k : ℕ) → k < length v.marks → ArePrefix (get_or v.marks k v.now).facts v.now.facts) c.self.view_is
-    (front_marked c.self.inside.parts.now.facts (record { facts = c.self.inside.parts.now.facts; settled = c.self.inside.settled }) c.self.inside.marks.items)
+    (front_marked c.self.inside.parts.now.facts (record { facts = c.self.inside.parts.now.facts; saturated = c.self.inside.saturated }) c.self.inside.marks.items)

@@ -1,4 +1,4 @@
--- The edges stand in the list by their numbers.
+-- The edges are in the list by their numbers.
 use Rattle.std.proofs.Common.{length, subst, ap, sym, ◌∙◌, ◌<◌}
 use Rattle.std.proofs.lemmas.List.{length-reverse, get_or_default}
 use Rattle.explain_forest.specs.Forest.{no_edge, numbered}

@@ -1,4 +1,4 @@
--- What is assumed stands last, and the log stays right.
+-- What is assumed is last, and the log stays right.
 use Rattle.std.proofs.Common.{◌≡◌, [], ◌∷◌, ◌++◌, sym, ap, ◌∙◌, subst}
 use Rattle.std.proofs.lemmas.List.{map-append}
 use Rattle.proof_log.specs.Logs.{assumed, IsLogOf}

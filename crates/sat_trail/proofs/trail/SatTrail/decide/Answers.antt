@@ -1,4 +1,4 @@
--- That there is room for the literal and its level, and what stands by its variable.
+-- That there is room for the literal and its level, and what is by its variable.
 use Rattle.std.proofs.Common.{rules, arith, ◌≡◌, ◌∙◌, ◌<◌, ◌+◌, ◌++◌, ◌∷◌, [], None, Some, length, refl, ap, subst, sym}
 use Rattle.std.proofs.lemmas.List.{length_push}
 use Rattle.sat_trail.specs.Trails.{TrailView, IsUnassigned, IsPushed}

@@ -1,4 +1,4 @@
--- That there is room for the literal, and what stands by its variable.
+-- That there is room for the literal, and what is by its variable.
 use Rattle.std.proofs.Common.{rules, arith, ◌≡◌, ◌<◌, Some, length, refl, subst, sym}
 use Rattle.sat_trail.specs.Trails.{TrailView, IsUnassigned, IsPushed}
 use Rattle.std.specs.Vec.{with_item}

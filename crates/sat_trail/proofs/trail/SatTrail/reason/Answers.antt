@@ -1,4 +1,4 @@
--- That a literal of a place has a variable, and its reason stands there.
+-- That a literal of a place has a variable, and its reason is there.
 use Rattle.std.proofs.Common.{arith, ◌∙◌, ◌<◌, length, get_or, None, subst, sym, ap}
 use Rattle.std.proofs.lemmas.List.{get_or_default}
 use Rattle.sat_trail.specs.Trails.{TrailView}

@@ -19,7 +19,7 @@ pub returns-clause-right : goal.returns-clause-right
 returns-clause-right c =
     let x = c.args.self.now in
     subst (IsLogOf c.learn.new.table) (sym (log_back x.log c.learn.new.log (stepped Resolution c.in_ok-learn.ensures.learned.logged.premises [] c.in_ok-learn.ensures.learned.logged.terms) c.len-len.result c.in_ok-learn.ensures.learned.logged.last c.len-len.ensures c.cut.new.self c.cut.ensures.clauses))
-    (c.logs_stand_in_grown_tables.ensures.right c.args.table.now c.learn.new.table x.log c.requires.ready.right c.learn.ensures.grown)
+    (c.logs_hold_in_grown_tables.ensures.right c.args.table.now c.learn.new.table x.log c.requires.ready.right c.learn.ensures.grown)
 
 pub returns-clause-shows : goal.returns-clause-shows
 returns-clause-shows c n full carries =
@@ -27,8 +27,8 @@ returns-clause-shows c n full carries =
     let u = c.learn.new.table in
     let x = c.args.self.now in
     let l = c.in_ok-learn.ensures.learned in
-    let kept = c.logs_stand_in_grown_tables.ensures.right t u x.log c.requires.ready.right c.learn.ensures.grown in
+    let kept = c.logs_hold_in_grown_tables.ensures.right t u x.log c.requires.ready.right c.learn.ensures.grown in
     let back = log_back x.log c.learn.new.log (stepped Resolution l.logged.premises [] l.logged.terms) c.len-len.result l.logged.last c.len-len.ensures c.cut.new.self c.cut.ensures.clauses in
     subst (λ (log : List Logged). ShowsAnswer t u x (record x { log = log }) (Unknown (Conflicts n))) (sym back)
     (forgone_shows t u c.learn.ensures.grown c.ids_are_unique.ensures c.learn.ensures.declared x c.requires.ready c.is_sound.ensures.once c.is_sound.ensures.leveled c.is_sound.ensures.consistent
-    (c.logs_stand_in_grown_tables.ensures.same t u x.log c.requires.ready.right c.learn.ensures.grown) c.args.clash c.learn.new.log c.in_ok-learn.field-0 l kept n full carries)
+    (c.logs_hold_in_grown_tables.ensures.same t u x.log c.requires.ready.right c.learn.ensures.grown) c.args.clash c.learn.new.log c.in_ok-learn.field-0 l kept n full carries)

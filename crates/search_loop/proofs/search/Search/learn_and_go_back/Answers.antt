@@ -92,7 +92,7 @@ returns-clause-learned g c =
         vars = cut.vars;
         terms = refl;
         search = search_learned t u c.learn.ensures.grown c.ids_are_unique.ensures c.ids_are_unique-2.ensures c.learn.ensures.declared x y r once leveled c.is_sound.ensures.consistent
-            (c.logs_stand_in_grown_tables.ensures.same t u x.log r.right c.learn.ensures.grown) c.args.clash d l noted added refl;
+            (c.logs_hold_in_grown_tables.ensures.same t u x.log r.right c.learn.ensures.grown) c.args.clash d l noted added refl;
       };
       learned = ap (λ (b : BudgetView). length b.learned) noted ∙ length-append x.budget.learned (d.clause ∷ []);
     }

@@ -88,7 +88,7 @@ returns-clause-looks g c =
     let checks = subst (λ (z : TheoryView). Checks (agrees (terms_watched t z) (literals_held t z)) (refuses (terms_watched t z) (literals_held t z)) z (record { table = t; log = x.log }) (Ok c.in_ok-verdict.verdict) (record { table = u; log = log }))
     c.feed.ensures.holds c.in_ok-verdict.ensures.checks in
     looks t x r v c.requires.asked c.is_sound.ensures.leveled.levels_paired s w p.same p.seen implied p.adds u log c.check.new.budget c.check.ensures.budget
-    (λ grown. c.logs_stand_in_grown_tables.ensures.same t u x.log r.right grown) agrees (refuses (terms_watched t (fed v w.literals)) (literals_held t (fed v w.literals))) ends c.len-self.result c.len-self.ensures
+    (λ grown. c.logs_hold_in_grown_tables.ensures.same t u x.log r.right grown) agrees (refuses (terms_watched t (fed v w.literals)) (literals_held t (fed v w.literals))) ends c.len-self.result c.len-self.ensures
     (g.T.Theory.view c.check.new.self) (c.check.ensures.same ∙ c.feed.ensures.holds) c.in_ok-verdict.verdict checks
 
 pub returns-in_err-verdict-clause-grown : goal.returns-in_err-verdict-clause-grown
@@ -155,9 +155,9 @@ pub returns-in_err-verdict-clause-stops : goal.returns-in_err-verdict-clause-sto
 returns-in_err-verdict-clause-stops g c =
     let b = c.check.new.budget in
     let w = c.check.new.table in
-    let strains : List Term → Strain → Type 0 = g.T.Theory.strains c.check.new.self w in
+    let may_overflow : List Term → Strain → Type 0 = g.T.Theory.may_overflow c.check.new.self w in
     let needs_more : List Term → Type 0 = g.T.Theory.needs_more c.check.new.self w in
-    let shown : TableView → TheoryView → Stop → Type 0 = λ u v stop. StopsBy (strains (terms_watched u v)) (AreSpent (needs_more (terms_watched u v)) b) stop in
+    let shown : TableView → TheoryView → Stop → Type 0 = λ u v stop. StopsBy (may_overflow (terms_watched u v)) (AreSpent (needs_more (terms_watched u v)) b) stop in
     let stop = c.in_err-verdict.field-0.0 in
     handed_on (shown c.check.new.table (g.T.Theory.view c.check.new.self)) c.from_residual-in_err-verdict.result stop c.from_residual-in_err-verdict.ensures.1
     (subst (λ (v : TheoryView). shown c.check.new.table v stop) (sym c.check.ensures.same)

@@ -9,8 +9,8 @@ use Rattle.term_core.specs.declared.ids.TermId.{TermId}
 use Rattle.term_core.specs.declared.ids.Lit.{Lit}
 use Rattle.proof_log.specs.Theories.{TheoryView, terms_watched, paid_after}
 use Rattle.search_loop.specs.declared.cdcl.End.{End}
-use Rattle.search_loop.specs.declared.cdcl.End.TheVariants.{Rests}
-use Rattle.search_loop.specs.Asking.{KeepsUp, HasStopped, OnStop, state, Settles}
+use Rattle.search_loop.specs.declared.cdcl.End.TheVariants.{Saturated}
+use Rattle.search_loop.specs.Asking.{KeepsUp, HasStopped, OnStop, state, ResolvesConflict}
 use Rattle.search_loop.specs.Paying.{counted_held, atoms_of, most, IsPaid}
 use Rattle.search_loop.proofs.SearchPays.{paid_begun, paid_more, paid_learned, paid_most, atoms_stay, held_stay, held_among}
 use Rattle.search_loop.proofs.SearchSpends.{handed_on, came_handed_on, on_stop_weaker}
@@ -108,10 +108,10 @@ rounds-smaller-in-Fine g c =
     rw b (less_assigned (x.budget.limit - length x.budget.learned) x.trail.vars w.vars (length x.trail.literals) (length w.literals) (pushed.vars ∙ l.continues.vars) more c.is_sound-in-Fine.ensures.within)
 
 pub returns-in_err-end-in-Clash-clause-grown : goal.returns-in_err-end-in-Clash-clause-grown
-returns-in_err-end-in-Clash-clause-grown g c = Extends-trans c.args.table.now c.look.new.table c.settle.new.table (Extends-trans c.args.table.now c.rounds.table c.look.new.table c.rounds.invariant.continues.table c.look.ensures.grown) c.settle.ensures.grown
+returns-in_err-end-in-Clash-clause-grown g c = Extends-trans c.args.table.now c.look.new.table c.resolve_conflict.new.table (Extends-trans c.args.table.now c.rounds.table c.look.new.table c.rounds.invariant.continues.table c.look.ensures.grown) c.resolve_conflict.ensures.grown
 
 pub returns-in-Some-2-clause-grown : goal.returns-in-Some-2-clause-grown
-returns-in-Some-2-clause-grown g c = Extends-trans c.args.table.now c.look.new.table c.settle.new.table (Extends-trans c.args.table.now c.rounds.table c.look.new.table c.rounds.invariant.continues.table c.look.ensures.grown) c.settle.ensures.grown
+returns-in-Some-2-clause-grown g c = Extends-trans c.args.table.now c.look.new.table c.resolve_conflict.new.table (Extends-trans c.args.table.now c.rounds.table c.look.new.table c.rounds.invariant.continues.table c.look.ensures.grown) c.resolve_conflict.ensures.grown
 
 pub returns-in-Some-2-clause-ends : goal.returns-in-Some-2-clause-ends
 returns-in-Some-2-clause-ends g c =
@@ -120,7 +120,7 @@ returns-in-Some-2-clause-ends g c =
     let y = c.look.new.self in
     let looks = rw c.in-Clash.is at c.in_ok-look.ensures.looks in
     let on = continues_on t c.rounds.table u c.args.self.now c.rounds.self y c.rounds.invariant.continues looks.0.continues in
-    ends_on t u c.settle.new.table c.args.self.now y c.settle.new.self (g.T.Theory.view c.settle.new.theory) _ c.in-Some-2.end on (rw c.in-Some-2.is at c.in_ok-end-in-Clash.ensures.settles)
+    ends_on t u c.resolve_conflict.new.table c.args.self.now y c.resolve_conflict.new.self (g.T.Theory.view c.resolve_conflict.new.theory) _ c.in-Some-2.end on (rw c.in-Some-2.is at c.in_ok-end-in-Clash.ensures.resolves_conflict)
 
 pub rounds-preserved : goal.rounds-preserved
 rounds-preserved g c =
@@ -128,37 +128,37 @@ rounds-preserved g c =
     let u = c.look.new.table in
     let y = c.look.new.self in
     let looks = rw c.in-Clash.is at c.in_ok-look.ensures.looks in
-    let settles = rw c.in_default-2.is at c.in_ok-end-in-Clash.ensures.settles in
+    let resolves_conflict = rw c.in_default-2.is at c.in_ok-end-in-Clash.ensures.resolves_conflict in
     record {
-      ready = settles.0.ready;
-      asked = settles.1;
+      ready = resolves_conflict.0.ready;
+      asked = resolves_conflict.1;
       with = c.in_ok-end-in-Clash.ensures.with;
       came = λ ts h.
           let n = c.rounds.invariant.came ts h in
           let m = rw c.in-Clash.is at (c.in_ok-look.ensures.came ts n.0 n.2) in
           let k = m.3 in (
             k.0,
-            paid_learned (atoms_of t c.args.self.now) (length c.rounds.self.budget.learned) (length c.settle.new.self.budget.learned)
+            paid_learned (atoms_of t c.args.self.now) (length c.rounds.self.budget.learned) (length c.resolve_conflict.new.self.budget.learned)
                 (counted_held c.rounds.table (g.T.Theory.view c.rounds.theory).held) (counted_held c.rounds.table (g.T.Theory.view c.look.new.theory).held)
-                (counted_held c.settle.new.table (g.T.Theory.view c.settle.new.theory).held) n.0 m.0 k.0 n.1 m.1 (subst (λ a. counted_held c.rounds.table (g.T.Theory.view c.look.new.theory).held ≤ a) (atoms_stay t c.args.self.now c.requires.ready c.rounds.table c.rounds.invariant.continues.table c.rounds.self c.rounds.invariant.continues.terms) m.2) k.1
-                (settles.0.learned ∙ ap (λ (xs : List (List Lit)). length xs + 1) c.look.ensures.learned),
+                (counted_held c.resolve_conflict.new.table (g.T.Theory.view c.resolve_conflict.new.theory).held) n.0 m.0 k.0 n.1 m.1 (subst (λ a. counted_held c.rounds.table (g.T.Theory.view c.look.new.theory).held ≤ a) (atoms_stay t c.args.self.now c.requires.ready c.rounds.table c.rounds.invariant.continues.table c.rounds.self c.rounds.invariant.continues.terms) m.2) k.1
+                (resolves_conflict.0.learned ∙ ap (λ (xs : List (List Lit)). length xs + 1) c.look.ensures.learned),
             c.in_ok-end-in-Clash.ensures.came ts k.0 k.2,
           );
-      continues = continues_on t u c.settle.new.table c.args.self.now y c.settle.new.self (continues_on t c.rounds.table u c.args.self.now c.rounds.self y c.rounds.invariant.continues looks.0.continues) settles.0.continues;
+      continues = continues_on t u c.resolve_conflict.new.table c.args.self.now y c.resolve_conflict.new.self (continues_on t c.rounds.table u c.args.self.now c.rounds.self y c.rounds.invariant.continues looks.0.continues) resolves_conflict.0.continues;
     }
 
 pub rounds-smaller : goal.rounds-smaller
 rounds-smaller g c =
     let x = c.rounds.self in
     let y = c.look.new.self in
-    let z = c.settle.new.self in
+    let z = c.resolve_conflict.new.self in
     let looks = rw c.in-Clash.is at c.in_ok-look.ensures.looks in
-    let settles = rw c.in_default-2.is at c.in_ok-end-in-Clash.ensures.settles in
-    let l = settles.0 in
+    let resolves_conflict = rw c.in_default-2.is at c.in_ok-end-in-Clash.ensures.resolves_conflict in
+    let l = resolves_conflict.0 in
     let size : z.trail.vars ≡ x.trail.vars = l.continues.vars ∙ looks.0.continues.vars in
     let b = looks.0.budget.1 in
     less_learned x.budget.limit z.budget.limit x.trail.vars z.trail.vars (length x.budget.learned) (length z.budget.learned) (x.trail.vars - length x.trail.literals) (z.trail.vars - length z.trail.literals)
-    (l.continues.limits.0 ∙ looks.0.continues.limits.0) size (subst (λ (y : BudgetView). length y.learned < y.limit) b settles.2) (l.learned ∙ ap (λ (y : BudgetView). length y.learned + 1) b) (omega (arith, size))
+    (l.continues.limits.0 ∙ looks.0.continues.limits.0) size (subst (λ (y : BudgetView). length y.learned < y.limit) b resolves_conflict.2) (l.learned ∙ ap (λ (y : BudgetView). length y.learned + 1) b) (omega (arith, size))
 
 pub returns-in_err-look-clause-grown : goal.returns-in_err-look-clause-grown
 returns-in_err-look-clause-grown g c = Extends-trans c.args.table.now c.rounds.table c.look.new.table c.rounds.invariant.continues.table c.look.ensures.grown
@@ -183,8 +183,8 @@ returns-in_default-clause-came g c ts h rests =
 
 pub returns-in-Some-2-clause-came : goal.returns-in-Some-2-clause-came
 returns-in-Some-2-clause-came g c ts h rests =
-    absurd (subst (λ (e : End). Settles (state c.look.new.table c.look.new.self) (state c.settle.new.table c.settle.new.self) (g.T.Theory.view c.settle.new.theory) (Some e)) rests
-    (rw c.in-Some-2.is at c.in_ok-end-in-Clash.ensures.settles))
+    absurd (subst (λ (e : End). ResolvesConflict (state c.look.new.table c.look.new.self) (state c.resolve_conflict.new.table c.resolve_conflict.new.self) (g.T.Theory.view c.resolve_conflict.new.theory) (Some e)) rests
+    (rw c.in-Some-2.is at c.in_ok-end-in-Clash.ensures.resolves_conflict))
 
 pub returns-in_err-look-clause-came : goal.returns-in_err-look-clause-came
 returns-in_err-look-clause-came g c ts h =
@@ -203,15 +203,15 @@ returns-in_err-look-clause-came g c ts h =
     let within : (k : ℕ) → k ≤ suc m.0 → k ≤ all = λ k few. paid_most (atoms_of t x) (length y.budget.learned) (length c.look.new.self.budget.learned) (counted_held u v.held) (counted_held u w.held)
     n.0 m.0 k n.1 m.1 (subst (λ a. counted_held u w.held ≤ a) (atoms_stay t x c.requires.ready u c.rounds.invariant.continues.table y c.rounds.invariant.continues.terms) m.2) few
     (ap length c.look.ensures.learned) in
-    came_handed_on (λ verdict. IsPaid came (paid_after verdict m.0)) (λ (end : End). end ≡ Rests → IsPaid came all) (stopped m.0) (IsPaid stopped all) (came (suc m.0)) (IsPaid came all)
+    came_handed_on (λ verdict. IsPaid came (paid_after verdict m.0)) (λ (end : End). end ≡ Saturated → IsPaid came all) (stopped m.0) (IsPaid stopped all) (came (suc m.0)) (IsPaid came all)
     c.from_residual.result c.in_err-look.field-0.0 c.from_residual.ensures.1 (λ s. (m.0, within m.0 (omega arith), s)) (λ s. (suc m.0, within (suc m.0) (omega arith), s)) m.3
 
 pub returns-in_err-look-clause-stops : goal.returns-in_err-look-clause-stops
 returns-in_err-look-clause-stops g c =
     let watched = terms_watched c.look.new.table (g.T.Theory.view c.look.new.theory) in
-    let strains : Strain → Type 0 = g.T.Theory.strains c.look.new.theory c.look.new.table watched in
+    let may_overflow : Strain → Type 0 = g.T.Theory.may_overflow c.look.new.theory c.look.new.table watched in
     let needs_more : Type 0 = g.T.Theory.needs_more c.look.new.theory c.look.new.table watched in
-    handed_on (StopsBy strains (AreSpent needs_more c.look.new.self.budget)) c.from_residual.result c.in_err-look.field-0.0 c.from_residual.ensures.1 c.in_err-look.ensures.stops
+    handed_on (StopsBy may_overflow (AreSpent needs_more c.look.new.self.budget)) c.from_residual.result c.in_err-look.field-0.0 c.from_residual.ensures.1 c.in_err-look.ensures.stops
 
 pub returns-in_err-look-clause-stopped : goal.returns-in_err-look-clause-stopped
 returns-in_err-look-clause-stopped g c =

@@ -4,7 +4,7 @@ use Rattle.spec_arithmetic.specs.Contradictions.{wide}
 use Rattle.ratio128.specs.Meant.{overflow}
 use Rattle.ratio128.specs.declared.wide.Wide.{Wide}
 use Rattle.sat_budget.specs.Budgets.{StopsBy}
-use Rattle.simplex_check.specs.Boards.{IsBasisOf}
+use Rattle.simplex_check.specs.Assignments.{IsBasisOf}
 use Rattle.proof_log.specs.Theories.{terms_watched}
 use Rattle.held_literals.specs.Room.{AreOverWatched}
 use Rattle.simplex_explain.specs.declared.weighted.Weighted.{Weighted}
@@ -13,8 +13,8 @@ use Rattle.simplex_explain.specs.Steps.{IsCause, judged}
 use Rattle.simplex_reasons.specs.Reasons.{OnReasonOverflow}
 use Rattle.simplex_held.proofs.Reasons.{infeasible}
 use Rattle.simplex.specs.Views.{SimplexView, SimplexFits}
-use Rattle.simplex.specs.Checks.{Case, StrainsFound}
-use Rattle.simplex.proofs.Judging.{AreRefuted, strained, refuted}
+use Rattle.simplex.specs.Checks.{Case, OverflowsFound}
+use Rattle.simplex.proofs.Judging.{AreRefuted, overflowed, refuted}
 use Rattle.simplex.proofs.Reasoning.{found_weighs, found_adds}
 use Rattle.simplex.proofs.Coming.{watched_atoms}
 use Rattle.simplex.proofs.simplex.Simplex.clash.Goals as goal
@@ -26,9 +26,9 @@ returns-in-Err-Wide-clause-stops g c =
     let is = c.requires.1.1.0 in
     let fits = subst SimplexFits c.self.view_is c.self.invariant.0 in
     let over = subst (λ (w : SimplexView). AreOverWatched w.theory.held w.theory.watched) c.self.view_is c.are_of_watched_terms.ensures.over in
-    strained t (terms_watched t v.theory) v c.in-Err-Wide.wide c.stop_of.result
-    (found_weighs t v is fits (terms_watched t v.theory) (watched_atoms t v over) c.args.outcome (overflow c.in-Err-Wide.wide) c.requires.1.1.1.1 (subst (OnReasonOverflow (StrainsFound v c.args.outcome)) c.in-Err-Wide.field-0-is c.in-Err-Wide.ensures.wide))
-    (subst (λ (w : Wide). StopsBy (λ s. (s.wide ≡ w) × IsBasisOf v.board s.basis) (λ _. ⊥) c.stop_of.result) c.in-Err-Wide.wide-is c.stop_of.ensures)
+    overflowed t (terms_watched t v.theory) v c.in-Err-Wide.wide c.stop_of.result
+    (found_weighs t v is fits (terms_watched t v.theory) (watched_atoms t v over) c.args.outcome (overflow c.in-Err-Wide.wide) c.requires.1.1.1.1 (subst (OnReasonOverflow (OverflowsFound v c.args.outcome)) c.in-Err-Wide.field-0-is c.in-Err-Wide.ensures.wide))
+    (subst (λ (w : Wide). StopsBy (λ s. (s.wide ≡ w) × IsBasisOf v.assignment s.basis) (λ _. ⊥) c.stop_of.result) c.in-Err-Wide.wide-is c.stop_of.ensures)
 
 pub explain-requires : goal.explain-requires
 explain-requires g c =
@@ -75,6 +75,6 @@ returns-in-Err-Wide-explain-clause-stops g c =
     let own = c.requires.1.1.0 in
     let fits = subst SimplexFits c.self.view_is c.self.invariant.0 in
     let over = subst (λ (w : SimplexView). AreOverWatched w.theory.held w.theory.watched) c.self.view_is c.are_of_watched_terms.ensures.over in
-    strained t (terms_watched t v.theory) v c.in-Err-Wide-explain.wide c.stop_of-in-Err-Wide-explain.result
+    overflowed t (terms_watched t v.theory) v c.in-Err-Wide-explain.wide c.stop_of-in-Err-Wide-explain.result
     (found_adds t v own fits (terms_watched t v.theory) (watched_atoms t v over) c.args.outcome rs (overflow c.in-Err-Wide-explain.wide) c.requires.1.1.1.1 c.in-Ok.ensures.reasons (subst (λ (ws : List Weighted). judged t ws ≡ Err (wide (overflow c.in-Err-Wide-explain.wide))) c.deref.ensures.value cause))
-    (subst (λ (w : Wide). StopsBy (λ s. (s.wide ≡ w) × IsBasisOf v.board s.basis) (λ _. ⊥) c.stop_of-in-Err-Wide-explain.result) c.in-Err-Wide-explain.wide-is c.stop_of-in-Err-Wide-explain.ensures)
+    (subst (λ (w : Wide). StopsBy (λ s. (s.wide ≡ w) × IsBasisOf v.assignment s.basis) (λ _. ⊥) c.stop_of-in-Err-Wide-explain.result) c.in-Err-Wide-explain.wide-is c.stop_of-in-Err-Wide-explain.ensures)

@@ -1,7 +1,7 @@
 -- Without the newest mark.
 use Rattle.std.proofs.Common.{◌≡◌, ◌-◌, length, take, ap, sym, subst, ◌∙◌, arith}
 use Rattle.proof_log.specs.Theories.{TheoryView}
-use Rattle.simplex.specs.Views.{SimplexView, SimplexFits, placed_count}
+use Rattle.simplex.specs.Views.{SimplexView, SimplexFits, slack_count}
 use Rattle.simplex.proofs.Fitting.{fits_unmarked, as_many}
 use Rattle.simplex.proofs.simplex.Simplex.forget_mark.Goals as goal
 
@@ -11,7 +11,7 @@ invariant_of-self c =
     let v : SimplexView = record {
       theory = s.literals;
       atoms = s.atoms;
-      board = s.board;
+      assignment = s.assignment;
       bounds = s.bounds;
       starts = s.starts.items;
     } in
@@ -19,8 +19,8 @@ invariant_of-self c =
     let kept : c.len-kept.result - 1 ≡ length s.literals.marks - 1 = omega (arith, c.len-kept.ensures, as_many v f) in
     let starts = c.truncate.ensures.items ∙ ap (λ n. take n s.starts.items) kept in (
       subst (λ (x : SimplexView). SimplexFits x)
-          (λ i. record { theory = sym c.forget_mark.ensures i; atoms = s.atoms; board = s.board; bounds = s.bounds; starts = sym starts i })
+          (λ i. record { theory = sym c.forget_mark.ensures i; atoms = s.atoms; assignment = s.assignment; bounds = s.bounds; starts = sym starts i })
           (fits_unmarked v f),
-      c.self.invariant.1 ∙ ap (λ (x : TheoryView). placed_count s.atoms.placed x.watched) (sym c.forget_mark.ensures),
+      c.self.invariant.1 ∙ ap (λ (x : TheoryView). slack_count s.atoms.slack_list x.watched) (sym c.forget_mark.ensures),
       c.self.invariant.2,
     )

@@ -2,7 +2,7 @@
 use Rattle.std.proofs.Common.{IfOk, IfErr, subst}
 use Rattle.ratio128.specs.Meant.{overflow}
 use Rattle.tableau.specs.Numbers.{number_of}
-use Rattle.simplex.specs.Numbers.{IsNumberWith, StrainsNumberWith}
+use Rattle.simplex.specs.Numbers.{IsNumberWith, OverflowsNumberWith}
 use Rattle.simplex.proofs.simplex.Simplex.number_with.Goals as goal
 
 pub returns-in-None-clause-number : goal.returns-in-None-clause-number
@@ -11,7 +11,7 @@ returns-in-None-clause-number c =
 
 pub returns-in-None-clause-wide : goal.returns-in-None-clause-wide
 returns-in-None-clause-wide c =
-    subst (λ o. IfErr c.number_at.result (λ w. StrainsNumberWith (number_of c.args.e) c.args.self.now o (overflow w))) c.in-None.ensures.value c.number_at.ensures.wide
+    subst (λ o. IfErr c.number_at.result (λ w. OverflowsNumberWith (number_of c.args.e) c.args.self.now o (overflow w))) c.in-None.ensures.value c.number_at.ensures.wide
 
 pub returns-in-Some-clause-number : goal.returns-in-Some-clause-number
 returns-in-Some-clause-number c =
@@ -19,4 +19,4 @@ returns-in-Some-clause-number c =
 
 pub returns-in-Some-clause-wide : goal.returns-in-Some-clause-wide
 returns-in-Some-clause-wide c =
-    subst (λ o. IfErr c.value_at.result (λ w. StrainsNumberWith (number_of c.args.e) c.args.self.now o (overflow w))) c.in-Some.ensures.value c.value_at.ensures.wide
+    subst (λ o. IfErr c.value_at.result (λ w. OverflowsNumberWith (number_of c.args.e) c.args.self.now o (overflow w))) c.in-Some.ensures.value c.value_at.ensures.wide

@@ -7,4 +7,4 @@ pub returns-clause-with : goal.returns-clause-with
 returns-clause-with c = λ t s. suits_held t c.args.self.now c.assume_lit.new.self c.args.lit c.requires.watched c.assume_lit.ensures.holds (c.assume_lit.ensures.with t s.is) s
 
 pub returns-clause-came : goal.returns-clause-came
-returns-clause-came c = λ t ts n es with came. came_holding t ts n es c.args.self.now c.assume_lit.new.self came c.args.lit c.requires.watched with.is.known c.assume_lit.ensures.atoms c.assume_lit.ensures.board c.assume_lit.ensures.plain c.assume_lit.ensures.holds
+returns-clause-came c = λ t ts n es with came. came_holding t ts n es c.args.self.now c.assume_lit.new.self came c.args.lit c.requires.watched with.is.known c.assume_lit.ensures.atoms c.assume_lit.ensures.assignment c.assume_lit.ensures.plain c.assume_lit.ensures.holds

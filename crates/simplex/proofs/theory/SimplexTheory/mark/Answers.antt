@@ -1,6 +1,6 @@
--- A mark changes nothing of what it stands on.
+-- A mark changes nothing of what it is on.
 use Rattle.simplex.proofs.Coming.{came_marked}
 use Rattle.simplex.proofs.theory.SimplexTheory.mark.Goals as goal
 
 pub returns-clause-came : goal.returns-clause-came
-returns-clause-came c = λ t ts n es came. came_marked t ts n es c.args.self.now c.mark.new.self came c.mark.result c.mark.ensures.atoms c.mark.ensures.board c.mark.ensures.bounds c.mark.ensures.marks
+returns-clause-came c = λ t ts n es came. came_marked t ts n es c.args.self.now c.mark.new.self came c.mark.result c.mark.ensures.atoms c.mark.ensures.assignment c.mark.ensures.bounds c.mark.ensures.marks

@@ -2,7 +2,7 @@
 use Rattle.std.proofs.Common.{refl, subst}
 use Rattle.world_io.specs.Writing.{Sent, NotSent}
 use Rattle.smt_sexpr.specs.Items.{text_of}
-use Rattle.assertion_stack.specs.Stacks.{standing}
+use Rattle.assertion_stack.specs.Stacks.{over_table}
 use Rattle.check_evidence.specs.Evidence.{limits_meant, IsHeld}
 use Rattle.smt_session.specs.Sessions.{SessionView, IsAnswered, written_for}
 use Rattle.smt_session.proofs.Answering.{is_answered, is_response}
@@ -15,10 +15,10 @@ returns-clause-stepped g c = λ s h.
     let i = c.self.inside in
     let old : SessionView = record { table = i.table; stack = i.stack; limits = i.limits; mode = i.mode; budget = i.budget } in
     let new : SessionView = record { table = c.take.new.table; stack = c.take.new.stack; limits = i.limits; mode = i.mode; budget = c.take.new.budget } in
-    let held : IsHeld i.limits.terms (standing i.table i.stack) s = rw (← c.self.view_is) at h in
+    let held : IsHeld i.limits.terms (over_table i.table i.stack) s = rw (← c.self.view_is) at h in
     let k = c.in_ok-response.ensures.takes s held in
     let so = is_answered c.what_is_shown_is_so.ensures.at s x r old new k refl c.in_ok-response.ensures.budget in
-    let of = is_response (limits_meant i.limits) s x r (standing c.take.new.table c.take.new.stack) c.take.new.budget k in
+    let of = is_response (limits_meant i.limits) s x r (over_table c.take.new.table c.take.new.stack) c.take.new.budget k in
     let w = c.in-Err.ensures (text_of x) c.take.new.budget k.a of in (
       k.a,
       subst (λ (v : SessionView). IsAnswered s x v new k.a) c.self.view_is so,
@@ -32,10 +32,10 @@ returns-in-Ok-clause-stepped g c = λ s h.
     let i = c.self.inside in
     let old : SessionView = record { table = i.table; stack = i.stack; limits = i.limits; mode = i.mode; budget = i.budget } in
     let new : SessionView = record { table = c.take.new.table; stack = c.take.new.stack; limits = i.limits; mode = i.mode; budget = c.take.new.budget } in
-    let held : IsHeld i.limits.terms (standing i.table i.stack) s = rw (← c.self.view_is) at h in
+    let held : IsHeld i.limits.terms (over_table i.table i.stack) s = rw (← c.self.view_is) at h in
     let k = c.in_ok-response.ensures.takes s held in
     let so = is_answered c.what_is_shown_is_so.ensures.at s x r old new k refl c.in_ok-response.ensures.budget in
-    let of = is_response (limits_meant i.limits) s x r (standing c.take.new.table c.take.new.stack) c.take.new.budget k in
+    let of = is_response (limits_meant i.limits) s x r (over_table c.take.new.table c.take.new.stack) c.take.new.budget k in
     let w = c.in-Ok.ensures (text_of x) c.take.new.budget k.a of in (
       k.a,
       subst (λ (v : SessionView). IsAnswered s x v new k.a) c.self.view_is so,

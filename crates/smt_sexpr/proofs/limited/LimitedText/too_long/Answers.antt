@@ -1,4 +1,4 @@
--- The first byte that is not read stands at the limit.
+-- The first byte that is not read is at the limit.
 use Rattle.std.proofs.Common.{◌≡◌, length, ap, arith}
 use Rattle.spec_text.specs.declared.Fault.TheVariants.{TooLong}
 use Rattle.spec_text.specs.Readings.{text_limit}

@@ -1,4 +1,4 @@
--- The term of a bound name stands at the name's latest place.
+-- The term of a bound name is at the name's latest place.
 use Rattle.std.proofs.Common.{◌≡◌, None, Some, sym, ap, ◌∙◌, subst}
 use Rattle.spec_sorts.specs.Theory.{look_up}
 use Rattle.term_reader.specs.NameStacks.{newest}

@@ -1,4 +1,4 @@
--- A new name's copy stands last, and no name is there twice.
+-- A new name's copy is last, and no name is there twice.
 use Rattle.std.proofs.Common.{◌≡◌, false, ◌++◌, ◌∷◌, [], List, ℕ, Vec, Global, map, sym, ap, ◌∙◌, subst}
 use Rattle.spec_text.specs.Bytes.{among}
 use Rattle.term_core.specs.NameLists.{HaveNoTwice}

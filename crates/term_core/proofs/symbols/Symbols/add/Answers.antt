@@ -1,4 +1,4 @@
--- A new symbol stands last.
+-- A new symbol is last.
 use Rattle.std.proofs.Common.{◌≡◌, [], ◌∷◌, ◌++◌, length, subst, sym, ap, ◌∙◌, arith, length-append}
 use Rattle.std.proofs.lemmas.List.Elements.{All-push}
 use Rattle.term_core.specs.declared.sorts.Rank.{Rank}

@@ -14,7 +14,7 @@ bounds-as_slice-id c = subst (λ l. c.args.id.0 < length l) (sym c.as_slice.ensu
 pub offset_bounds-as_slice-id : goal.offset_bounds-as_slice-id
 offset_bounds-as_slice-id c = omega (arith, bounds-as_slice-id c, c.as_slice.type_inv.1)
 
--- what the node says stands at that number
+-- what the node says is at that number
 here : (c : goal.After-index-as_slice-id) → IsAt c.self.inside.symbols (grown c.self.inside.symbols [] (shapes_of c.self.inside.nodes.keys)) (shape_of c.index-as_slice-id.result) c.args.id.0
 here c = node_at c.self.inside.symbols c.self.inside.nodes.keys c.self.invariant.whole c.as_slice.result.now c.index-as_slice-id.result c.args.id.0 c.as_slice.ensures.keys
     (subst (λ t. c.args.id.0 < length t.terms) (sym c.self.view_is) c.requires) c.index-as_slice-id.is

@@ -1,4 +1,4 @@
--- The sort of a name stands at the name's number.
+-- The sort of a name is at the name's number.
 use Rattle.std.proofs.Common.{◌≡◌, None, Some, sym, ap, ◌∙◌, subst}
 use Rattle.term_reader.specs.Scopes.{ScopeView, sort_under}
 use Rattle.term_reader.proofs.NameStacks.{newest_none, newest_found}

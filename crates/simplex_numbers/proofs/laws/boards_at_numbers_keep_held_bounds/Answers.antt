@@ -1,5 +1,0 @@
-use Rattle.simplex_numbers.proofs.Holding.{held_at}
-use Rattle.simplex_numbers.proofs.laws.boards_at_numbers_keep_held_bounds.Goals as goal
-
-pub returns : goal.returns
-returns c = held_at

@@ -1,6 +1,0 @@
--- That checks stand in their command.
-use Rattle.spec_commands.proofs.Offsets.{step_check_stands}
-use Rattle.spec_commands.proofs.checks_stand_in_their_command.Goals as goal
-
-pub returns : goal.returns
-returns c = step_check_stands

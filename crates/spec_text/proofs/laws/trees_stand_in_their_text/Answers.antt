@@ -1,6 +1,0 @@
--- The lexemes stand there.
-use Rattle.spec_text.proofs.Offsets.{tree_in_text, trees_in_text}
-use Rattle.spec_text.proofs.laws.trees_stand_in_their_text.Goals as goal
-
-pub returns : goal.returns
-returns c = record { first = tree_in_text; all = trees_in_text }

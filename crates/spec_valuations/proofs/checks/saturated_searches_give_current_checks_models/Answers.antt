@@ -1,0 +1,26 @@
+-- The interpretation has the tables that the search gives, by their names.
+use Rattle.std.proofs.Common.{◌≡◌, true, ap}
+use Rattle.spec_numbers.specs.Fractions.{Fraction, zero_fraction}
+use Rattle.spec_sorts.specs.Terms.{Term}
+use Rattle.spec_sorts.specs.Values.{is_true}
+use Rattle.spec_sorts.specs.Signatures.{symbols_in}
+use Rattle.spec_commands.specs.Stack.{signature_of}
+use Rattle.spec_rules.specs.Clauses.{term_true}
+use Rattle.spec_rules.specs.Truths.{term_true_by}
+use Rattle.spec_derivations.specs.Problems.{problem_of}
+use Rattle.spec_derivations.proofs.Asked.{assertions_have}
+use Rattle.spec_valuations.specs.Classes.{value_by}
+use Rattle.spec_valuations.proofs.Named.{model_by, named}
+use Rattle.spec_valuations.proofs.checks.saturated_searches_give_current_checks_models.Goals as goal
+
+pub returns : goal.returns
+returns c limit script k check interface terms held v class current rests assumed =
+    let s = signature_of check.stack in
+    let p = problem_of check interface in
+    let point : Term → Fraction = λ t. zero_fraction in
+    let i = model_by s (value_by (term_true_by v) point class) terms in
+    let sound = (c.assertions_have_their_texts_value.ensures.kept limit script k check current).names in
+    let model = named s (value_by (term_true_by v) point class) terms sound in
+    let tables = c.saturated_searches_have_models.ensures.interprets (symbols_in s) p terms held v class point i rests model in
+    let each = c.saturated_searches_have_models.ensures.all (symbols_in s) p terms held v class point i rests model assumed in
+    (i, c.satisfied_scripts_have_a_model.ensures.model limit script k check current i tables (assertions_have (λ t. term_true i t ≡ true) check interface (λ n d lt. ap is_true (each n d lt))))

@@ -1,6 +1,0 @@
--- By what equalities, facts and orders are made of.
-use Rattle.spec_valuations.proofs.Applications.{nothing_more}
-use Rattle.spec_valuations.proofs.laws.equalities_beside_apply_nothing_more.Goals as goal
-
-pub returns : goal.returns
-returns c = nothing_more
