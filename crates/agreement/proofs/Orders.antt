@@ -11,7 +11,7 @@ use Rattle.std.proofs.lemmas.List.Sorted.{Contains-permutation, IsPermutation-sy
 use Rattle.std.specs.Bool.{Decides}
 use Rattle.std.proofs.lemmas.Bool.Decides.{Decides-eqb}
 use Rattle.spec_numbers.specs.Fractions.{IsReduced}
-use Rattle.spec_strains.specs.Deltas.{AreReduced, delta_compare}
+use Rattle.spec_tableaux.specs.Deltas.{AreReduced, delta_compare}
 use Rattle.delta_num.specs.declared.delta.Delta.{Delta}
 use Rattle.delta_num.specs.Meant.{delta}
 use Rattle.delta_num.proofs.Orders.{order_equal, order_reversed, order_transitive}

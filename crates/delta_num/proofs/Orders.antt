@@ -6,7 +6,7 @@ use Rattle.std.specs.Cmp.{then_flip}
 use Rattle.spec_numbers.specs.Fractions.{Fraction, IsReduced, times, compare}
 use Rattle.spec_numbers.proofs.Field.{plus-reduced, times-reduced, inverse-reduced, times-comm, minus-reduced}
 use Rattle.spec_numbers.proofs.Order.{compare-equal, compare-reversed, compare-trans, compare-plus, compare-times}
-use Rattle.spec_strains.specs.Deltas.{Delta, AreReduced, IsPositive, delta_plus, delta_minus, delta_times, delta_over, delta_at, delta_compare}
+use Rattle.spec_tableaux.specs.Deltas.{Delta, AreReduced, IsPositive, delta_plus, delta_minus, delta_times, delta_over, delta_at, delta_compare}
 
 -- lowest terms
 

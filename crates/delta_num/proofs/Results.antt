@@ -7,7 +7,7 @@ use Rattle.spec_text.specs.Answers.{◌>>=◌}
 use Rattle.ratio128.specs.declared.ratio.Ratio.{Ratio}
 use Rattle.ratio128.specs.declared.wide.Wide.{Wide}
 use Rattle.ratio128.specs.Meant.{fraction, outcome, overflow}
-use Rattle.spec_strains.specs.Deltas.{Delta, number, both, delta_added, delta_subtracted, delta_scaled, delta_divided, delta_evaluated, delta_plus, delta_minus, delta_times, delta_over, delta_at}
+use Rattle.spec_tableaux.specs.Deltas.{Delta, number, both, delta_added, delta_subtracted, delta_scaled, delta_divided, delta_evaluated, delta_plus, delta_minus, delta_times, delta_over, delta_at}
 use Rattle.delta_num.specs.Meant.{delta, delta_outcome}
 use Rattle.delta_num.specs.declared.delta.Delta.{Delta as Number}
 

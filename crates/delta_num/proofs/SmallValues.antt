@@ -14,7 +14,7 @@ use Rattle.spec_numbers.proofs.Lowest.{reduced-same}
 use Rattle.spec_numbers.proofs.Field.{plus-opposite, opposite-reduced, minus-reduced}
 use Rattle.spec_numbers.proofs.Order.{compare-lowest, compare-equal, compare-reversed, compare-trans, compare-plus}
 use Rattle.ratio128.proofs.Bounded.{whole-reduced}
-use Rattle.spec_strains.specs.Deltas.{Delta, AreReduced, IsPositive, AgreeUpTo, AllAgreeUpTo, delta_at, delta_compare}
+use Rattle.spec_tableaux.specs.Deltas.{Delta, AreReduced, IsPositive, AgreeUpTo, AllAgreeUpTo, delta_at, delta_compare}
 use Rattle.delta_num.proofs.Orders.{order_reversed}
 use Rattle.delta_num.proofs.Values.{values_compare, one_base, compare-itself}
 

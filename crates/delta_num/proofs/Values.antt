@@ -6,7 +6,7 @@ use Rattle.std.proofs.lemmas.Cmp.{int_cmp_total}
 use Rattle.spec_numbers.specs.Fractions.{Fraction, IsReduced, plus, minus, opposite, times, compare}
 use Rattle.spec_numbers.proofs.Field.{plus-comm, plus-cross, plus-zero, plus-opposite, plus-reduced, times-assoc, times-plus, times-plus_left, times-reduced, opposite-times, minus-reduced, zero-times_of}
 use Rattle.spec_numbers.proofs.Order.{compare-plus, compare-times}
-use Rattle.spec_strains.specs.Deltas.{Delta, AreReduced, IsPositive, number, delta_plus, delta_times, delta_at, delta_compare}
+use Rattle.spec_tableaux.specs.Deltas.{Delta, AreReduced, IsPositive, number, delta_plus, delta_times, delta_at, delta_compare}
 
 -- values of a fraction, of sums and of products
 

@@ -3,7 +3,7 @@ use Rattle.std.specs.Prelude.{Result, Ok, Err}
 use Rattle.spec_numbers.specs.Bounds.{Overflow}
 use Rattle.ratio128.specs.declared.wide.Wide.{Wide}
 use Rattle.ratio128.specs.Meant.{fraction, overflow}
-use Rattle.spec_strains.specs.Deltas.{Delta}
+use Rattle.spec_tableaux.specs.Deltas.{Delta}
 use Rattle.delta_num.specs.declared.delta.Delta.{Delta as Number}
 
 -- the number that a `Delta` of the code is

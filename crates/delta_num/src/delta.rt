@@ -3,7 +3,7 @@
 ghost use Rattle.std.specs.Prelude.{◌≡◌, ◌≢◌};
 ghost use Rattle.spec_numbers.specs.Fractions.{zero_fraction};
 ghost use Rattle.ratio128.specs.Meant.{fraction, outcome};
-ghost use Rattle.spec_strains.specs.Deltas.{number, delta_added, delta_subtracted, delta_scaled, delta_divided, delta_evaluated, delta_compare};
+ghost use Rattle.spec_tableaux.specs.Deltas.{number, delta_added, delta_subtracted, delta_scaled, delta_divided, delta_evaluated, delta_compare};
 ghost use Rattle.delta_num.specs.Meant.{delta, delta_outcome};
 
 use ratio128::{Ratio, Wide};
@@ -81,7 +81,7 @@ impl Delta {
     }
 
     /// Compares two numbers by their bases, and those with one base by their tilts. It never overflows.
-    #[tactic(auto, unfolding(spec_strains::specs::Deltas::delta_compare))]
+    #[tactic(auto, unfolding(spec_tableaux::specs::Deltas::delta_compare))]
     pub fn cmp(a: Delta, b: Delta) -> Ordering
         ensures { result ≡ delta_compare (delta a) (delta b) }
     {

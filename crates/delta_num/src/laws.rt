@@ -4,7 +4,7 @@ ghost use Rattle.std.specs.Prelude.{◌≡◌, List, Contains, IfOk};
 ghost use Rattle.std.specs.Ordering.{ordering_reverse};
 ghost use Rattle.std.proofs.Common.{Less, Equal};
 ghost use Rattle.spec_numbers.specs.Fractions.{Fraction, IsReduced, plus, minus, times, compare};
-ghost use Rattle.spec_strains.specs.Deltas.{Delta, AreReduced, number, IsPositive, AllAgreeUpTo, delta_added, delta_subtracted, delta_scaled, delta_divided, delta_evaluated, delta_plus, delta_minus, delta_times, delta_over, delta_at, delta_compare};
+ghost use Rattle.spec_tableaux.specs.Deltas.{Delta, AreReduced, number, IsPositive, AllAgreeUpTo, delta_added, delta_subtracted, delta_scaled, delta_divided, delta_evaluated, delta_plus, delta_minus, delta_times, delta_over, delta_at, delta_compare};
 
 /// States that a result within the bound is the exact one.
 pub fn bounded_results_are_exact()

@@ -10,8 +10,8 @@ use Rattle.spec_sorts.specs.Subsets.{AreAmong}
 use Rattle.spec_tableaux.specs.SolvedForms.{IsSolved}
 use Rattle.spec_tableaux.specs.Numbers.{numbers}
 use Rattle.spec_tableaux.specs.Ranges.{Meets}
-use Rattle.spec_strains.specs.Points.{deltas, point_in, Ranges}
-use Rattle.spec_strains.specs.Runs.{Ran, Stopped, updating_nonbasic, exchanging}
+use Rattle.spec_tableaux.specs.Points.{deltas, point_in, Ranges}
+use Rattle.spec_tableaux.specs.Runs.{Ran, Stopped, updating_nonbasic, exchanging}
 use Rattle.spec_simplex.specs.Constraints.{Constraint, constraint_of}
 use Rattle.spec_causes.specs.TermTableau.{TermTableau, moved_to}
 use Rattle.spec_causes.specs.Bounds.{AreBounds}

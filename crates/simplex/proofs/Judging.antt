@@ -26,9 +26,9 @@ use Rattle.held_literals.specs.Room.{AreOverWatched}
 use Rattle.tableau.specs.Views.{IsTableau}
 use Rattle.simplex_bounds.specs.Held.{ranges_in}
 use Rattle.simplex_check.specs.Assignments.{AssignmentView, state_of, IsBasisOf}
-use Rattle.spec_strains.specs.Points.{Ranges, AssignmentState}
+use Rattle.spec_tableaux.specs.Points.{Ranges, AssignmentState}
 use Rattle.simplex_check.specs.Ends.{EndsCheck}
-use Rattle.spec_strains.specs.Runs.{Stopped, updating_nonbasic, exchanging}
+use Rattle.spec_tableaux.specs.Runs.{Stopped, updating_nonbasic, exchanging}
 use Rattle.simplex_check.specs.declared.check.CheckOutcome.{CheckOutcome}
 use Rattle.simplex_check.specs.declared.check.CheckOutcome.TheVariants.{Fine, Crossed, Conflict}
 use Rattle.simplex_explain.specs.declared.weighted.Weighted.{Weighted}

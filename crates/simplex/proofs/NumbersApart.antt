@@ -13,8 +13,8 @@ use Rattle.spec_tableaux.specs.Spaces.{Pair}
 use Rattle.spec_tableaux.specs.Numbers.{Number, numbers}
 use Rattle.spec_tableaux.proofs.Numbers.{number_is}
 use Rattle.spec_simplex.specs.Numbers.{HoldsAt}
-use Rattle.spec_strains.specs.Points.{deltas, point_in, Ranges}
-use Rattle.spec_strains.specs.Halves.{at_number}
+use Rattle.spec_tableaux.specs.Points.{deltas, point_in, Ranges}
+use Rattle.spec_tableaux.specs.Halves.{at_number}
 use Rattle.spec_causes.specs.TermTableau.{TermTableau, owner_in}
 use Rattle.spec_causes.specs.TermTableau as term_tableaux
 use Rattle.spec_causes.specs.Shared.{IsSharedAmong, IsValueOf, AreValuesOf, AreSharedValues}

@@ -12,7 +12,7 @@ use Rattle.spec_tableaux.specs.Rows.{Entry}
 use Rattle.spec_tableaux.specs.Numbers.{Number, numbers}
 use Rattle.spec_simplex.specs.Constraints.{Relation, below, at_most, equals, at_least, above}
 use Rattle.spec_simplex.specs.Weights.{denial}
-use Rattle.spec_strains.specs.Points.{Ranges}
+use Rattle.spec_tableaux.specs.Points.{Ranges}
 use Rattle.spec_causes.specs.TermTableau.{TermTableau}
 use Rattle.spec_causes.specs.Bounds.{bound_on, AreBounds}
 use Rattle.spec_causes.specs.Reasons.{directed, IsStop, weight_by, IsReason, AreReasons, literals_in, weights_in, crossing, sticking, OverflowsReasons, weighing, adding}

@@ -13,9 +13,9 @@ use Rattle.spec_tableaux.specs.Spaces.{Pair}
 use Rattle.spec_tableaux.specs.Rows.{Entry}
 use Rattle.spec_tableaux.specs.Numbers.{Number, numbers, fractions}
 use Rattle.spec_tableaux.proofs.Numbers.{number_is}
-use Rattle.spec_strains.specs.Deltas as exact
-use Rattle.spec_strains.specs.Deltas.{delta_added, delta_scaled}
-use Rattle.spec_strains.specs.Points.{deltas, point_in, delta_in}
+use Rattle.spec_tableaux.specs.Deltas as exact
+use Rattle.spec_tableaux.specs.Deltas.{delta_added, delta_scaled}
+use Rattle.spec_tableaux.specs.Points.{deltas, point_in, delta_in}
 use Rattle.spec_causes.specs.TermTableau.{TermTableau}
 use Rattle.spec_causes.specs.Shared.{AreOwnedEntries, IsSumAt, IsValueOf, AreValuesOf, OverflowsSumAt, OverflowsTerm, in_form, in_sum, by_constant}
 use Rattle.spec_causes.proofs.Owned.{owned_entries, first_owned, first_left_out, no_entries}

@@ -19,8 +19,8 @@ use Rattle.term_core.specs.declared.ids.Lit.{Lit}
 use Rattle.term_core.specs.Tables.{TableView, term_at, clause_at, IsIn, AreDifferent}
 use Rattle.tableau.specs.Numbers.{number_of}
 use Rattle.proof_log.specs.Theories.{IsAtomIn, IsTheoryOver}
-use Rattle.spec_strains.specs.Deltas.{delta_evaluated}
-use Rattle.spec_strains.specs.Points.{point_in, delta_in}
+use Rattle.spec_tableaux.specs.Deltas.{delta_evaluated}
+use Rattle.spec_tableaux.specs.Points.{point_in, delta_in}
 use Rattle.spec_causes.specs.Causes.{OverflowsValueAt}
 use Rattle.simplex_bounds.specs.Deltas.{pair_of}
 use Rattle.simplex_atoms.specs.Owners.{owner_at, IsNumberOf, AreOwned}
@@ -28,7 +28,7 @@ use Rattle.simplex_atoms.specs.TermTableauViews.{owner_meant}
 use Rattle.simplex_atoms.proofs.Numbered.{owner_mapped}
 use Rattle.simplex_held.proofs.Owners.{point_of, owned, absent}
 use Rattle.simplex_numbers.specs.Values.{flat}
-use Rattle.spec_strains.specs.Halves.{at_number}
+use Rattle.spec_tableaux.specs.Halves.{at_number}
 use Rattle.simplex.specs.Views.{SimplexView, IsOf}
 use Rattle.simplex.specs.Numbers.{number_by, IsNumberAt}
 use Rattle.simplex.specs.Coming.{term_tableau_of}

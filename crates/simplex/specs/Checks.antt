@@ -9,7 +9,7 @@ use Rattle.term_core.specs.Tables.{TableView, IsIn}
 use Rattle.sat_budget.specs.declared.limits.Stop.{Stop}
 use Rattle.proof_log.specs.declared.theory.Verdict.{Verdict}
 use Rattle.proof_log.specs.declared.theory.Verdict.TheVariants as verdicts
-use Rattle.spec_strains.specs.Points.{deltas, point_in}
+use Rattle.spec_tableaux.specs.Points.{deltas, point_in}
 use Rattle.simplex_bounds.specs.Held.{ranges_in}
 use Rattle.simplex_check.specs.Assignments.{state_of}
 use Rattle.simplex_check.specs.declared.check.CheckOutcome.{CheckOutcome}

@@ -7,9 +7,9 @@ use Rattle.spec_arithmetic.specs.Numbers.{number_at}
 use Rattle.spec_tableaux.specs.Spaces.{Pair}
 use Rattle.spec_tableaux.specs.Numbers.{Number, numbers}
 use Rattle.spec_simplex.specs.Numbers.{HoldsAt}
-use Rattle.spec_strains.specs.Deltas.{delta_evaluated}
-use Rattle.spec_strains.specs.Points.{point_in, delta_in}
-use Rattle.spec_strains.specs.Halves.{at_number}
+use Rattle.spec_tableaux.specs.Deltas.{delta_evaluated}
+use Rattle.spec_tableaux.specs.Points.{point_in, delta_in}
+use Rattle.spec_tableaux.specs.Halves.{at_number}
 use Rattle.spec_causes.specs.Shared.{IsValueOf}
 use Rattle.spec_causes.specs.Causes.{OverflowsValueAt}
 use Rattle.delta_num.specs.declared.delta.Delta.{Delta}

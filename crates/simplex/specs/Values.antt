@@ -5,8 +5,8 @@ use Rattle.spec_numbers.specs.Bounds.{Overflow}
 use Rattle.spec_sorts.specs.Terms.{Term}
 use Rattle.spec_tableaux.specs.Spaces.{Pair}
 use Rattle.spec_tableaux.specs.Numbers.{Number}
-use Rattle.spec_strains.specs.Deltas.{delta_added, delta_scaled}
-use Rattle.spec_strains.specs.Points.{deltas, point_in, delta_in}
+use Rattle.spec_tableaux.specs.Deltas.{delta_added, delta_scaled}
+use Rattle.spec_tableaux.specs.Points.{deltas, point_in, delta_in}
 use Rattle.ratio128.specs.declared.ratio.Ratio.{Ratio}
 use Rattle.delta_num.specs.declared.delta.Delta.{Delta}
 use Rattle.term_core.specs.declared.ids.TermId.{TermId}

@@ -3,7 +3,7 @@
 ghost use Rattle.std.specs.Prelude.{◌≡◌, [], IfOk};
 ghost use Rattle.spec_tableaux.specs.LeastVariable as rule;
 ghost use Rattle.simplex_bounds.specs.Deltas.{pair_of};
-ghost use Rattle.spec_strains.specs.Points.{deltas, point_in};
+ghost use Rattle.spec_tableaux.specs.Points.{deltas, point_in};
 ghost use Rattle.simplex_bounds.specs.Held.{ranges_in};
 ghost use Rattle.simplex_check.specs.Assignments.{state_of, empty_assignment, IsBasisOf};
 ghost use Rattle.simplex_check.specs.Moves.{rule_move};

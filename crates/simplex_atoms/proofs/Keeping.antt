@@ -19,7 +19,7 @@ use Rattle.term_core.specs.declared.ids.Lit.{Lit}
 use Rattle.tableau.specs.Numbers.{number_of}
 use Rattle.simplex_bounds.specs.declared.bounds.Side.{Side}
 use Rattle.simplex_bounds.specs.declared.bounds.Side.TheVariants.{Lower, Upper}
-use Rattle.spec_strains.specs.Points.{deltas}
+use Rattle.spec_tableaux.specs.Points.{deltas}
 use Rattle.simplex_check.proofs.Points.{deltas_are_space, deltas_are_ordered}
 use Rattle.simplex_atoms.specs.declared.slack.Comparison.{Comparison}
 use Rattle.simplex_atoms.specs.declared.slack.Comparison.TheVariants as kinds

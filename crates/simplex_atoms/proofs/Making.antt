@@ -27,7 +27,7 @@ use Rattle.tableau.specs.Numbers.{number_of}
 use Rattle.tableau.specs.Entries.{entry_of, entries_of}
 use Rattle.tableau.specs.Views as views
 use Rattle.simplex_check.specs.Assignments.{AssignmentView, assignment_with_sum, state_of}
-use Rattle.spec_strains.specs.CheckOverflows.{OverflowsNew}
+use Rattle.spec_tableaux.specs.BoundsOverflows.{OverflowsNew}
 use Rattle.simplex_atoms.specs.declared.slack.Comparison.{Comparison}
 use Rattle.simplex_atoms.specs.declared.slack.Slack.{Slack}
 use Rattle.simplex_atoms.specs.declared.stop.AtomStop.{AtomStop}

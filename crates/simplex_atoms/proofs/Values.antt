@@ -10,7 +10,7 @@ use Rattle.spec_tableaux.specs.Numbers.{Number, numbers, fractions}
 use Rattle.spec_tableaux.proofs.PairSolutions.{pair_parts}
 use Rattle.spec_simplex.specs.Points.{Point, base_at, tilt_at}
 use Rattle.tableau.specs.Numbers.{number_of}
-use Rattle.spec_strains.specs.Points.{deltas}
+use Rattle.spec_tableaux.specs.Points.{deltas}
 use Rattle.simplex_atoms.specs.declared.slack.Slack.{Slack}
 use Rattle.simplex_atoms.specs.Owners.{AreOwned}
 use Rattle.simplex_atoms.specs.Slacks.{AtomSetting, IsFormOf}

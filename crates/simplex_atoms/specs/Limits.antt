@@ -10,7 +10,7 @@ use Rattle.spec_simplex.specs.Constraints.{Relation, below, at_most, equals, at_
 use Rattle.term_core.specs.declared.ids.Lit.{Lit}
 use Rattle.tableau.specs.Numbers.{number_of}
 use Rattle.simplex_bounds.specs.Deltas.{pair_of}
-use Rattle.spec_strains.specs.Points.{deltas}
+use Rattle.spec_tableaux.specs.Points.{deltas}
 use Rattle.simplex_bounds.specs.declared.bounds.Bound.{Bound}
 use Rattle.simplex_bounds.specs.declared.bounds.Side.{Side}
 use Rattle.simplex_bounds.specs.declared.bounds.Side.TheVariants.{Lower, Upper}

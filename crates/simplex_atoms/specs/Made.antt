@@ -9,7 +9,7 @@ use Rattle.tableau.specs.declared.entries.Entry.{Entry}
 use Rattle.tableau.specs.Numbers.{number_of}
 use Rattle.tableau.specs.Entries.{entries_of}
 use Rattle.simplex_check.specs.Assignments.{AssignmentView, state_of}
-use Rattle.spec_strains.specs.CheckOverflows.{OverflowsNew}
+use Rattle.spec_tableaux.specs.BoundsOverflows.{OverflowsNew}
 use Rattle.simplex_atoms.specs.declared.slack.Comparison.{Comparison}
 use Rattle.simplex_atoms.specs.declared.slack.Slack.{Slack}
 use Rattle.simplex_atoms.specs.Slacks.{IsSign}

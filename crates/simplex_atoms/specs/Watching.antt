@@ -14,7 +14,7 @@ use Rattle.term_core.specs.declared.ids.TermId.{TermId}
 use Rattle.term_core.specs.Tables.{TableView, term_at, IsIn, positive_literal}
 use Rattle.linear_form.specs.Meant.{FormView, form_meant}
 use Rattle.simplex_check.specs.Assignments.{AssignmentView, state_of}
-use Rattle.spec_strains.specs.CheckOverflows.{OverflowsNew}
+use Rattle.spec_tableaux.specs.BoundsOverflows.{OverflowsNew}
 use Rattle.tableau.specs.declared.entries.Entry.{Entry as CodeEntry}
 use Rattle.term_core.specs.declared.nodes.Head.{Head}
 use Rattle.term_core.specs.declared.nodes.Head.TheVariants as heads

@@ -14,7 +14,7 @@ ghost use Rattle.ratio128.specs.Meant.{fraction};
 ghost use Rattle.term_core.specs.declared.ids.Lit.{Lit};
 ghost use Rattle.term_core.specs.Tables.{TableView, Extends};
 ghost use Rattle.tableau.specs.Numbers.{number_of};
-ghost use Rattle.spec_strains.specs.Points.{deltas};
+ghost use Rattle.spec_tableaux.specs.Points.{deltas};
 ghost use Rattle.simplex_bounds.specs.Held.{BoundsView};
 ghost use Rattle.simplex_check.specs.Assignments.{AssignmentView, empty_assignment};
 ghost use Rattle.simplex_atoms.specs.declared.slack.Slack.{Slack};

@@ -11,7 +11,7 @@ use Rattle.simplex_bounds.specs.declared.bounds.Side.{Side}
 use Rattle.simplex_bounds.specs.declared.bounds.Side.TheVariants.{Lower, Upper}
 use Rattle.simplex_bounds.specs.declared.limits.VariableLimits.{VariableLimits}
 use Rattle.simplex_bounds.specs.Deltas.{pair_of}
-use Rattle.spec_strains.specs.Points.{deltas}
+use Rattle.spec_tableaux.specs.Points.{deltas}
 use Rattle.simplex_bounds.specs.Held.{stronger, is_tighter, value_in, ranges_in, lesser, IsLeastCrossed}
 use Rattle.simplex_bounds.specs.Limits.{limit_at, with_limit, tightened, are_crossed, limits_in}
 use Rattle.simplex_bounds.proofs.Orders.{less_transitive}

@@ -4,7 +4,7 @@ use Rattle.std.specs.Prelude.{Result, Ok, Err, IfOk}
 use Rattle.spec_numbers.specs.Fractions.{plus, minus}
 use Rattle.spec_numbers.specs.Bounds.{Overflow}
 use Rattle.ratio128.specs.declared.wide.Wide.{Wide}
-use Rattle.spec_strains.specs.Deltas as parts
+use Rattle.spec_tableaux.specs.Deltas as parts
 use Rattle.delta_num.specs.Meant.{delta, delta_outcome}
 use Rattle.delta_num.specs.declared.delta.Delta.{Delta}
 use Rattle.spec_tableaux.specs.Spaces.{Pair}

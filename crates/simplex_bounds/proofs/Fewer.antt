@@ -5,7 +5,7 @@ use Rattle.spec_tableaux.specs.Spaces.{Pair}
 use Rattle.spec_tableaux.specs.Numbers.{Number}
 use Rattle.spec_tableaux.specs.Ranges.{is_within}
 use Rattle.simplex_bounds.specs.declared.bounds.Bound.{Bound}
-use Rattle.spec_strains.specs.Points.{deltas}
+use Rattle.spec_tableaux.specs.Points.{deltas}
 use Rattle.simplex_bounds.specs.Held.{ranges_in, RespectsBound}
 use Rattle.simplex_bounds.proofs.Keeping.{ranges_kept}
 

@@ -10,7 +10,7 @@ use Rattle.simplex_bounds.specs.declared.bounds.Bound.{Bound}
 use Rattle.simplex_bounds.specs.declared.bounds.Side.{Side}
 use Rattle.simplex_bounds.specs.declared.bounds.Side.TheVariants.{Lower, Upper}
 use Rattle.simplex_bounds.specs.Deltas.{pair_of}
-use Rattle.spec_strains.specs.Points.{deltas}
+use Rattle.spec_tableaux.specs.Points.{deltas}
 use Rattle.simplex_bounds.specs.Held.{same_side, is_of, is_tighter, stronger, strongest, strongest_after, value_in, ranges_in, RespectsBound}
 use Rattle.simplex_bounds.proofs.Orders.{less_transitive, less_total}
 

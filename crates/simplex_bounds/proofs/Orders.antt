@@ -8,7 +8,7 @@ use Rattle.spec_tableaux.specs.Numbers.{Number, numbers}
 use Rattle.spec_tableaux.proofs.Numbers.{number_is, numbers_are_ordered_field, numbers_are_ordered}
 use Rattle.spec_tableaux.proofs.OrderedSpaces.{pairs_are_ordered}
 use Rattle.tableau.specs.Numbers.{number_of}
-use Rattle.spec_strains.specs.Points.{deltas}
+use Rattle.spec_tableaux.specs.Points.{deltas}
 
 pub less_transitive : (x y z : Pair Number) → deltas.less x y ≡ true → deltas.less y z ≡ true → deltas.less x z ≡ true
 less_transitive = (pairs_are_ordered numbers numbers_are_ordered_field).less_transitive

@@ -5,7 +5,7 @@ use Rattle.simplex_bounds.specs.declared.bounds.Bound.{Bound}
 use Rattle.simplex_bounds.specs.declared.bounds.Side.{Side}
 use Rattle.simplex_bounds.specs.declared.bounds.Side.TheVariants.{Lower, Upper}
 use Rattle.simplex_bounds.specs.declared.limits.VariableLimits.{VariableLimits}
-use Rattle.spec_strains.specs.Points.{deltas}
+use Rattle.spec_tableaux.specs.Points.{deltas}
 use Rattle.simplex_bounds.specs.Held.{stronger, strongest, value_in}
 
 -- a variable has no bounds

@@ -2,13 +2,13 @@
 
 ghost use Rattle.std.specs.Prelude.{◌≡◌, IfOk, IfErr, Err, false};
 ghost use Rattle.ratio128.specs.Meant.{fraction, overflow};
-ghost use Rattle.spec_strains.specs.Deltas.{delta_added, delta_subtracted, delta_scaled, delta_divided};
+ghost use Rattle.spec_tableaux.specs.Deltas.{delta_added, delta_subtracted, delta_scaled, delta_divided};
 ghost use Rattle.delta_num.specs.Meant.{delta};
 ghost use Rattle.spec_tableaux.specs.Spaces as spaces;
 ghost use Rattle.spec_tableaux.specs.Numbers.{numbers};
 ghost use Rattle.tableau.specs.Numbers.{number_of};
 ghost use Rattle.simplex_bounds.specs.Deltas.{pair_of};
-ghost use Rattle.spec_strains.specs.Points.{deltas};
+ghost use Rattle.spec_tableaux.specs.Points.{deltas};
 
 use delta_num::Delta;
 use ratio128::{Ratio, Wide};

@@ -6,7 +6,7 @@ ghost use Rattle.spec_tableaux.specs.Numbers.{Number};
 ghost use Rattle.spec_tableaux.specs.Ranges.{is_within};
 ghost use Rattle.simplex_bounds.specs.declared.bounds.Bound.{Bound};
 ghost use Rattle.simplex_bounds.specs.declared.bounds.Side.{Side};
-ghost use Rattle.spec_strains.specs.Points.{deltas};
+ghost use Rattle.spec_tableaux.specs.Points.{deltas};
 ghost use Rattle.simplex_bounds.specs.Held.{strongest, ranges_in, RespectsBound};
 
 /// States that the strongest bound of a side and a variable is held, and is of that side and variable.

@@ -2,7 +2,7 @@
 use Rattle.std.proofs.Common.{◌≡◌, ℕ, zero, suc, ◌<◌, Bool, true, false, List, [], ◌∷◌, length, get_or, slice_index_or, Err, refl, sym, ◌∙◌, ap, arith, cond, ◌==◌}
 use Rattle.std.proofs.lemmas.Bool.Decides.{nat_tests}
 use Rattle.spec_numbers.specs.Bounds.{Overflow}
-use Rattle.spec_strains.specs.Deltas.{delta_added, delta_scaled}
+use Rattle.spec_tableaux.specs.Deltas.{delta_added, delta_scaled}
 use Rattle.spec_tableaux.specs.Spaces.{Pair}
 use Rattle.spec_tableaux.specs.Rows.{Row, coefficient_of, is_basic}
 use Rattle.spec_tableaux.specs.SolvedForms.{IsNonbasic}
@@ -12,9 +12,9 @@ use Rattle.spec_tableaux.proofs.Numbers.{numbers_are_ordered_field}
 use Rattle.spec_tableaux.proofs.Steps.{same_eqb}
 use Rattle.spec_tableaux.proofs.Sums.{plus_origin_right}
 use Rattle.tableau.specs.Views.{IsColumn, row_at}
-use Rattle.spec_strains.specs.Points.{deltas, point_in, state_at, delta_in}
+use Rattle.spec_tableaux.specs.Points.{deltas, point_in, state_at, delta_in}
 use Rattle.simplex_check.specs.Changes.{is_changed}
-use Rattle.spec_strains.specs.CheckOverflows.{OverflowsMove, coefficient_in, product, sum_of_product}
+use Rattle.spec_tableaux.specs.BoundsOverflows.{OverflowsMove, coefficient_in, product, sum_of_product}
 use Rattle.simplex_check.specs.declared.changes.ValueChange.{ValueChange}
 use Rattle.simplex_check.proofs.Points.{deltas_are_space}
 use Rattle.simplex_check.proofs.RowPlaces.{HasPlace, has_place}

@@ -5,7 +5,7 @@ use Rattle.std.proofs.Math.Seq.{take-length}
 use Rattle.spec_text.proofs.Members.{none as no_member}
 use Rattle.spec_tableaux.specs.Spaces.{Pair}
 use Rattle.spec_tableaux.specs.Numbers.{Number}
-use Rattle.spec_strains.specs.Points.{point_in}
+use Rattle.spec_tableaux.specs.Points.{point_in}
 use Rattle.simplex_bounds.specs.Held.{RespectsBound}
 use Rattle.simplex_bounds.specs.declared.bounds.Bound.{Bound}
 use Rattle.simplex_check.specs.Suspects.{KeepsFirst}

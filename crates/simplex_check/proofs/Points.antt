@@ -10,7 +10,7 @@ use Rattle.spec_tableaux.specs.Numbers.{Number, numbers}
 use Rattle.spec_tableaux.proofs.Numbers.{numbers_are_ordered_field}
 use Rattle.spec_tableaux.proofs.OrderedSpaces.{pairs_are_space, pairs_are_ordered}
 use Rattle.simplex_bounds.specs.Deltas.{pair_of}
-use Rattle.spec_strains.specs.Points.{deltas, point_in}
+use Rattle.spec_tableaux.specs.Points.{deltas, point_in}
 
 pub deltas_are_space : IsSpace deltas
 deltas_are_space = pairs_are_space numbers numbers_are_ordered_field

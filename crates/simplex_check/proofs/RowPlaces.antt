@@ -9,8 +9,8 @@ use Rattle.spec_tableaux.specs.LeastVariable.{State, is_out}
 use Rattle.spec_tableaux.specs.Numbers.{Number, numbers}
 use Rattle.spec_tableaux.proofs.Steps.{same_eqb}
 use Rattle.tableau.specs.Views.{row_at, no_row}
-use Rattle.spec_strains.specs.Points.{deltas}
-use Rattle.spec_strains.specs.CheckOverflows.{coefficient_in}
+use Rattle.spec_tableaux.specs.Points.{deltas}
+use Rattle.spec_tableaux.specs.BoundsOverflows.{coefficient_in}
 use Rattle.tableau.proofs.Exchanging.{basic_at}
 
 pub basic_of : (rs : List (Row Number)) (k b : ℕ) → k < length rs → b ≡ (row_at rs k).basic → is_basic b rs ≡ true

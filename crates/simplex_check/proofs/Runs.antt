@@ -10,11 +10,11 @@ use Rattle.sat_budget.specs.declared.limits.Stop.TheVariants as stops
 use Rattle.tableau.specs.Views.{OnRowOverflow}
 use Rattle.tableau.specs.declared.stops.RowStop.{RowStop}
 use Rattle.tableau.specs.declared.stops.RowStop.TheVariants as row_stops
-use Rattle.spec_strains.specs.Points.{deltas, Ranges, AssignmentState}
+use Rattle.spec_tableaux.specs.Points.{deltas, Ranges, AssignmentState}
 use Rattle.simplex_check.specs.Assignments.{AssignmentView, state_of}
-use Rattle.spec_strains.specs.CheckOverflows.{CheckOverflows}
+use Rattle.spec_tableaux.specs.BoundsOverflows.{CheckOverflows}
 use Rattle.simplex_check.specs.Ends.{StopsStep, StopsUpdating, IsStopOf, EndsCheck}
-use Rattle.spec_strains.specs.Runs.{Ran, RanShort, updating_nonbasic, exchanging}
+use Rattle.spec_tableaux.specs.Runs.{Ran, RanShort, updating_nonbasic, exchanging}
 
 append_nil : (xs : List (ℕ × ℕ)) → xs ++ [] ≡ xs
 append_nil [] = refl

@@ -4,7 +4,7 @@ use Rattle.std.proofs.lemmas.List.{length-map}
 use Rattle.std.proofs.lemmas.Bool.{and_parts, not-true}
 use Rattle.std.proofs.lemmas.Bool.Decides.{nat_tests}
 use Rattle.spec_numbers.specs.Bounds.{Overflow}
-use Rattle.spec_strains.specs.Deltas.{delta_subtracted, delta_divided}
+use Rattle.spec_tableaux.specs.Deltas.{delta_subtracted, delta_divided}
 use Rattle.delta_num.specs.declared.delta.Delta.{Delta}
 use Rattle.spec_tableaux.specs.Spaces.{Pair, space_difference}
 use Rattle.spec_tableaux.specs.Rows.{Entry, Row, Solves, coefficient_of, row_of, is_basic}
@@ -21,11 +21,11 @@ use Rattle.spec_tableaux.proofs.Returns.{says_pivot}
 use Rattle.spec_tableaux.proofs.Sums.{three, plus_origin_right}
 use Rattle.tableau.specs.Views.{TableauView, IsTableau, with_exchange}
 use Rattle.simplex_bounds.specs.Deltas.{pair_of}
-use Rattle.spec_strains.specs.Points.{deltas, point_in, Ranges, delta_in}
+use Rattle.spec_tableaux.specs.Points.{deltas, point_in, Ranges, delta_in}
 use Rattle.simplex_check.specs.Assignments.{AssignmentView, state_of}
 use Rattle.simplex_check.specs.Changes.{Lead, written}
 use Rattle.simplex_check.specs.Moves.{keeps}
-use Rattle.spec_strains.specs.CheckOverflows.{coefficient_in, Violates, goal, gap, OverflowsMove, enters, updates_nonbasic, CheckOverflows, difference, quotient, move, rows}
+use Rattle.spec_tableaux.specs.BoundsOverflows.{coefficient_in, Violates, goal, gap, OverflowsMove, enters, updates_nonbasic, CheckOverflows, difference, quotient, move, rows}
 use Rattle.simplex_check.specs.declared.changes.ValueChange.{ValueChange}
 use Rattle.simplex_check.proofs.Points.{deltas_are_space, same_point}
 use Rattle.simplex_check.proofs.Writing.{written_leads}

@@ -4,7 +4,7 @@ use Rattle.std.proofs.Math.ListN.{get_or-append}
 use Rattle.std.proofs.Math.Seq.{get_or-append_seam}
 use Rattle.std.proofs.lemmas.List.{append-nil}
 use Rattle.spec_numbers.specs.Bounds.{Overflow}
-use Rattle.spec_strains.specs.Deltas.{delta_added, delta_scaled}
+use Rattle.spec_tableaux.specs.Deltas.{delta_added, delta_scaled}
 use Rattle.spec_tableaux.specs.Spaces.{Space, IsSpace, Pair}
 use Rattle.spec_tableaux.specs.Rows.{Entry, Row, Solves, is_basic, sum_of}
 use Rattle.spec_tableaux.specs.SolvedForms.{AllVariables, AllRowVariables}
@@ -12,9 +12,9 @@ use Rattle.spec_tableaux.specs.Numbers.{Number}
 use Rattle.spec_tableaux.proofs.Growing.{row_added}
 use Rattle.spec_tableaux.proofs.Steps.{agreeing_sums, same_eqb}
 use Rattle.tableau.specs.Views.{TableauView, IsTableau, with_variable, with_sum}
-use Rattle.spec_strains.specs.Points.{deltas, point_in, delta_in}
+use Rattle.spec_tableaux.specs.Points.{deltas, point_in, delta_in}
 use Rattle.simplex_check.specs.Assignments.{AssignmentView, IsRealAssignment}
-use Rattle.spec_strains.specs.CheckOverflows.{OverflowsValue, product, sum_of_product}
+use Rattle.spec_tableaux.specs.BoundsOverflows.{OverflowsValue, product, sum_of_product}
 use Rattle.simplex_check.proofs.Points.{deltas_are_space, same_point, point_more}
 
 -- an entry more at the end

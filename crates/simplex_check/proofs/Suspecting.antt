@@ -17,7 +17,7 @@ use Rattle.spec_tableaux.specs.LeastVariable.{IsLeast, is_out}
 use Rattle.spec_tableaux.specs.Numbers.{Number, numbers}
 use Rattle.spec_tableaux.proofs.SolvedForms.{nonbasic_after, leaving_nonbasic, apart}
 use Rattle.spec_tableaux.proofs.Steps.{same_eqb}
-use Rattle.spec_strains.specs.Points.{deltas, Ranges, AssignmentState}
+use Rattle.spec_tableaux.specs.Points.{deltas, Ranges, AssignmentState}
 use Rattle.simplex_check.specs.Changes.{Lead, is_changed}
 use Rattle.simplex_check.specs.Suspects.{is_among, Suspect, SuspectBut}
 use Rattle.simplex_check.specs.declared.changes.ValueChange.{ValueChange}

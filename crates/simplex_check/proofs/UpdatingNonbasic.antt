@@ -11,8 +11,8 @@ use Rattle.spec_tableaux.specs.Ranges.{Range, below, above, is_within, bound_or,
 use Rattle.spec_tableaux.specs.LeastVariable.{UpdatesNonbasic, is_out}
 use Rattle.spec_tableaux.specs.Numbers.{Number}
 use Rattle.spec_tableaux.proofs.Steps.{same_eqb}
-use Rattle.spec_strains.specs.Points.{deltas, point_in, state_at, Ranges, AssignmentState}
-use Rattle.spec_strains.specs.Runs.{UpdatesBelow}
+use Rattle.spec_tableaux.specs.Points.{deltas, point_in, state_at, Ranges, AssignmentState}
+use Rattle.spec_tableaux.specs.Runs.{UpdatesBelow}
 use Rattle.simplex_bounds.specs.Held.{ranges_in, RespectsBound}
 use Rattle.simplex_bounds.specs.declared.bounds.Bound.{Bound}
 use Rattle.simplex_bounds.proofs.Keeping.{within_by}

@@ -7,7 +7,7 @@ use Rattle.spec_tableaux.specs.Spaces.{Pair}
 use Rattle.spec_tableaux.specs.Numbers.{Number}
 use Rattle.spec_tableaux.proofs.Steps.{same_eqb}
 use Rattle.simplex_bounds.specs.Deltas.{pair_of}
-use Rattle.spec_strains.specs.Points.{point_in}
+use Rattle.spec_tableaux.specs.Points.{point_in}
 use Rattle.simplex_check.specs.Changes.{is_changed, written, ChangesAreBelow, ComeTo}
 use Rattle.simplex_check.specs.declared.changes.ValueChange.{ValueChange}
 use Rattle.simplex_check.proofs.Points.{same_point, point_set}

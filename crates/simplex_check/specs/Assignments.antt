@@ -6,7 +6,7 @@ use Rattle.spec_tableaux.specs.LeastVariable.{State}
 use Rattle.spec_tableaux.specs.Numbers.{Number}
 use Rattle.tableau.specs.Views.{TableauView, empty, with_variable, with_sum}
 use Rattle.simplex_bounds.specs.Deltas.{pair_of}
-use Rattle.spec_strains.specs.Points.{deltas, point_in}
+use Rattle.spec_tableaux.specs.Points.{deltas, point_in}
 use Rattle.sat_budget.specs.declared.limits.Basis.{Basis}
 
 -- A tableau, and the values of its variables.

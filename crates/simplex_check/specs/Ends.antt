@@ -9,10 +9,10 @@ use Rattle.sat_budget.specs.declared.limits.Stop.TheVariants.{Strained, Pivots}
 use Rattle.sat_budget.specs.declared.limits.Stop.TheVariants as stops
 use Rattle.tableau.specs.declared.stops.RowStop.{RowStop}
 use Rattle.tableau.specs.declared.stops.RowStop.TheVariants as row_stops
-use Rattle.spec_strains.specs.Points.{deltas, Ranges}
+use Rattle.spec_tableaux.specs.Points.{deltas, Ranges}
 use Rattle.simplex_check.specs.Assignments.{AssignmentView, state_of, IsBasisOf}
-use Rattle.spec_strains.specs.CheckOverflows.{CheckOverflows}
-use Rattle.spec_strains.specs.Runs.{UpdatesBelow, Ran, Stopped, WantsMore}
+use Rattle.spec_tableaux.specs.BoundsOverflows.{CheckOverflows}
+use Rattle.spec_tableaux.specs.Runs.{UpdatesBelow, Ran, Stopped, WantsMore}
 use Rattle.simplex_check.specs.declared.check.CheckOutcome.{CheckOutcome}
 use Rattle.simplex_check.specs.declared.check.CheckOutcome.TheVariants.{Fine, Crossed, Conflict}
 

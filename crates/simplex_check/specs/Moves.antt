@@ -4,7 +4,7 @@ use Rattle.spec_tableaux.specs.Spaces.{Pair}
 use Rattle.spec_tableaux.specs.Ranges.{Range, below, above}
 use Rattle.spec_tableaux.specs.LeastVariable.{done, crossed, stuck, exchange, Move as RuleMove}
 use Rattle.spec_tableaux.specs.Numbers.{Number}
-use Rattle.spec_strains.specs.Points.{deltas}
+use Rattle.spec_tableaux.specs.Points.{deltas}
 use Rattle.simplex_check.specs.declared.rule.Move.{Move}
 use Rattle.simplex_check.specs.declared.rule.Move.TheVariants.{Done, Crossed, Conflict, Exchange}
 

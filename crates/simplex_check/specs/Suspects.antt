@@ -5,7 +5,7 @@ use Rattle.spec_tableaux.specs.Numbers.{Number}
 use Rattle.spec_tableaux.specs.Ranges.{value_in_range}
 use Rattle.spec_tableaux.specs.LeastVariable.{is_out}
 use Rattle.spec_tableaux.specs.SolvedForms.{IsNonbasic}
-use Rattle.spec_strains.specs.Points.{deltas, point_in, Ranges, AssignmentState}
+use Rattle.spec_tableaux.specs.Points.{deltas, point_in, Ranges, AssignmentState}
 use Rattle.simplex_bounds.specs.Held.{RespectsBound}
 use Rattle.simplex_bounds.specs.declared.bounds.Bound.{Bound}
 use Rattle.simplex_check.specs.declared.rule.Move.{Move}

@@ -7,9 +7,9 @@ ghost use Rattle.tableau.specs.Entries.{entries_of};
 ghost use Rattle.tableau.specs.Views.{OnRowOverflow};
 ghost use Rattle.simplex_bounds.specs.Deltas.{pair_of};
 ghost use Rattle.simplex_check.specs.Assignments.{IsRealAssignment, IsBasisOf, state_of};
-ghost use Rattle.spec_strains.specs.Points.{point_in};
+ghost use Rattle.spec_tableaux.specs.Points.{point_in};
 ghost use Rattle.simplex_check.specs.Assignments.{empty_assignment, assignment_with_variable, assignment_with_sum};
-ghost use Rattle.spec_strains.specs.CheckOverflows.{OverflowsNew};
+ghost use Rattle.spec_tableaux.specs.BoundsOverflows.{OverflowsNew};
 
 use crate::sums::sum_at;
 use delta_num::Delta;

@@ -2,7 +2,7 @@
 
 ghost use Rattle.std.specs.Prelude.{◌≡◌, ◌<◌, ℕ, length, map};
 ghost use Rattle.simplex_bounds.specs.Deltas.{pair_of};
-ghost use Rattle.spec_strains.specs.Points.{point_in};
+ghost use Rattle.spec_tableaux.specs.Points.{point_in};
 ghost use Rattle.simplex_check.specs.Changes.{ChangesAreBelow, written};
 
 use delta_num::Delta;

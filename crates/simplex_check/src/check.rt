@@ -2,7 +2,7 @@
 
 ghost use Rattle.std.specs.Prelude.{◌≡◌, ◌≤◌, ◌<◌, ℕ, true, OnOk, OnErr, IfOk, IfErr};
 ghost use Rattle.spec_tableaux.specs.LeastVariable.{RuleSays, Exchanges, UpdatesNonbasic, exchange};
-ghost use Rattle.spec_strains.specs.Points.{deltas};
+ghost use Rattle.spec_tableaux.specs.Points.{deltas};
 ghost use Rattle.simplex_bounds.specs.Held.{ranges_in};
 ghost use Rattle.simplex_check.specs.Assignments.{IsRealAssignment, state_of};
 ghost use Rattle.simplex_check.specs.Ends.{EndsCheck, StopsStep, StopsUpdating};

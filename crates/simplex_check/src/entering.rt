@@ -8,7 +8,7 @@ ghost use Rattle.spec_tableaux.specs.LeastVariable.{IsLeast};
 ghost use Rattle.spec_tableaux.specs.Numbers.{numbers};
 ghost use Rattle.tableau.specs.Numbers.{number_of};
 ghost use Rattle.tableau.specs.Entries.{entries_of};
-ghost use Rattle.spec_strains.specs.Points.{deltas, point_in};
+ghost use Rattle.spec_tableaux.specs.Points.{deltas, point_in};
 ghost use Rattle.simplex_bounds.specs.Held.{ranges_in};
 
 use crate::assignment::RealAssignment;

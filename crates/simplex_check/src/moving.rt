@@ -5,9 +5,9 @@ ghost use Rattle.spec_tableaux.specs.SolvedForms.{IsNonbasic};
 ghost use Rattle.spec_tableaux.specs.LeastVariable.{moved};
 ghost use Rattle.tableau.specs.Views.{row_at, OnRowOverflow};
 ghost use Rattle.simplex_bounds.specs.Deltas.{pair_of};
-ghost use Rattle.spec_strains.specs.Points.{deltas, point_in, state_at};
+ghost use Rattle.spec_tableaux.specs.Points.{deltas, point_in, state_at};
 ghost use Rattle.simplex_check.specs.Changes.{ChangesAreBelow, Lead, is_changed};
-ghost use Rattle.spec_strains.specs.CheckOverflows.{OverflowsMove};
+ghost use Rattle.spec_tableaux.specs.BoundsOverflows.{OverflowsMove};
 
 use crate::changes::{ValueChange, value_at};
 use delta_num::Delta;

@@ -4,7 +4,7 @@ ghost use Rattle.std.specs.Prelude.{◌≡◌, ◌||◌, false, MatchOption};
 ghost use Rattle.spec_tableaux.specs.Ranges as ranges;
 ghost use Rattle.spec_tableaux.specs.LeastVariable as rule;
 ghost use Rattle.simplex_bounds.specs.Deltas.{pair_of, range_of};
-ghost use Rattle.spec_strains.specs.Points.{deltas};
+ghost use Rattle.spec_tableaux.specs.Points.{deltas};
 ghost use Rattle.simplex_check.specs.Moves.{keeps};
 
 use delta_num::Delta;

@@ -8,10 +8,10 @@ ghost use Rattle.spec_tableaux.specs.LeastVariable.{RuleSays, Exchanges, exchang
 ghost use Rattle.tableau.specs.Numbers.{number_of};
 ghost use Rattle.tableau.specs.Views.{OnRowOverflow};
 ghost use Rattle.simplex_bounds.specs.Deltas.{pair_of};
-ghost use Rattle.spec_strains.specs.Points.{deltas, point_in};
+ghost use Rattle.spec_tableaux.specs.Points.{deltas, point_in};
 ghost use Rattle.simplex_bounds.specs.Held.{ranges_in};
 ghost use Rattle.simplex_check.specs.Assignments.{IsRealAssignment, state_of};
-ghost use Rattle.spec_strains.specs.CheckOverflows.{coefficient_in, OverflowsMove, CheckOverflows};
+ghost use Rattle.spec_tableaux.specs.BoundsOverflows.{coefficient_in, OverflowsMove, CheckOverflows};
 ghost use Rattle.simplex_check.specs.Ends.{IsStopOf};
 ghost use Rattle.simplex_check.specs.Suspects.{Suspect, SuspectBut, HaveSuspects};
 

@@ -6,8 +6,8 @@ ghost use Rattle.spec_tableaux.specs.Rows.{sum_of};
 ghost use Rattle.spec_tableaux.specs.SolvedForms.{AllVariables};
 ghost use Rattle.tableau.specs.Entries.{entries_of};
 ghost use Rattle.simplex_bounds.specs.Deltas.{pair_of};
-ghost use Rattle.spec_strains.specs.Points.{deltas, point_in};
-ghost use Rattle.spec_strains.specs.CheckOverflows.{OverflowsValue};
+ghost use Rattle.spec_tableaux.specs.Points.{deltas, point_in};
+ghost use Rattle.spec_tableaux.specs.BoundsOverflows.{OverflowsValue};
 
 use crate::changes::value_at;
 use delta_num::Delta;

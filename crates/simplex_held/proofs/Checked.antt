@@ -3,7 +3,7 @@ use Rattle.std.proofs.Common.{Ok}
 use Rattle.spec_tableaux.specs.Ranges.{Meets}
 use Rattle.spec_tableaux.proofs.Steps.{done_meets}
 use Rattle.sat_budget.specs.Budgets.{BudgetView}
-use Rattle.spec_strains.specs.Points.{deltas, point_in, Ranges}
+use Rattle.spec_tableaux.specs.Points.{deltas, point_in, Ranges}
 use Rattle.simplex_check.specs.Assignments.{AssignmentView, state_of}
 use Rattle.simplex_check.specs.Ends.{EndsCheck}
 use Rattle.simplex_check.specs.declared.check.CheckOutcome.TheVariants.{Fine}

@@ -8,7 +8,7 @@ use Rattle.spec_tableaux.specs.Numbers.{Number}
 use Rattle.spec_simplex.specs.Points.{Point}
 use Rattle.term_core.specs.declared.ids.TermId.{TermId}
 use Rattle.term_core.specs.Tables.{TableView, term_at, AreDifferent}
-use Rattle.spec_strains.specs.Points.{deltas}
+use Rattle.spec_tableaux.specs.Points.{deltas}
 use Rattle.simplex_atoms.specs.Owners.{owner_at, AreOwnedOnce, AreOwnersIn, AreOwned}
 
 -- a variable stands for this term

@@ -4,7 +4,7 @@ use Rattle.spec_tableaux.specs.Ranges.{Meets}
 use Rattle.term_core.specs.declared.ids.Lit.{Lit}
 use Rattle.term_core.specs.Tables.{TableView, AreDifferent}
 use Rattle.tableau.specs.Views.{IsTableau}
-use Rattle.spec_strains.specs.Points.{deltas, point_in}
+use Rattle.spec_tableaux.specs.Points.{deltas, point_in}
 use Rattle.simplex_bounds.specs.Held.{BoundsView, ranges_in}
 use Rattle.simplex_check.specs.Assignments.{AssignmentView}
 use Rattle.simplex_atoms.specs.Atoms.{AtomsView, AtomsFit}

@@ -10,7 +10,7 @@ ghost use Rattle.term_core.specs.Tables.{TableView, literal_at};
 ghost use Rattle.sat_budget.specs.Budgets.{BudgetView};
 ghost use Rattle.proof_log.specs.Theories.{TheoryView, IsTheoryOver, terms_watched};
 ghost use Rattle.simplex_bounds.specs.declared.bounds.Bound.{Bound};
-ghost use Rattle.spec_strains.specs.Points.{deltas, point_in, Ranges};
+ghost use Rattle.spec_tableaux.specs.Points.{deltas, point_in, Ranges};
 ghost use Rattle.simplex_bounds.specs.Held.{BoundsView};
 ghost use Rattle.simplex_check.specs.Assignments.{AssignmentView};
 ghost use Rattle.simplex_check.specs.Ends.{EndsCheck};

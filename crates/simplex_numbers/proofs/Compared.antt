@@ -19,7 +19,7 @@ use Rattle.term_core.specs.Tables.{TableView, term_at, literal_at}
 use Rattle.tableau.specs.Numbers.{number_of}
 use Rattle.simplex_bounds.specs.Held.{BoundsView, ranges_in}
 use Rattle.simplex_check.specs.Assignments.{AssignmentView}
-use Rattle.spec_strains.specs.Points.{point_in}
+use Rattle.spec_tableaux.specs.Points.{point_in}
 use Rattle.simplex_atoms.specs.Owners.{AreOwned}
 use Rattle.simplex_atoms.specs.Atoms.{AtomsView, setting_of, ground_of}
 use Rattle.simplex_atoms.proofs.Values.{tilt_comes}
@@ -27,7 +27,7 @@ use Rattle.simplex_held.specs.Keeping.{KeepsHeld}
 use Rattle.simplex_held.proofs.Stating.{all_from}
 use Rattle.simplex_held.proofs.Feasible.{slack_list, solved, literal_kept}
 use Rattle.simplex_numbers.specs.Values.{flat, assignment_at_number, KeepsAt}
-use Rattle.spec_strains.specs.Halves.{at_number}
+use Rattle.spec_tableaux.specs.Halves.{at_number}
 use Rattle.simplex_numbers.proofs.Flat.{flat_point}
 use Rattle.simplex_numbers.proofs.Holding.{held_at}
 use Rattle.simplex_numbers.proofs.Sides.{real_sides}

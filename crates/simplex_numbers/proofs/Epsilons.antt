@@ -4,8 +4,8 @@ use Rattle.spec_text.proofs.Members.{none as no_member}
 use Rattle.spec_tableaux.specs.Spaces.{Pair}
 use Rattle.spec_tableaux.specs.Ranges.{Range}
 use Rattle.spec_tableaux.specs.Numbers.{Number, numbers}
-use Rattle.spec_strains.specs.Points.{Ranges}
-use Rattle.spec_strains.specs.Halves.{IsSteeper, halfway, OverflowsApart, OverflowsNumber, values}
+use Rattle.spec_tableaux.specs.Points.{Ranges}
+use Rattle.spec_tableaux.specs.Halves.{IsSteeper, halfway, OverflowsApart, OverflowsNumber, values}
 use Rattle.spec_causes.specs.Causes.{IsHalfAbove, IsHalfBelow, IsHalfIn, IsHalfAmong, IsEpsilon}
 use Rattle.ratio128.specs.declared.ratio.Ratio.{Ratio}
 use Rattle.ratio128.specs.declared.wide.Wide.{Wide}

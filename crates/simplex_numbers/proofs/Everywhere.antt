@@ -7,7 +7,7 @@ use Rattle.spec_tableaux.specs.Spaces.{Pair}
 use Rattle.spec_tableaux.specs.Ranges.{Range}
 use Rattle.spec_tableaux.specs.Numbers.{Number, numbers}
 use Rattle.spec_causes.specs.Causes.{IsHalfIn, IsEpsilon}
-use Rattle.spec_strains.specs.Halves.{is_less}
+use Rattle.spec_tableaux.specs.Halves.{is_less}
 use Rattle.simplex_bounds.specs.declared.bounds.Bound.{Bound}
 use Rattle.simplex_bounds.specs.declared.bounds.Side.{Side}
 use Rattle.simplex_bounds.specs.declared.bounds.Side.TheVariants.{Lower, Upper}

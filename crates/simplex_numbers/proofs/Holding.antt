@@ -8,7 +8,7 @@ use Rattle.term_core.specs.declared.ids.Lit.{Lit}
 use Rattle.term_core.specs.Tables.{TableView}
 use Rattle.simplex_bounds.specs.declared.bounds.Bound.{Bound}
 use Rattle.simplex_bounds.specs.Deltas.{pair_of}
-use Rattle.spec_strains.specs.Points.{deltas, point_in}
+use Rattle.spec_tableaux.specs.Points.{deltas, point_in}
 use Rattle.simplex_bounds.specs.Held.{BoundsView, ranges_in}
 use Rattle.simplex_check.specs.Assignments.{AssignmentView}
 use Rattle.simplex_check.proofs.Points.{same_point}
@@ -19,7 +19,7 @@ use Rattle.simplex_held.specs.Keeping.{KeepsHeld}
 use Rattle.simplex_held.proofs.Stating.{bounds_stated}
 use Rattle.simplex_held.proofs.Assignments.{fit}
 use Rattle.simplex_numbers.specs.Values.{flat, assignment_at_number, IsInward, KeepsAt}
-use Rattle.spec_strains.specs.Halves.{at_number}
+use Rattle.spec_tableaux.specs.Halves.{at_number}
 use Rattle.simplex_numbers.proofs.Tilts.{inward}
 use Rattle.simplex_numbers.proofs.Flat.{flat_solves, flat_point, flat_within}
 

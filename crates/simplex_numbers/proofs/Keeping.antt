@@ -9,10 +9,10 @@ use Rattle.spec_tableaux.proofs.OrderedSpaces.{pairs_are_ordered}
 use Rattle.ratio128.specs.declared.ratio.Ratio.{Ratio}
 use Rattle.ratio128.specs.declared.wide.Wide.{Wide}
 use Rattle.tableau.specs.Numbers.{number_of}
-use Rattle.spec_strains.specs.Points.{deltas, Ranges}
+use Rattle.spec_tableaux.specs.Points.{deltas, Ranges}
 use Rattle.simplex_check.specs.Moves.{keeps}
 use Rattle.simplex_numbers.specs.Values.{bound_at, range_at, IsSmaller, StaysLess, StaysAbove, StaysBelow, StaysOff, KeepsAt}
-use Rattle.spec_strains.specs.Halves.{at_number, is_less}
+use Rattle.spec_tableaux.specs.Halves.{at_number, is_less}
 use Rattle.simplex_numbers.proofs.Orders.{less_stays, smaller_smaller, asymmetric}
 
 -- what is not greater is not so at the number

@@ -24,9 +24,9 @@ use Rattle.tableau.specs.Numbers.{number_of}
 use Rattle.tableau.proofs.Comparing.{less_at, not_less_at}
 use Rattle.simplex_bounds.specs.Deltas.{pair_of}
 use Rattle.simplex_check.proofs.Points.{deltas_are_ordered as o}
-use Rattle.spec_strains.specs.Deltas.{delta_compare}
-use Rattle.spec_strains.specs.Points.{deltas}
-use Rattle.spec_strains.specs.Halves.{at_number, is_less, IsSteeper, two, halfway, OverflowsOrder, OverflowsApart}
+use Rattle.spec_tableaux.specs.Deltas.{delta_compare}
+use Rattle.spec_tableaux.specs.Points.{deltas}
+use Rattle.spec_tableaux.specs.Halves.{at_number, is_less, IsSteeper, two, halfway, OverflowsOrder, OverflowsApart}
 use Rattle.spec_causes.specs.Causes.{IsHalfAmong}
 use Rattle.simplex_numbers.specs.Values.{IsSmaller, IsAboveNone, IsClear, KeepsApart, by_value}
 use Rattle.simplex_numbers.proofs.Orders.{irreflexive, not_above, steep_less, level_stays, steep_stays, half_stays, at_double, double_positive}

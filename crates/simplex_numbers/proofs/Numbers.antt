@@ -8,12 +8,12 @@ use Rattle.ratio128.specs.declared.ratio.Ratio.{Ratio}
 use Rattle.ratio128.specs.declared.wide.Wide.{Wide}
 use Rattle.ratio128.specs.Meant.{fraction, overflow, outcome}
 use Rattle.delta_num.specs.declared.delta.Delta.{Delta}
-use Rattle.spec_strains.specs.Deltas.{delta_evaluated, delta_at}
+use Rattle.spec_tableaux.specs.Deltas.{delta_evaluated, delta_at}
 use Rattle.delta_num.specs.Meant.{delta}
 use Rattle.delta_num.proofs.Results.{value_exact}
 use Rattle.tableau.specs.Numbers.{number_of}
 use Rattle.simplex_bounds.specs.Deltas.{pair_of}
-use Rattle.spec_strains.specs.Halves.{at_number, two}
+use Rattle.spec_tableaux.specs.Halves.{at_number, two}
 
 two_fraction : divide (whole (pos 2)) (whole (pos 1)) ≡ two.fraction
 unfolding numbers fractions gcd plus times inverse

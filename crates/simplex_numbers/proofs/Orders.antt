@@ -9,7 +9,7 @@ use Rattle.spec_tableaux.proofs.OrderedSpaces.{pairs_are_ordered}
 use Rattle.spec_tableaux.proofs.Groups.{inner_two}
 use Rattle.spec_tableaux.proofs.Signs.{sum_zero_right, zero_product, opposite_sum, opposite_product, opposite_zero, difference_opposite, difference_scale, difference_self, product_sign}
 use Rattle.simplex_numbers.specs.Values.{StaysLess, IsSmaller}
-use Rattle.spec_strains.specs.Halves.{at_number, is_less, gap, steepness, IsSteeper, two, meeting, halfway}
+use Rattle.spec_tableaux.specs.Halves.{at_number, is_less, gap, steepness, IsSteeper, two, meeting, halfway}
 
 -- signs
 

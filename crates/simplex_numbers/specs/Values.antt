@@ -9,9 +9,9 @@ use Rattle.spec_tableaux.specs.Numbers.{Number, numbers}
 use Rattle.simplex_bounds.specs.declared.bounds.Side.{Side}
 use Rattle.simplex_bounds.specs.declared.bounds.Side.TheVariants.{Lower, Upper}
 use Rattle.simplex_bounds.specs.Deltas.{pair_of}
-use Rattle.spec_strains.specs.Points.{deltas, Ranges}
+use Rattle.spec_tableaux.specs.Points.{deltas, Ranges}
 use Rattle.simplex_check.specs.Assignments.{AssignmentView}
-use Rattle.spec_strains.specs.Halves.{is_less, at_number, IsSteeper, halfway}
+use Rattle.spec_tableaux.specs.Halves.{is_less, at_number, IsSteeper, halfway}
 
 -- d is above 0, and not greater than e
 abbrev pub IsSmaller : Number → Number → Type 0

@@ -8,7 +8,7 @@ ghost use Rattle.spec_tableaux.specs.Numbers.{numbers};
 ghost use Rattle.tableau.specs.Numbers.{number_of};
 ghost use Rattle.simplex_bounds.specs.Deltas.{pair_of};
 ghost use Rattle.simplex_numbers.specs.Values.{IsSmaller, IsAboveNone, by_value};
-ghost use Rattle.spec_strains.specs.Halves.{OverflowsApart};
+ghost use Rattle.spec_tableaux.specs.Halves.{OverflowsApart};
 ghost use Rattle.spec_causes.specs.Causes.{IsHalfAmong};
 
 use crate::narrowing::narrowed;

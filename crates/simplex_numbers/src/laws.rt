@@ -14,7 +14,7 @@ ghost use Rattle.term_core.specs.declared.ids.Lit.{Lit};
 ghost use Rattle.term_core.specs.Tables.{TableView, term_at, literal_at};
 ghost use Rattle.simplex_bounds.specs.declared.bounds.Bound.{Bound};
 ghost use Rattle.simplex_bounds.specs.Deltas.{pair_of};
-ghost use Rattle.spec_strains.specs.Points.{deltas, point_in};
+ghost use Rattle.spec_tableaux.specs.Points.{deltas, point_in};
 ghost use Rattle.simplex_bounds.specs.Held.{BoundsView, ranges_in};
 ghost use Rattle.simplex_check.specs.Assignments.{AssignmentView};
 ghost use Rattle.simplex_atoms.specs.declared.slack.Slack.{Slack};
@@ -23,7 +23,7 @@ ghost use Rattle.simplex_atoms.specs.Limits.{Limit, limits_by};
 ghost use Rattle.simplex_atoms.specs.Atoms.{AtomsView};
 ghost use Rattle.simplex_held.specs.Keeping.{KeepsHeld};
 ghost use Rattle.simplex_numbers.specs.Values.{flat, assignment_at_number, IsInward, IsSmaller, StaysLess, KeepsAt};
-ghost use Rattle.spec_strains.specs.Halves.{at_number};
+ghost use Rattle.spec_tableaux.specs.Halves.{at_number};
 
 /// States that values that solve rows do so at each number in the place of the infinitesimal.
 pub fn rows_hold_at_numbers()

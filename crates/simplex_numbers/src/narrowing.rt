@@ -7,10 +7,10 @@ ghost use Rattle.spec_tableaux.specs.Ranges.{below, above};
 ghost use Rattle.spec_tableaux.specs.Numbers.{numbers};
 ghost use Rattle.tableau.specs.Numbers.{number_of};
 ghost use Rattle.simplex_bounds.specs.Deltas.{pair_of, pair_in, range_of};
-ghost use Rattle.spec_strains.specs.Points.{deltas};
+ghost use Rattle.spec_tableaux.specs.Points.{deltas};
 ghost use Rattle.simplex_check.specs.Moves.{keeps};
 ghost use Rattle.simplex_numbers.specs.Values.{IsSmaller, IsAboveNone, StaysLess, StaysAbove, StaysBelow, StaysOff};
-ghost use Rattle.spec_strains.specs.Halves.{two, is_less, IsSteeper, halfway, OverflowsOrder, OverflowsLower, OverflowsUpper, OverflowsRange};
+ghost use Rattle.spec_tableaux.specs.Halves.{two, is_less, IsSteeper, halfway, OverflowsOrder, OverflowsLower, OverflowsUpper, OverflowsRange};
 ghost use Rattle.spec_causes.specs.Causes.{IsHalfAbove, IsHalfBelow, IsHalfIn};
 
 use delta_num::Delta;

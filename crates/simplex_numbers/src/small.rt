@@ -7,11 +7,11 @@ ghost use Rattle.spec_tableaux.specs.Fields.{is_positive};
 ghost use Rattle.spec_tableaux.specs.Ranges.{Meets};
 ghost use Rattle.spec_tableaux.specs.Numbers.{numbers};
 ghost use Rattle.tableau.specs.Numbers.{number_of};
-ghost use Rattle.spec_strains.specs.Points.{deltas, point_in};
+ghost use Rattle.spec_tableaux.specs.Points.{deltas, point_in};
 ghost use Rattle.simplex_bounds.specs.Deltas.{pair_of};
 ghost use Rattle.simplex_bounds.specs.Held.{ranges_in};
 ghost use Rattle.simplex_numbers.specs.Values.{KeepsAt, KeepsApart, StaysOff};
-ghost use Rattle.spec_strains.specs.Halves.{OverflowsNumber};
+ghost use Rattle.spec_tableaux.specs.Halves.{OverflowsNumber};
 ghost use Rattle.spec_causes.specs.Causes.{IsEpsilon};
 
 use crate::apart::narrowed_apart;

@@ -2,11 +2,11 @@
 
 ghost use Rattle.std.specs.Prelude.{◌≡◌, IfOk, IfErr, Err};
 ghost use Rattle.ratio128.specs.Meant.{fraction, overflow};
-ghost use Rattle.spec_strains.specs.Deltas.{delta_evaluated};
+ghost use Rattle.spec_tableaux.specs.Deltas.{delta_evaluated};
 ghost use Rattle.delta_num.specs.Meant.{delta};
 ghost use Rattle.tableau.specs.Numbers.{number_of};
 ghost use Rattle.simplex_bounds.specs.Deltas.{pair_of};
-ghost use Rattle.spec_strains.specs.Halves.{at_number};
+ghost use Rattle.spec_tableaux.specs.Halves.{at_number};
 
 use delta_num::Delta;
 use ratio128::{Ratio, Wide};

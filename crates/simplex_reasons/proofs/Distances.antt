@@ -20,7 +20,7 @@ use Rattle.spec_tableaux.proofs.PairSolutions.{pair_parts, parts_pair}
 use Rattle.simplex_bounds.specs.declared.bounds.Bound.{Bound}
 use Rattle.simplex_bounds.specs.declared.bounds.Side.TheVariants.{Lower, Upper}
 use Rattle.simplex_bounds.specs.Deltas.{pair_of}
-use Rattle.spec_strains.specs.Points.{deltas}
+use Rattle.spec_tableaux.specs.Points.{deltas}
 use Rattle.simplex_bounds.specs.Held.{strongest, value_in, range_in, ranges_in}
 use Rattle.simplex_atoms.specs.Limits.{side_by}
 use Rattle.simplex_reasons.specs.Stops.{stop_of, AreAllStopped, value_of, all_beyond}

@@ -9,8 +9,8 @@ use Rattle.spec_tableaux.proofs.UpdatingNonbasic.{updates_updated}
 use Rattle.spec_tableaux.proofs.Steps.{exchange_updated}
 use Rattle.term_core.specs.declared.ids.Lit.{Lit}
 use Rattle.simplex_bounds.specs.declared.bounds.Bound.{Bound}
-use Rattle.spec_strains.specs.Points.{deltas, AssignmentState, Ranges}
-use Rattle.spec_strains.specs.Runs.{Ran}
+use Rattle.spec_tableaux.specs.Points.{deltas, AssignmentState, Ranges}
+use Rattle.spec_tableaux.specs.Runs.{Ran}
 use Rattle.simplex_check.proofs.Points.{deltas_are_ordered}
 use Rattle.simplex_atoms.specs.declared.slack.Slack.{Slack}
 use Rattle.simplex_atoms.specs.Slacks.{slack_in}

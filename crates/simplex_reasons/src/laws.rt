@@ -3,8 +3,8 @@
 ghost use Rattle.std.specs.Prelude.{◌≡◌, ℕ, false, List};
 ghost use Rattle.spec_tableaux.specs.Ranges.{is_crossed};
 ghost use Rattle.spec_tableaux.specs.LeastVariable.{IsNonbasicFeasible};
-ghost use Rattle.spec_strains.specs.Points.{deltas, Ranges, AssignmentState};
-ghost use Rattle.spec_strains.specs.Runs.{Ran};
+ghost use Rattle.spec_tableaux.specs.Points.{deltas, Ranges, AssignmentState};
+ghost use Rattle.spec_tableaux.specs.Runs.{Ran};
 
 /// States that nonbasic variables keep their bounds after the exchanges of a check, where no bounds cross.
 pub fn checks_keep_nonbasic_bounds()

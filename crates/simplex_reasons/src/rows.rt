@@ -4,7 +4,7 @@ ghost use Rattle.std.specs.Prelude.{◌≡◌, true, IfOk, IfErr};
 ghost use Rattle.spec_tableaux.specs.Rows.{row_of};
 ghost use Rattle.spec_tableaux.specs.Ranges.{is_crossed};
 ghost use Rattle.spec_tableaux.specs.LeastVariable.{RuleSays, IsNonbasicFeasible, goes_up, stuck};
-ghost use Rattle.spec_strains.specs.Points.{deltas};
+ghost use Rattle.spec_tableaux.specs.Points.{deltas};
 ghost use Rattle.simplex_bounds.specs.Held.{ranges_in};
 ghost use Rattle.simplex_check.specs.Assignments.{state_of};
 ghost use Rattle.simplex_reasons.specs.Stops.{AreStated, HaveFactors};

@@ -7,8 +7,8 @@ use Rattle.std.proofs.lemmas.List.{length-map, get_or-map, get_or_default, get_o
 use Rattle.std.proofs.lemmas.List.Elements.{All-contains, All-append, All-weaker, Contains-get_or}
 use Rattle.spec_text.proofs.Members.{first, later, to_image, from_image}
 use Rattle.spec_numbers.specs.Fractions.{Fraction, zero_fraction, IsReduced}
-use Rattle.spec_strains.specs.Deltas.{number as delta_number}
-use Rattle.spec_strains.specs.Deltas.{Delta as Value}
+use Rattle.spec_tableaux.specs.Deltas.{number as delta_number}
+use Rattle.spec_tableaux.specs.Deltas.{Delta as Value}
 use Rattle.spec_sorts.specs.Terms.{Number, Symbol, Equal, Apply, Term, Terms, app, pair, sort_of}
 use Rattle.spec_sorts.specs.Subsets.{AreAmong}
 use Rattle.spec_sorts.specs.WellSorted.{IsWellSorted}

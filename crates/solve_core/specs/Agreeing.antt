@@ -1,7 +1,7 @@
 -- What both theories say of shared terms, and whether they agree. Source: Nelson and Oppen 1979.
 use Rattle.std.specs.Prelude.{◌≡◌, ◌+◌, ◌<◌, ℕ, List, length, map, get_or}
 use Rattle.spec_numbers.specs.Fractions.{Fraction, zero_fraction}
-use Rattle.spec_strains.specs.Deltas.{number}
+use Rattle.spec_tableaux.specs.Deltas.{number}
 use Rattle.spec_derivations.specs.Problems.{Problem}
 use Rattle.ratio128.specs.Meant.{fraction}
 use Rattle.delta_num.specs.Meant.{delta}

@@ -13,8 +13,8 @@ use Rattle.spec_tableaux.specs.Numbers.{Number, numbers, fractions}
 use Rattle.spec_tableaux.proofs.Numbers.{numbers_are_ordered_field as l}
 use Rattle.spec_tableaux.proofs.Groups.{inner_two}
 use Rattle.spec_tableaux.proofs.Signs.{zero_product}
-use Rattle.spec_strains.specs.Points.{point_in}
-use Rattle.spec_strains.specs.Halves.{at_number}
+use Rattle.spec_tableaux.specs.Points.{point_in}
+use Rattle.spec_tableaux.specs.Halves.{at_number}
 use Rattle.spec_causes.specs.TermTableau.{TermTableau, owner_in, AreOwned}
 use Rattle.spec_causes.specs.Shared.{AreOwnedEntries, ends, owned, left_out, IsValueOf}
 

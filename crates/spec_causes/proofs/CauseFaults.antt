@@ -7,7 +7,7 @@ use Rattle.spec_sorts.specs.Literals.{Literal}
 use Rattle.spec_arithmetic.specs.Forms.{form, difference}
 use Rattle.spec_tableaux.specs.Rows.{Entry}
 use Rattle.spec_tableaux.specs.Numbers.{Number}
-use Rattle.spec_strains.specs.Points.{Ranges, point_in}
+use Rattle.spec_tableaux.specs.Points.{Ranges, point_in}
 use Rattle.spec_overflows.specs.Overflows.{IsOverflow}
 use Rattle.spec_overflows.proofs.Failing.{of_fault}
 use Rattle.spec_overflows.proofs.Operations.{quotient_overflows}

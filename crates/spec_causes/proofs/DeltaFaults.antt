@@ -6,7 +6,7 @@ use Rattle.spec_numbers.specs.Bounds.{Overflow, added, subtracted, multiplied, d
 use Rattle.spec_overflows.specs.Overflows.{IsOverflow}
 use Rattle.spec_overflows.proofs.Failing.{failing_in_turn, of_fault}
 use Rattle.spec_overflows.proofs.Operations.{added_fails, subtracted_fails, multiplied_fails, divided_fails}
-use Rattle.spec_strains.specs.Deltas.{Delta, both, delta_added, delta_subtracted, delta_scaled, delta_divided, delta_evaluated}
+use Rattle.spec_tableaux.specs.Deltas.{Delta, both, delta_added, delta_subtracted, delta_scaled, delta_divided, delta_evaluated}
 
 both_fail : (base tilt : Result Fraction Overflow) → IfErr base IsOverflow → IfErr tilt IsOverflow → IfErr (both base tilt) IsOverflow
 both_fail base tilt h k = failing_in_turn IsOverflow base _ h (λ b. failing_in_turn IsOverflow tilt _ k (λ t. tt))

@@ -7,8 +7,8 @@ use Rattle.spec_tableaux.specs.Ranges.{Range}
 use Rattle.spec_tableaux.specs.Numbers.{Number}
 use Rattle.spec_overflows.specs.Overflows.{IsOverflow}
 use Rattle.spec_overflows.proofs.Operations.{difference_overflows, quotient_overflows}
-use Rattle.spec_strains.specs.Points.{Ranges}
-use Rattle.spec_strains.specs.Halves.{OverflowsHalf, bases, tilts, quotient, half, OverflowsLower, OverflowsUpper, OverflowsRange, OverflowsNumber, bounds, values}
+use Rattle.spec_tableaux.specs.Points.{Ranges}
+use Rattle.spec_tableaux.specs.Halves.{OverflowsHalf, bases, tilts, quotient, half, OverflowsLower, OverflowsUpper, OverflowsRange, OverflowsNumber, bounds, values}
 use Rattle.spec_causes.specs.TermTableau.{TermTableau}
 use Rattle.spec_causes.specs.Causes.{OverflowsValueAt}
 use Rattle.spec_causes.proofs.DeltaFaults.{delta_value_overflows}

@@ -10,8 +10,8 @@ use Rattle.spec_tableaux.specs.Ranges.{Range, below, above, bound_or, value_in_r
 use Rattle.spec_tableaux.specs.LeastVariable.{RuleSays, MakesPivots, exchange}
 use Rattle.spec_tableaux.specs.Numbers.{Number, numbers}
 use Rattle.spec_tableaux.proofs.Steps.{one_solution}
-use Rattle.spec_strains.specs.Points.{deltas, Ranges, AssignmentState}
-use Rattle.spec_strains.specs.Runs.{Ran, RanShort}
+use Rattle.spec_tableaux.specs.Points.{deltas, Ranges, AssignmentState}
+use Rattle.spec_tableaux.specs.Runs.{Ran, RanShort}
 use Rattle.spec_sorts.specs.Terms.{Term}
 use Rattle.spec_causes.specs.TermTableau.{TermTableau}
 use Rattle.spec_causes.specs.Reached.{IsReached, beginning, naming, summing, resting, checking}

@@ -14,12 +14,12 @@ use Rattle.spec_tableaux.specs.Rows.{Entry, Row, is_basic}
 use Rattle.spec_tableaux.specs.Ranges.{below, above, crosses, bound_or, value_in_range, is_within, is_crossed}
 use Rattle.spec_tableaux.specs.LeastVariable.{MakesPivots, RuleSays, exchange}
 use Rattle.spec_tableaux.specs.Numbers.{Number, numbers, fractions}
-use Rattle.spec_strains.specs.Deltas.{delta_evaluated}
-use Rattle.spec_strains.specs.Points.{deltas, delta_in, Ranges, AssignmentState, point_in}
-use Rattle.spec_strains.specs.CheckOverflows.{updates_nonbasic, enters, CheckOverflows, difference, quotient, move, rows}
-use Rattle.spec_strains.specs.Runs.{UpdatesBelow, Ran}
-use Rattle.spec_strains.specs.Halves.{OverflowsLower, OverflowsUpper, OverflowsRange, values}
-use Rattle.spec_strains.specs.Halves as halves
+use Rattle.spec_tableaux.specs.Deltas.{delta_evaluated}
+use Rattle.spec_tableaux.specs.Points.{deltas, delta_in, Ranges, AssignmentState, point_in}
+use Rattle.spec_tableaux.specs.BoundsOverflows.{updates_nonbasic, enters, CheckOverflows, difference, quotient, move, rows}
+use Rattle.spec_tableaux.specs.Runs.{UpdatesBelow, Ran}
+use Rattle.spec_tableaux.specs.Halves.{OverflowsLower, OverflowsUpper, OverflowsRange, values}
+use Rattle.spec_tableaux.specs.Halves as halves
 use Rattle.spec_simplex.specs.Constraints.{Constraint, where_true, constraint_by}
 use Rattle.spec_arithmetic.specs.Contradictions.{are_numbers}
 use Rattle.spec_causes.specs.TermTableau.{TermTableau, state_in, moved_to}

@@ -8,7 +8,7 @@ use Rattle.spec_sorts.specs.Subsets.{AreAmong}
 use Rattle.spec_arithmetic.specs.Forms.{Form}
 use Rattle.spec_tableaux.specs.Spaces.{Pair}
 use Rattle.spec_tableaux.specs.Numbers.{Number}
-use Rattle.spec_strains.specs.Points.{Ranges}
+use Rattle.spec_tableaux.specs.Points.{Ranges}
 use Rattle.spec_causes.specs.TermTableau.{TermTableau}
 use Rattle.spec_causes.specs.Shared.{IsSharedAmong, argument, value, IsSharedValue, AreSharedValues}
 use Rattle.spec_causes.specs.Bounds.{AreBounds}

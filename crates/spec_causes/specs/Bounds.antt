@@ -9,7 +9,7 @@ use Rattle.spec_tableaux.specs.Spaces.{Pair, as_space}
 use Rattle.spec_tableaux.specs.Rows.{Solves}
 use Rattle.spec_tableaux.specs.Ranges.{Range}
 use Rattle.spec_tableaux.specs.Numbers.{Number, numbers}
-use Rattle.spec_strains.specs.Points.{Ranges}
+use Rattle.spec_tableaux.specs.Points.{Ranges}
 use Rattle.spec_simplex.specs.Constraints.{Relation, below, at_most, equals, at_least, above, Constraint, constraint_of, form_of}
 use Rattle.spec_causes.specs.TermTableau.{TermTableau, owner_in, AreOwned}
 

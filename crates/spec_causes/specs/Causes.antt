@@ -9,11 +9,11 @@ use Rattle.spec_tableaux.specs.Spaces.{Pair}
 use Rattle.spec_tableaux.specs.Ranges.{Range, is_within}
 use Rattle.spec_tableaux.specs.Rows.{Entry}
 use Rattle.spec_tableaux.specs.Numbers.{Number, numbers}
-use Rattle.spec_strains.specs.Deltas.{delta_evaluated}
-use Rattle.spec_strains.specs.Points.{deltas, Ranges, point_in, delta_in}
-use Rattle.spec_strains.specs.CheckOverflows.{CheckOverflows, OverflowsNew}
-use Rattle.spec_strains.specs.Runs.{WantsMore}
-use Rattle.spec_strains.specs.Halves.{is_less, IsSteeper, halfway, OverflowsNumber}
+use Rattle.spec_tableaux.specs.Deltas.{delta_evaluated}
+use Rattle.spec_tableaux.specs.Points.{deltas, Ranges, point_in, delta_in}
+use Rattle.spec_tableaux.specs.BoundsOverflows.{CheckOverflows, OverflowsNew}
+use Rattle.spec_tableaux.specs.Runs.{WantsMore}
+use Rattle.spec_tableaux.specs.Halves.{is_less, IsSteeper, halfway, OverflowsNumber}
 use Rattle.spec_simplex.specs.Constraints.{Constraint, constraint_of, form_of}
 use Rattle.spec_causes.specs.TermTableau.{TermTableau, owner_in, state_in, AreEntriesOf}
 use Rattle.spec_causes.specs.Shared.{IsSharedAmong, OverflowsTerm, IsSharedValue, AreSharedValues}

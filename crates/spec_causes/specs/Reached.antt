@@ -7,8 +7,8 @@ use Rattle.spec_arithmetic.specs.Forms.{Form}
 use Rattle.spec_tableaux.specs.Spaces.{Pair}
 use Rattle.spec_tableaux.specs.Rows.{Entry, Row}
 use Rattle.spec_tableaux.specs.Numbers.{Number, numbers}
-use Rattle.spec_strains.specs.Points.{Ranges}
-use Rattle.spec_strains.specs.Runs.{UpdatesBelow, Ran, RanShort}
+use Rattle.spec_tableaux.specs.Points.{Ranges}
+use Rattle.spec_tableaux.specs.Runs.{UpdatesBelow, Ran, RanShort}
 use Rattle.spec_simplex.specs.Constraints.{Constraint, constraint_of, form_of}
 use Rattle.spec_causes.specs.TermTableau.{TermTableau, nothing_yet, owner_in, with_slack, with_sum, moved_to, state_in, AreEntriesOf}
 use Rattle.spec_causes.specs.Bounds.{AreBounds}

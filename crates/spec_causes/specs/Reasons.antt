@@ -11,7 +11,7 @@ use Rattle.spec_tableaux.specs.Spaces.{Pair}
 use Rattle.spec_tableaux.specs.Rows.{Entry, row_of}
 use Rattle.spec_tableaux.specs.LeastVariable.{RuleSays, IsNonbasicFeasible, goes_up, crossed, stuck}
 use Rattle.spec_tableaux.specs.Numbers.{Number, numbers}
-use Rattle.spec_strains.specs.Points.{deltas, Ranges, AssignmentState}
+use Rattle.spec_tableaux.specs.Points.{deltas, Ranges, AssignmentState}
 use Rattle.spec_simplex.specs.Constraints.{Relation, equals}
 use Rattle.spec_simplex.specs.Weights.{denial}
 use Rattle.spec_causes.specs.TermTableau.{TermTableau}

@@ -9,10 +9,10 @@ use Rattle.spec_arithmetic.specs.Forms.{Form, Fault, form}
 use Rattle.spec_tableaux.specs.Spaces.{Pair}
 use Rattle.spec_tableaux.specs.Rows.{Entry, sum_of}
 use Rattle.spec_tableaux.specs.Numbers.{Number, numbers}
-use Rattle.spec_strains.specs.Deltas.{delta_added}
-use Rattle.spec_strains.specs.Deltas as exact
-use Rattle.spec_strains.specs.Points.{deltas, point_in, delta_in}
-use Rattle.spec_strains.specs.CheckOverflows.{OverflowsValue}
+use Rattle.spec_tableaux.specs.Deltas.{delta_added}
+use Rattle.spec_tableaux.specs.Deltas as exact
+use Rattle.spec_tableaux.specs.Points.{deltas, point_in, delta_in}
+use Rattle.spec_tableaux.specs.BoundsOverflows.{OverflowsValue}
 use Rattle.spec_causes.specs.TermTableau.{TermTableau, owner_in, IsEntryOf}
 
 -- A term of sort Real is shared among terms: functions and arithmetic both speak of it.

@@ -6,7 +6,7 @@ use Rattle.spec_sorts.specs.Terms.{Term}
 use Rattle.spec_tableaux.specs.Spaces.{Pair}
 use Rattle.spec_tableaux.specs.Rows.{Entry, Row, sum_of, with_row}
 use Rattle.spec_tableaux.specs.Numbers.{Number, numbers}
-use Rattle.spec_strains.specs.Points.{deltas, point_in, AssignmentState, state_at}
+use Rattle.spec_tableaux.specs.Points.{deltas, point_in, AssignmentState, state_at}
 
 -- Variables are numbered from 0. Each means a term, or for a row.
 pub record TermTableau : Type 0 where

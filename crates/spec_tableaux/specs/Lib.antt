@@ -1,4 +1,4 @@
--- Ordered fields, rows and exchanges over them, bounds, the least-variable rule, and overflows.
+-- Ordered fields, rows and exchanges over them, bounds, the least-variable rule, numbers with an infinitesimal part, checks of bounds with them, and overflows.
 pub mod Fields
 pub mod Spaces
 pub mod Rows
@@ -8,3 +8,9 @@ pub mod LeastVariable
 pub mod Numbers
 pub mod CheckOverflows
 pub mod Examples
+pub mod Deltas
+pub mod Points
+pub mod BoundsOverflows
+pub mod Runs
+pub mod Halves
+pub mod DeltaExamples

@@ -3,13 +3,13 @@ use Rattle.std.specs.Ordering.{int_eq}
 use Rattle.spec_numbers.specs.Fractions.{Fraction, inverse}
 use Rattle.spec_numbers.proofs.Field.{times-comm}
 use Rattle.ratio128.specs.Meant.{fraction}
-use Rattle.spec_strains.specs.Deltas.{delta_divided, delta_over}
+use Rattle.spec_tableaux.specs.Deltas.{delta_divided, delta_over}
 use Rattle.delta_num.specs.Meant.{delta}
 use Rattle.delta_num.proofs.Results.{quotient_exact}
 use Rattle.spec_tableaux.specs.Numbers.{numbers, fractions}
 use Rattle.tableau.specs.Numbers.{number_of}
 use Rattle.simplex_bounds.specs.Deltas.{pair_of}
-use Rattle.spec_strains.specs.Points.{deltas}
+use Rattle.spec_tableaux.specs.Points.{deltas}
 use Rattle.simplex_bounds.proofs.Exact.{exact}
 use Rattle.simplex_bounds.proofs.deltas.divided.Goals as goal
 

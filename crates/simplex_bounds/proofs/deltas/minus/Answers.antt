@@ -1,10 +1,10 @@
-use Rattle.spec_strains.specs.Deltas.{delta_subtracted, delta_minus}
+use Rattle.spec_tableaux.specs.Deltas.{delta_subtracted, delta_minus}
 use Rattle.delta_num.specs.Meant.{delta}
 use Rattle.delta_num.proofs.Results.{difference_exact}
 use Rattle.spec_tableaux.specs.Spaces as spaces
 use Rattle.tableau.specs.Numbers.{number_of}
 use Rattle.simplex_bounds.specs.Deltas.{pair_of}
-use Rattle.spec_strains.specs.Points.{deltas}
+use Rattle.spec_tableaux.specs.Points.{deltas}
 use Rattle.simplex_bounds.proofs.Exact.{exact, minus_is}
 use Rattle.simplex_bounds.proofs.deltas.minus.Goals as goal
 

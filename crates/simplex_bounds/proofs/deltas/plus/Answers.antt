@@ -1,10 +1,10 @@
 use Rattle.std.proofs.Common.{refl}
-use Rattle.spec_strains.specs.Deltas.{delta_added, delta_plus}
+use Rattle.spec_tableaux.specs.Deltas.{delta_added, delta_plus}
 use Rattle.delta_num.specs.Meant.{delta}
 use Rattle.delta_num.proofs.Results.{sum_exact}
 use Rattle.spec_tableaux.specs.Numbers.{numbers, fractions}
 use Rattle.simplex_bounds.specs.Deltas.{pair_of}
-use Rattle.spec_strains.specs.Points.{deltas}
+use Rattle.spec_tableaux.specs.Points.{deltas}
 use Rattle.simplex_bounds.proofs.Exact.{exact}
 use Rattle.simplex_bounds.proofs.deltas.plus.Goals as goal
 

@@ -1,12 +1,12 @@
 use Rattle.std.proofs.Common.{refl}
 use Rattle.ratio128.specs.Meant.{fraction}
-use Rattle.spec_strains.specs.Deltas.{delta_scaled, delta_times}
+use Rattle.spec_tableaux.specs.Deltas.{delta_scaled, delta_times}
 use Rattle.delta_num.specs.Meant.{delta}
 use Rattle.delta_num.proofs.Results.{product_exact}
 use Rattle.spec_tableaux.specs.Numbers.{numbers, fractions}
 use Rattle.tableau.specs.Numbers.{number_of}
 use Rattle.simplex_bounds.specs.Deltas.{pair_of}
-use Rattle.spec_strains.specs.Points.{deltas}
+use Rattle.spec_tableaux.specs.Points.{deltas}
 use Rattle.simplex_bounds.proofs.Exact.{exact}
 use Rattle.simplex_bounds.proofs.deltas.scaled.Goals as goal
 

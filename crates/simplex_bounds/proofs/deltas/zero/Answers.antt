@@ -1,8 +1,8 @@
 use Rattle.std.proofs.Common.{◌∙◌}
 use Rattle.spec_numbers.specs.Fractions.{gcd, times, inverse}
-use Rattle.spec_strains.specs.Deltas.{number}
+use Rattle.spec_tableaux.specs.Deltas.{number}
 use Rattle.spec_tableaux.specs.Numbers.{numbers, fractions}
-use Rattle.spec_strains.specs.Points.{deltas}
+use Rattle.spec_tableaux.specs.Points.{deltas}
 use Rattle.simplex_bounds.proofs.Exact.{pair_is}
 use Rattle.simplex_bounds.proofs.deltas.zero.Goals as goal
 

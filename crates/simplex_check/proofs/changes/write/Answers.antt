@@ -1,7 +1,7 @@
 use Rattle.std.proofs.Common.{◌≡◌, ◌∷◌, ◌<◌, length, map, slice_set, rules, ap, sym, ◌∙◌, subst}
 use Rattle.std.proofs.lemmas.List.{length-set, nil_from_length}
 use Rattle.simplex_bounds.specs.Deltas.{pair_of}
-use Rattle.spec_strains.specs.Points.{point_in}
+use Rattle.spec_tableaux.specs.Points.{point_in}
 use Rattle.simplex_check.specs.Changes.{ChangesAreBelow, written}
 use Rattle.simplex_check.proofs.Writing.{known_first, written_step}
 use Rattle.simplex_check.proofs.changes.write.Goals as goal

@@ -4,7 +4,7 @@ use Rattle.spec_tableaux.specs.Ranges as ranges
 use Rattle.spec_tableaux.specs.Numbers.{Number, numbers}
 use Rattle.spec_tableaux.proofs.Numbers.{numbers_are_ordered_field}
 use Rattle.tableau.specs.Entries.{entry_of, entries_of}
-use Rattle.spec_strains.specs.Points.{deltas, point_in}
+use Rattle.spec_tableaux.specs.Points.{deltas, point_in}
 use Rattle.simplex_bounds.specs.Held.{ranges_in}
 use Rattle.simplex_check.proofs.FirstOfRow.{passed_none, passed_more, passed_found, passed_all}
 use Rattle.simplex_check.proofs.Points.{nothing_moves}

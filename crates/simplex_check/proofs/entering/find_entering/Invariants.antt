@@ -2,7 +2,7 @@ use Rattle.std.proofs.Common.{length}
 use Rattle.spec_tableaux.specs.Ranges as ranges
 use Rattle.spec_tableaux.specs.Numbers.{numbers}
 use Rattle.tableau.specs.Entries.{entries_of}
-use Rattle.spec_strains.specs.Points.{deltas, point_in}
+use Rattle.spec_tableaux.specs.Points.{deltas, point_in}
 use Rattle.simplex_bounds.specs.Held.{ranges_in}
 use Rattle.simplex_check.proofs.FirstOfRow.{Passed}
 use Rattle.simplex_check.proofs.entering.find_entering.Given as goal

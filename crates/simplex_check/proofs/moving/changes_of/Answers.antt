@@ -3,7 +3,7 @@ use Rattle.std.proofs.lemmas.List.Elements.{Contains-get_or}
 use Rattle.spec_tableaux.specs.LeastVariable.{moved}
 use Rattle.tableau.specs.Views.{row_at}
 use Rattle.simplex_bounds.specs.Deltas.{pair_of}
-use Rattle.spec_strains.specs.Points.{deltas, point_in}
+use Rattle.spec_tableaux.specs.Points.{deltas, point_in}
 use Rattle.simplex_check.specs.Changes.{ChangesAreBelow, ComeTo, is_changed}
 use Rattle.simplex_check.proofs.Writing.{known_push, come_push, changed_push, changed_last}
 use Rattle.simplex_check.proofs.Following.{first_comes, others_stay}

@@ -2,7 +2,7 @@ use Rattle.std.proofs.Common.{◌≡◌, ◌<◌, ℕ, true, map, slice_index_or
 use Rattle.spec_tableaux.specs.LeastVariable.{moved}
 use Rattle.tableau.specs.Views.{row_at}
 use Rattle.simplex_bounds.specs.Deltas.{pair_of}
-use Rattle.spec_strains.specs.Points.{deltas, point_in}
+use Rattle.spec_tableaux.specs.Points.{deltas, point_in}
 use Rattle.simplex_check.specs.Changes.{ChangesAreBelow, ComeTo, is_changed}
 use Rattle.simplex_check.proofs.moving.changes_of.Given as goal
 

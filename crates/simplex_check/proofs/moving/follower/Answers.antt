@@ -3,8 +3,8 @@ use Rattle.ratio128.specs.Meant.{overflow}
 use Rattle.tableau.specs.Numbers.{number_of}
 use Rattle.tableau.proofs.Telling.{told_wide}
 use Rattle.simplex_bounds.specs.Deltas.{pair_of}
-use Rattle.spec_strains.specs.Points.{point_in, state_at}
-use Rattle.spec_strains.specs.CheckOverflows.{OverflowsMove}
+use Rattle.spec_tableaux.specs.Points.{point_in, state_at}
+use Rattle.spec_tableaux.specs.BoundsOverflows.{OverflowsMove}
 use Rattle.simplex_check.proofs.RowPlaces.{basic_of, coefficient_at}
 use Rattle.simplex_check.proofs.Following.{follower_value, follower_product, follower_sum}
 use Rattle.simplex_check.proofs.moving.follower.Goals as goal

@@ -4,8 +4,8 @@ use Rattle.spec_text.proofs.AnswerLaws.{told}
 use Rattle.ratio128.specs.Meant.{overflow}
 use Rattle.tableau.specs.Entries.{entry_of, entries_of}
 use Rattle.simplex_bounds.specs.Deltas.{pair_of}
-use Rattle.spec_strains.specs.Points.{deltas, point_in}
-use Rattle.spec_strains.specs.CheckOverflows.{OverflowsValue}
+use Rattle.spec_tableaux.specs.Points.{deltas, point_in}
+use Rattle.spec_tableaux.specs.BoundsOverflows.{OverflowsValue}
 use Rattle.simplex_check.proofs.Summing.{summed_none, summed_more, summed_all, overflows_product, overflows_sum, over_first}
 use Rattle.simplex_check.proofs.sums.sum_at.Goals as goal
 

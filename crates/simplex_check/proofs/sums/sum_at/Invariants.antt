@@ -2,7 +2,7 @@ use Rattle.std.proofs.Common.{◌<◌, length, map}
 use Rattle.spec_tableaux.specs.SolvedForms.{AllVariables}
 use Rattle.tableau.specs.Entries.{entries_of}
 use Rattle.simplex_bounds.specs.Deltas.{pair_of}
-use Rattle.spec_strains.specs.Points.{point_in}
+use Rattle.spec_tableaux.specs.Points.{point_in}
 use Rattle.simplex_check.proofs.Summing.{Summed}
 use Rattle.simplex_check.proofs.sums.sum_at.Given as goal
 

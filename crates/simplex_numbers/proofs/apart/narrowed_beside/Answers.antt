@@ -4,7 +4,7 @@ use Rattle.spec_text.proofs.AnswerLaws.{told}
 use Rattle.ratio128.specs.Meant.{overflow}
 use Rattle.tableau.specs.Numbers.{number_of}
 use Rattle.simplex_bounds.specs.Deltas.{pair_of}
-use Rattle.spec_strains.specs.Halves.{OverflowsApart}
+use Rattle.spec_tableaux.specs.Halves.{OverflowsApart}
 use Rattle.simplex_numbers.proofs.Orders.{irreflexive, smaller_smaller}
 use Rattle.simplex_numbers.proofs.Neighbours.{clear_more, half_more, overflows_more, none_among}
 use Rattle.simplex_numbers.proofs.apart.narrowed_beside.Goals as goal

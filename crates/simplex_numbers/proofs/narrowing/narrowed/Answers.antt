@@ -7,7 +7,7 @@ use Rattle.spec_tableaux.specs.Numbers.{Number, numbers}
 use Rattle.ratio128.specs.Meant.{overflow}
 use Rattle.tableau.specs.Numbers.{number_of}
 use Rattle.simplex_bounds.specs.Deltas.{pair_of}
-use Rattle.spec_strains.specs.Halves.{is_less, IsSteeper, meeting, halfway, OverflowsOrder, half}
+use Rattle.spec_tableaux.specs.Halves.{is_less, IsSteeper, meeting, halfway, OverflowsOrder, half}
 use Rattle.simplex_numbers.proofs.Orders.{irreflexive, level_stays, rises_not_zero, two_not_zero, steep_less, half_above, half_stays, steep_stays}
 use Rattle.simplex_numbers.proofs.Epsilons.{half_or}
 use Rattle.simplex_numbers.proofs.narrowing.narrowed.Goals as goal

@@ -9,9 +9,9 @@ use Rattle.ratio128.specs.Meant.{overflow}
 use Rattle.tableau.specs.Numbers.{number_of}
 use Rattle.simplex_bounds.specs.Deltas.{pair_of, range_of}
 use Rattle.simplex_bounds.specs.Held.{ranges_in}
-use Rattle.spec_strains.specs.Points.{point_in}
-use Rattle.spec_strains.specs.Halves.{is_less, OverflowsRange, OverflowsNumber}
-use Rattle.spec_strains.specs.Halves as halves
+use Rattle.spec_tableaux.specs.Points.{point_in}
+use Rattle.spec_tableaux.specs.Halves.{is_less, OverflowsRange, OverflowsNumber}
+use Rattle.spec_tableaux.specs.Halves as halves
 use Rattle.simplex_reasons.proofs.Distances.{one_above}
 use Rattle.simplex_numbers.proofs.Orders.{irreflexive, not_above}
 use Rattle.simplex_numbers.proofs.Keeping.{off_after, kept_after}

@@ -4,8 +4,8 @@ use Rattle.spec_tableaux.specs.Fields.{is_positive}
 use Rattle.spec_tableaux.specs.Numbers.{numbers}
 use Rattle.tableau.specs.Numbers.{number_of}
 use Rattle.simplex_bounds.specs.Held.{ranges_in}
-use Rattle.spec_strains.specs.Points.{point_in}
-use Rattle.spec_strains.specs.Halves.{is_less}
+use Rattle.spec_tableaux.specs.Points.{point_in}
+use Rattle.spec_tableaux.specs.Halves.{is_less}
 use Rattle.spec_causes.specs.Causes.{IsHalfIn}
 use Rattle.simplex_numbers.specs.Values.{IsAboveNone, StaysOff}
 use Rattle.simplex_numbers.proofs.small.small_number.Given as goal

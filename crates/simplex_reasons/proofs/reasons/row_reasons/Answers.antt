@@ -4,7 +4,7 @@ use Rattle.spec_text.proofs.AnswerLaws.{told}
 use Rattle.spec_tableaux.specs.Rows.{row_of}
 use Rattle.spec_tableaux.specs.LeastVariable.{goes_up}
 use Rattle.tableau.specs.Views.{IsTableau}
-use Rattle.spec_strains.specs.Points.{deltas}
+use Rattle.spec_tableaux.specs.Points.{deltas}
 use Rattle.simplex_bounds.specs.Held.{ranges_in}
 use Rattle.simplex_check.specs.Assignments.{state_of}
 use Rattle.spec_causes.specs.Reasons.{with_basic}

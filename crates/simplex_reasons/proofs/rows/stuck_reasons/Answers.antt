@@ -7,7 +7,7 @@ use Rattle.spec_tableaux.specs.LeastVariable.{goes_up}
 use Rattle.spec_tableaux.specs.Numbers.{Number}
 use Rattle.tableau.specs.Entries.{entries_of}
 use Rattle.tableau.specs.Views.{TableauView, IsTableau}
-use Rattle.spec_strains.specs.Points.{deltas}
+use Rattle.spec_tableaux.specs.Points.{deltas}
 use Rattle.simplex_bounds.specs.Held.{ranges_in}
 use Rattle.simplex_check.specs.Assignments.{state_of}
 use Rattle.spec_causes.specs.Reasons.{with_basic}

@@ -1,6 +1,6 @@
 use Rattle.spec_numbers.specs.Bounds.{multiplied}
 use Rattle.ratio128.specs.Meant.{fraction}
-use Rattle.spec_strains.specs.Deltas.{delta_evaluated}
+use Rattle.spec_tableaux.specs.Deltas.{delta_evaluated}
 use Rattle.delta_num.proofs.Results.{product_fails, then_added}
 use Rattle.delta_num.proofs.delta.Delta.at.Goals as goal
 

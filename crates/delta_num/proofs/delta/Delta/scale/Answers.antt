@@ -1,6 +1,6 @@
 use Rattle.spec_numbers.specs.Bounds.{multiplied}
 use Rattle.ratio128.specs.Meant.{fraction}
-use Rattle.spec_strains.specs.Deltas.{delta_scaled}
+use Rattle.spec_tableaux.specs.Deltas.{delta_scaled}
 use Rattle.delta_num.proofs.Results.{base_fails, tilt_fails, both_are}
 use Rattle.delta_num.proofs.delta.Delta.scale.Goals as goal
 

@@ -1,6 +1,6 @@
 use Rattle.spec_numbers.specs.Bounds.{subtracted}
 use Rattle.ratio128.specs.Meant.{fraction}
-use Rattle.spec_strains.specs.Deltas.{delta_subtracted}
+use Rattle.spec_tableaux.specs.Deltas.{delta_subtracted}
 use Rattle.delta_num.proofs.Results.{base_fails, tilt_fails, both_are}
 use Rattle.delta_num.proofs.delta.Delta.sub.Goals as goal
 

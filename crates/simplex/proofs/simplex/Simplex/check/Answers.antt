@@ -17,7 +17,7 @@ use Rattle.simplex_explain.specs.Steps.{derived}
 use Rattle.simplex.specs.Checks.{KeepsBounds}
 use Rattle.simplex.specs.Coming.{term_tableau_of, CameBy, StoppedBy, IsOverflowAt}
 use Rattle.simplex.proofs.Coming.{came_over_more, watched_bounds, suits_over, fits_on, came_fine, came_found, stopped_found, came_stopped, stops_there}
-use Rattle.spec_strains.specs.Points.{point_in}
+use Rattle.spec_tableaux.specs.Points.{point_in}
 use Rattle.simplex_bounds.specs.Held.{ranges_in}
 use Rattle.simplex_bounds.proofs.Keeping.{ranges_kept}
 use Rattle.simplex_check.specs.Suspects.{KeepsFirst}

@@ -2,8 +2,8 @@
 use Rattle.std.proofs.Common.{◌∙◌, List, length, get_or, map, nat_eq, sym, ap, subst, arith}
 use Rattle.std.specs.HashMap.{get}
 use Rattle.spec_text.proofs.AnswerLaws.{told}
-use Rattle.spec_strains.specs.Points.{point_in}
-use Rattle.spec_strains.specs.Halves.{OverflowsNumber}
+use Rattle.spec_tableaux.specs.Points.{point_in}
+use Rattle.spec_tableaux.specs.Halves.{OverflowsNumber}
 use Rattle.spec_causes.specs.Causes.{IsEpsilon, finding}
 use Rattle.ratio128.specs.Meant.{overflow}
 use Rattle.delta_num.specs.declared.delta.Delta.{Delta}

@@ -7,9 +7,9 @@ use Rattle.spec_tableaux.specs.CheckOverflows.{OverflowsSum}
 use Rattle.tableau.specs.Entries.{entries_of}
 use Rattle.tableau.proofs.Telling.{told_wide, passed_on}
 use Rattle.simplex_bounds.specs.Deltas.{pair_of}
-use Rattle.spec_strains.specs.Points.{deltas, point_in}
+use Rattle.spec_tableaux.specs.Points.{deltas, point_in}
 use Rattle.simplex_check.specs.Assignments.{AssignmentView, state_of}
-use Rattle.spec_strains.specs.CheckOverflows.{OverflowsNew, OverflowsValue}
+use Rattle.spec_tableaux.specs.BoundsOverflows.{OverflowsNew, OverflowsValue}
 use Rattle.simplex_check.proofs.Summing.{sum_added}
 use Rattle.simplex_check.proofs.assignment.RealAssignment.add_row.Goals as goal
 

@@ -1,9 +1,9 @@
 use Rattle.std.proofs.Common.{◌≡◌, ◌≤◌, ◌-◌, ℕ, false, length}
 use Rattle.spec_tableaux.specs.Ranges.{is_crossed}
-use Rattle.spec_strains.specs.Points.{deltas}
+use Rattle.spec_tableaux.specs.Points.{deltas}
 use Rattle.simplex_bounds.specs.Held.{ranges_in}
 use Rattle.simplex_check.specs.Assignments.{state_of}
-use Rattle.spec_strains.specs.Runs.{Ran}
+use Rattle.spec_tableaux.specs.Runs.{Ran}
 use Rattle.simplex_check.specs.Suspects.{Suspect}
 use Rattle.simplex_check.proofs.assignment.RealAssignment.check_after.Given as goal
 

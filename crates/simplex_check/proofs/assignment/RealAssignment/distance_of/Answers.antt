@@ -7,7 +7,7 @@ use Rattle.tableau.proofs.Telling.{told_wide}
 use Rattle.simplex_bounds.specs.Deltas.{pair_of, range_of}
 use Rattle.simplex_bounds.specs.Held.{ranges_in}
 use Rattle.simplex_check.specs.Assignments.{AssignmentView, state_of}
-use Rattle.spec_strains.specs.CheckOverflows.{CheckOverflows}
+use Rattle.spec_tableaux.specs.BoundsOverflows.{CheckOverflows}
 use Rattle.simplex_check.proofs.Shifts.{violates_out, goal_at, gap_at, overflows_difference, overflows_quotient, pivot_by_rule}
 use Rattle.simplex_check.proofs.assignment.RealAssignment.distance_of.Goals as goal
 

@@ -1,13 +1,13 @@
 use Rattle.std.proofs.Common.{◌≡◌, map, ap, sym, ◌∙◌, subst, ℕ}
 use Rattle.ratio128.specs.Meant.{overflow}
-use Rattle.spec_strains.specs.Deltas.{delta_added}
+use Rattle.spec_tableaux.specs.Deltas.{delta_added}
 use Rattle.spec_tableaux.specs.SolvedForms.{IsSolved}
 use Rattle.spec_tableaux.specs.LeastVariable.{RuleSays, Exchanges, exchange, distance, moved}
 use Rattle.spec_tableaux.specs.Numbers.{numbers}
 use Rattle.spec_tableaux.specs.CheckOverflows.{OverflowsExchange}
 use Rattle.tableau.proofs.Telling.{told_wide, passed_on}
 use Rattle.simplex_bounds.specs.Deltas.{pair_of}
-use Rattle.spec_strains.specs.Points.{deltas, point_in, state_at, delta_in}
+use Rattle.spec_tableaux.specs.Points.{deltas, point_in, state_at, delta_in}
 use Rattle.simplex_bounds.specs.Held.{ranges_in}
 use Rattle.simplex_check.specs.Assignments.{AssignmentView, state_of}
 use Rattle.simplex_check.specs.Changes.{Lead, written, is_changed}
@@ -15,7 +15,7 @@ use Rattle.simplex_check.specs.Suspects.{SuspectBut}
 use Rattle.simplex_check.proofs.Suspecting.{suspect_exchange}
 use Rattle.tableau.specs.Views.{TableauView}
 use Rattle.simplex_check.specs.Kept.{assignment_view}
-use Rattle.spec_strains.specs.CheckOverflows.{CheckOverflows, OverflowsMove, sum}
+use Rattle.spec_tableaux.specs.BoundsOverflows.{CheckOverflows, OverflowsMove, sum}
 use Rattle.simplex_check.proofs.Shifts.{lead_written, same_lengths, exchange_is_made, pivot_by_rule, entering_known, violates_out, overflows_entering, overflows_rows}
 use Rattle.simplex_check.proofs.assignment.RealAssignment.exchange.Goals as goal
 

@@ -1,6 +1,6 @@
 use Rattle.std.proofs.Common.{sym, ◌∙◌, subst}
 use Rattle.tableau.specs.Views.{OnRowOverflow}
-use Rattle.spec_strains.specs.CheckOverflows.{CheckOverflows}
+use Rattle.spec_tableaux.specs.BoundsOverflows.{CheckOverflows}
 use Rattle.simplex_bounds.specs.Held.{ranges_in}
 use Rattle.simplex_check.specs.Assignments.{AssignmentView, state_of}
 use Rattle.simplex_check.proofs.Runs.{stops_step}

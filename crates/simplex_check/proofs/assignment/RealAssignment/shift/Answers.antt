@@ -3,7 +3,7 @@ use Rattle.std.specs.Prelude.{◌⊎◌}
 use Rattle.spec_tableaux.specs.SolvedForms.{IsNonbasic}
 use Rattle.spec_tableaux.specs.LeastVariable.{moved}
 use Rattle.simplex_bounds.specs.Deltas.{pair_of}
-use Rattle.spec_strains.specs.Points.{deltas, point_in}
+use Rattle.spec_tableaux.specs.Points.{deltas, point_in}
 use Rattle.simplex_check.specs.Assignments.{AssignmentView, IsRealAssignment}
 use Rattle.simplex_check.specs.Changes.{Lead, written, is_changed}
 use Rattle.simplex_check.specs.Suspects.{is_among, HaveSuspects}

@@ -2,7 +2,7 @@ use Rattle.std.proofs.Common.{◌≡◌, ◌+◌, length, refl, ap, sym, ◌∙�
 use Rattle.tableau.specs.Views.{TableauView}
 use Rattle.simplex_bounds.specs.Held.{ranges_in}
 use Rattle.simplex_check.specs.Assignments.{AssignmentView, state_of}
-use Rattle.spec_strains.specs.Runs.{UpdatesBelow}
+use Rattle.spec_tableaux.specs.Runs.{UpdatesBelow}
 use Rattle.simplex_check.proofs.Suspecting.{among_later, among_next}
 use Rattle.simplex_check.proofs.UpdatingNonbasic.{UpdatingNonbasic, updates_none, updating_begins, updating_next, updating_more, updating_ends}
 use Rattle.simplex_check.proofs.assignment.RealAssignment.update_nonbasic.Goals as goal

@@ -5,10 +5,10 @@ use Rattle.spec_tableaux.specs.Ranges.{below, value_in_range}
 use Rattle.spec_tableaux.specs.LeastVariable.{moved}
 use Rattle.tableau.proofs.Telling.{told_wide, err_as}
 use Rattle.simplex_bounds.specs.Deltas.{pair_of, range_of}
-use Rattle.spec_strains.specs.Points.{deltas, point_in}
+use Rattle.spec_tableaux.specs.Points.{deltas, point_in}
 use Rattle.simplex_bounds.specs.Held.{ranges_in}
 use Rattle.simplex_check.specs.Assignments.{state_of}
-use Rattle.spec_strains.specs.CheckOverflows.{CheckOverflows, OverflowsMove}
+use Rattle.spec_tableaux.specs.BoundsOverflows.{CheckOverflows, OverflowsMove}
 use Rattle.simplex_check.proofs.Following.{first_comes}
 use Rattle.simplex_check.proofs.Shifts.{violates_at, goal_at, gap_at, overflows_difference, overflows_settling, reached_by}
 use Rattle.simplex_check.proofs.assignment.RealAssignment.update_one.Goals as goal

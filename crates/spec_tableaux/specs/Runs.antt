@@ -5,7 +5,7 @@ use Rattle.spec_tableaux.specs.Rows.{Solves}
 use Rattle.spec_tableaux.specs.SolvedForms.{IsNonbasic}
 use Rattle.spec_tableaux.specs.Ranges.{value_in_range}
 use Rattle.spec_tableaux.specs.LeastVariable.{RuleSays, MakesPivots, UpdatesNonbasic, exchange}
-use Rattle.spec_strains.specs.Points.{deltas, Ranges, AssignmentState}
+use Rattle.spec_tableaux.specs.Points.{deltas, Ranges, AssignmentState}
 
 -- Of the nonbasic variables those below n that violated a bound went to it, and the others are as they were.
 pub record UpdatesBelow (ranges : Ranges) (n : ℕ) (t u : AssignmentState) : Type 0 where

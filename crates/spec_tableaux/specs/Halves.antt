@@ -6,7 +6,7 @@ use Rattle.spec_tableaux.specs.Spaces.{Pair, as_space}
 use Rattle.spec_tableaux.specs.Ranges.{Range}
 use Rattle.spec_tableaux.specs.Numbers.{Number, numbers}
 use Rattle.spec_tableaux.specs.CheckOverflows.{Overflows}
-use Rattle.spec_strains.specs.Points.{deltas, Ranges}
+use Rattle.spec_tableaux.specs.Points.{deltas, Ranges}
 
 -- a number is less than another
 abbrev pub is_less : Number → Number → Bool

@@ -6,7 +6,7 @@ use Rattle.spec_tableaux.specs.Rows.{Row}
 use Rattle.spec_tableaux.specs.Ranges.{Range}
 use Rattle.spec_tableaux.specs.LeastVariable.{State}
 use Rattle.spec_tableaux.specs.Numbers.{Number, numbers}
-use Rattle.spec_strains.specs.Deltas.{Delta}
+use Rattle.spec_tableaux.specs.Deltas.{Delta}
 
 -- what is computed with pairs of fractions
 abbrev pub deltas : Space Number (Pair Number)

@@ -5,7 +5,7 @@ use Rattle.spec_numbers.specs.Fractions.{gcd, whole, plus, times, compare}
 use Rattle.spec_numbers.specs.Bounds.{is_small, fits, sum_fits, added}
 use Rattle.spec_numbers.specs.declared.Op.TheVariants.{Add}
 use Rattle.spec_text.specs.Answers.{◌>>=◌}
-use Rattle.spec_strains.specs.Deltas.{number, delta_added, delta_at, delta_compare}
+use Rattle.spec_tableaux.specs.Deltas.{number, delta_added, delta_at, delta_compare}
 
 -- 2 - epsilon is less than 2, and 2 is less than 2 + epsilon
 pub below : delta_compare (record { base = whole (pos 2); tilt = whole (negsuc 0) }) (number (whole (pos 2))) ≡ Less

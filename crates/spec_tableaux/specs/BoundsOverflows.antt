@@ -1,7 +1,7 @@
 -- The operations by which a check can leave the bound on the parts of fractions.
 use Rattle.std.specs.Prelude.{◌≡◌, ℕ, true, false, ◌⊎◌, List, ◌∷◌, ◌++◌, Err}
 use Rattle.spec_numbers.specs.Bounds.{Overflow}
-use Rattle.spec_strains.specs.Deltas.{delta_added, delta_subtracted, delta_scaled, delta_divided}
+use Rattle.spec_tableaux.specs.Deltas.{delta_added, delta_subtracted, delta_scaled, delta_divided}
 use Rattle.spec_tableaux.specs.Spaces.{Pair, space_difference}
 use Rattle.spec_tableaux.specs.Rows.{Entry, Row, coefficient_of, row_of, is_basic, sum_of}
 use Rattle.spec_tableaux.specs.SolvedForms.{IsNonbasic, IsPivot}
@@ -9,7 +9,7 @@ use Rattle.spec_tableaux.specs.Ranges.{is_within}
 use Rattle.spec_tableaux.specs.LeastVariable.{State, goes_up, goal_of, distance}
 use Rattle.spec_tableaux.specs.Numbers.{Number, numbers}
 use Rattle.spec_tableaux.specs.CheckOverflows.{OverflowsExchange, OverflowsSum}
-use Rattle.spec_strains.specs.Points.{deltas, delta_in, Ranges}
+use Rattle.spec_tableaux.specs.Points.{deltas, delta_in, Ranges}
 
 -- the coefficient of x in the row of b
 abbrev pub coefficient_in : List (Row Number) → ℕ → ℕ → Number
