@@ -2,7 +2,7 @@
 use Rattle.std.proofs.Common.{ℕ, List}
 use Rattle.spec_numbers.specs.Bounds.{Overflow}
 use Rattle.spec_derivations.specs.Problems.{Problem}
-use Rattle.spec_overflows.specs.Overflows.{IsOverflow}
+use Rattle.spec_simplex.specs.Overflows.{IsOverflow}
 use Rattle.spec_causes.specs.Checks as causes
 use Rattle.ratio128.specs.Meant.{overflow}
 use Rattle.sat_budget.specs.declared.limits.Strain.{Strain}

@@ -8,11 +8,11 @@ use Rattle.spec_arithmetic.specs.Forms.{form, difference}
 use Rattle.spec_tableaux.specs.Rows.{Entry}
 use Rattle.spec_tableaux.specs.Numbers.{Number}
 use Rattle.spec_tableaux.specs.Points.{Ranges, point_in}
-use Rattle.spec_overflows.specs.Overflows.{IsOverflow}
-use Rattle.spec_overflows.proofs.Failing.{of_fault}
-use Rattle.spec_overflows.proofs.Operations.{quotient_overflows}
-use Rattle.spec_overflows.proofs.FormFaults.{IsFault, form_fails, difference_fails}
-use Rattle.spec_overflows.proofs.RuleFaults.{numbers_too_wide}
+use Rattle.spec_simplex.specs.Overflows.{IsOverflow}
+use Rattle.spec_simplex.proofs.Failing.{of_fault}
+use Rattle.spec_simplex.proofs.Operations.{quotient_overflows}
+use Rattle.spec_simplex.proofs.FormFaults.{IsFault, form_fails, difference_fails}
+use Rattle.spec_simplex.proofs.RuleFaults.{numbers_too_wide}
 use Rattle.spec_derivations.specs.Problems.{Problem}
 use Rattle.spec_causes.specs.TermTableau.{TermTableau, state_in}
 use Rattle.spec_causes.specs.Shared.{OverflowsTerm, in_form, in_sum, by_constant}

@@ -5,8 +5,8 @@ use Rattle.spec_tableaux.specs.Spaces.{Pair}
 use Rattle.spec_tableaux.specs.Rows.{Entry}
 use Rattle.spec_tableaux.specs.LeastVariable.{State}
 use Rattle.spec_tableaux.specs.Numbers.{Number}
-use Rattle.spec_overflows.specs.Overflows.{IsOverflow}
-use Rattle.spec_overflows.proofs.TableauFaults.{exchange_overflows, row_overflows}
+use Rattle.spec_simplex.specs.Overflows.{IsOverflow}
+use Rattle.spec_simplex.proofs.TableauFaults.{exchange_overflows, row_overflows}
 use Rattle.spec_tableaux.specs.Points.{Ranges}
 use Rattle.spec_tableaux.specs.BoundsOverflows.{OverflowsMove, sum_of_product, sum, CheckOverflows, difference, quotient, move, rows, OverflowsValue, product, OverflowsNew}
 use Rattle.spec_causes.proofs.DeltaFaults.{delta_sum_overflows, delta_difference_overflows, delta_product_overflows, delta_quotient_overflows}

@@ -3,9 +3,9 @@ use Rattle.std.proofs.Common.{◌≡◌}
 use Rattle.std.specs.Prelude.{Result, Err, IfErr}
 use Rattle.spec_numbers.specs.Fractions.{Fraction}
 use Rattle.spec_numbers.specs.Bounds.{Overflow, added, subtracted, multiplied, divided}
-use Rattle.spec_overflows.specs.Overflows.{IsOverflow}
-use Rattle.spec_overflows.proofs.Failing.{failing_in_turn, of_fault}
-use Rattle.spec_overflows.proofs.Operations.{added_fails, subtracted_fails, multiplied_fails, divided_fails}
+use Rattle.spec_simplex.specs.Overflows.{IsOverflow}
+use Rattle.spec_simplex.proofs.Failing.{failing_in_turn, of_fault}
+use Rattle.spec_simplex.proofs.Operations.{added_fails, subtracted_fails, multiplied_fails, divided_fails}
 use Rattle.spec_tableaux.specs.Deltas.{Delta, both, delta_added, delta_subtracted, delta_scaled, delta_divided, delta_evaluated}
 
 both_fail : (base tilt : Result Fraction Overflow) → IfErr base IsOverflow → IfErr tilt IsOverflow → IfErr (both base tilt) IsOverflow

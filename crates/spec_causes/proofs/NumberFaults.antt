@@ -5,8 +5,8 @@ use Rattle.spec_numbers.specs.Bounds.{Overflow}
 use Rattle.spec_tableaux.specs.Spaces.{Pair}
 use Rattle.spec_tableaux.specs.Ranges.{Range}
 use Rattle.spec_tableaux.specs.Numbers.{Number}
-use Rattle.spec_overflows.specs.Overflows.{IsOverflow}
-use Rattle.spec_overflows.proofs.Operations.{difference_overflows, quotient_overflows}
+use Rattle.spec_simplex.specs.Overflows.{IsOverflow}
+use Rattle.spec_simplex.proofs.Operations.{difference_overflows, quotient_overflows}
 use Rattle.spec_tableaux.specs.Points.{Ranges}
 use Rattle.spec_tableaux.specs.Halves.{OverflowsHalf, bases, tilts, quotient, half, OverflowsLower, OverflowsUpper, OverflowsRange, OverflowsNumber, bounds, values}
 use Rattle.spec_causes.specs.TermTableau.{TermTableau}

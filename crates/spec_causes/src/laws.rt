@@ -19,7 +19,7 @@ ghost use Rattle.spec_tableaux.specs.Points.{deltas, point_in, Ranges, Assignmen
 ghost use Rattle.spec_tableaux.specs.Halves.{at_number};
 ghost use Rattle.spec_simplex.specs.Numbers.{HoldsAt};
 ghost use Rattle.spec_tableaux.specs.Runs.{Ran, RanShort};
-ghost use Rattle.spec_overflows.specs.Overflows.{IsOverflow};
+ghost use Rattle.spec_simplex.specs.Overflows.{IsOverflow};
 ghost use Rattle.spec_causes.specs.TermTableau.{TermTableau, owner_in, AreOwned};
 ghost use Rattle.spec_causes.specs.Shared.{IsValueOf, ShareNothing};
 ghost use Rattle.spec_causes.specs.Reached.{IsReached, IsStoppedAt};

@@ -1,7 +1,7 @@
 -- What shows that the answer of a check is right. Source: SMT-LIB 2.6, section 4.2.5; what counts as shown is own.
 use Rattle.std.specs.Prelude.{◌≡◌, ◌≤◌, ℕ, List, [], length, All}
 use Rattle.spec_numbers.specs.Bounds.{Overflow}
-use Rattle.spec_overflows.specs.Overflows.{IsOverflow}
+use Rattle.spec_simplex.specs.Overflows.{IsOverflow}
 use Rattle.spec_sorts.specs.Values.{Interpretation, Interprets}
 use Rattle.spec_sorts.specs.Signatures.{symbols_in}
 use Rattle.spec_sorts.specs.Literals.{Literal}

@@ -12,7 +12,7 @@ use Rattle.spec_commands.specs.Stack.{Stack, Effect, done, unsupported, check, s
 use Rattle.spec_commands.specs.Checks.{Check, term_limit}
 use Rattle.spec_commands.specs.Examples.{lines}
 use Rattle.spec_models.specs.Values.{numeral}
-use Rattle.spec_overflows.specs.Overflows.{IsOverflow}
+use Rattle.spec_simplex.specs.Overflows.{IsOverflow}
 use Rattle.spec_sessions.specs.Evidence.{Limits, Kept, Found, proof, overflowed, out_of_pivots}
 use Rattle.spec_sessions.specs.Responses.{certify, success, not_supported, answered, said, ended, rejected, Answered, text_for}
 

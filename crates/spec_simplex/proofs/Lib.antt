@@ -1,4 +1,4 @@
--- Lemmas on forms in lowest terms, and on sums of constraints.
+-- Lemmas on forms in lowest terms, on sums of constraints, and on overflows.
 pub mod LowestForms
 pub mod Reversed
 pub mod Tidy
@@ -9,3 +9,8 @@ pub mod Infeasible
 pub mod Taken
 pub mod PairOrder
 pub mod Comparisons
+pub mod Failing
+pub mod Operations
+pub mod FormFaults
+pub mod RuleFaults
+pub mod TableauFaults

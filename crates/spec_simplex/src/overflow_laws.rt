@@ -11,7 +11,7 @@ ghost use Rattle.spec_tableaux.specs.Rows.{Entry, Row};
 ghost use Rattle.spec_tableaux.specs.Numbers.{Number};
 ghost use Rattle.spec_tableaux.specs.CheckOverflows.{Overflows, OverflowsExchange, OverflowsSum};
 ghost use Rattle.spec_simplex.specs.Constraints.{Constraint, form_of};
-ghost use Rattle.spec_overflows.specs.Overflows.{IsOverflow};
+ghost use Rattle.spec_simplex.specs.Overflows.{IsOverflow};
 
 /// States that an operation on fractions that does not give its exact result leaves the bound.
 pub fn operations_fail_by_overflows()

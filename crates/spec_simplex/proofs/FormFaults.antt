@@ -5,9 +5,9 @@ use Rattle.spec_numbers.specs.Fractions.{Fraction}
 use Rattle.spec_numbers.specs.Bounds.{multiplied, divided}
 use Rattle.spec_sorts.specs.Terms.{Head, Minus, Plus, Times, Divide, Term, Terms, app, nil, cons, same_term}
 use Rattle.spec_arithmetic.specs.Forms.{Answer, Form, Way, adding, subtracting, joined, all_joined, combined, each_number, changed, scaled, shared_out, factor_of, all_added, all_multiplied, divisor_of, quotient_form, form_by, Fault, at_term, form, forms, difference, with_variable, variable_form}
-use Rattle.spec_overflows.specs.Overflows.{IsOverflow}
-use Rattle.spec_overflows.proofs.Failing.{failing_in_turn}
-use Rattle.spec_overflows.proofs.Operations.{added_fails, subtracted_fails, multiplied_fails, divided_fails}
+use Rattle.spec_simplex.specs.Overflows.{IsOverflow}
+use Rattle.spec_simplex.proofs.Failing.{failing_in_turn}
+use Rattle.spec_simplex.proofs.Operations.{added_fails, subtracted_fails, multiplied_fails, divided_fails}
 
 -- the fault is an overflow
 abbrev pub IsFault : Fault → Type 0

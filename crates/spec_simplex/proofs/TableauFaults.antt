@@ -4,8 +4,8 @@ use Rattle.spec_numbers.specs.Bounds.{Overflow}
 use Rattle.spec_tableaux.specs.Rows.{Entry, Row}
 use Rattle.spec_tableaux.specs.Numbers.{Number}
 use Rattle.spec_tableaux.specs.CheckOverflows.{OverflowsExchange, factor, quotient, leaving_product, product, difference, OverflowsSum, product_of_row, sum_of_row, sum_of_two}
-use Rattle.spec_overflows.specs.Overflows.{IsOverflow}
-use Rattle.spec_overflows.proofs.Operations.{sum_overflows, difference_overflows, product_overflows, quotient_overflows}
+use Rattle.spec_simplex.specs.Overflows.{IsOverflow}
+use Rattle.spec_simplex.proofs.Operations.{sum_overflows, difference_overflows, product_overflows, quotient_overflows}
 
 pub exchange_overflows : (rs : List (Row Number)) (b x : ℕ) (o : Overflow) → OverflowsExchange rs b x o → IsOverflow o
 exchange_overflows rs b x o (factor w) = quotient_overflows _ _ o w

@@ -4,8 +4,8 @@ use Rattle.std.specs.Prelude.{Err, IfErr}
 use Rattle.spec_numbers.specs.Fractions.{Fraction, plus, minus, times, divide, opposite}
 use Rattle.spec_numbers.specs.Bounds.{Overflow, fits, sum_fits, checked, added, subtracted, multiplied, divided}
 use Rattle.spec_numbers.specs.declared.Op.TheVariants.{Add, Sub, Mul, Div}
-use Rattle.spec_overflows.specs.Overflows.{IsOverflow}
-use Rattle.spec_overflows.proofs.Failing.{of_fault}
+use Rattle.spec_simplex.specs.Overflows.{IsOverflow}
+use Rattle.spec_simplex.proofs.Failing.{of_fault}
 
 -- what is checked fails where the test does
 checked_fails : (b : Bool) (x : Fraction) (o : Overflow) → (b ≡ false → IsOverflow o) → IfErr (checked b x o) IsOverflow

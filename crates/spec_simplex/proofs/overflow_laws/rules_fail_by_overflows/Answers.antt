@@ -1,6 +1,6 @@
 -- By the operations of the rule, of which each fails by its own overflow.
-use Rattle.spec_overflows.proofs.RuleFaults.{numbers_too_wide, rule_too_wide}
-use Rattle.spec_overflows.proofs.laws.rules_fail_by_overflows.Goals as goal
+use Rattle.spec_simplex.proofs.RuleFaults.{numbers_too_wide, rule_too_wide}
+use Rattle.spec_simplex.proofs.overflow_laws.rules_fail_by_overflows.Goals as goal
 
 pub returns-clause-numbers : goal.returns-clause-numbers
 returns-clause-numbers c = numbers_too_wide

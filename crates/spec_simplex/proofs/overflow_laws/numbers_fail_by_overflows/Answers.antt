@@ -1,6 +1,6 @@
 -- By the operations on their fractions.
-use Rattle.spec_overflows.proofs.Operations.{sum_overflows, difference_overflows, product_overflows, quotient_overflows}
-use Rattle.spec_overflows.proofs.laws.numbers_fail_by_overflows.Goals as goal
+use Rattle.spec_simplex.proofs.Operations.{sum_overflows, difference_overflows, product_overflows, quotient_overflows}
+use Rattle.spec_simplex.proofs.overflow_laws.numbers_fail_by_overflows.Goals as goal
 
 pub returns-clause-sum : goal.returns-clause-sum
 returns-clause-sum c = λ x y o w. sum_overflows x.fraction y.fraction o w

@@ -8,9 +8,9 @@ use Rattle.spec_numbers.specs.Bounds.{Overflow}
 use Rattle.spec_sorts.specs.Terms.{Term}
 use Rattle.spec_arithmetic.specs.Forms.{Answer, Form, Fault, constant_form, adding, combined, scaled, difference}
 use Rattle.spec_arithmetic.specs.Contradictions.{Negation, negation_of, Coefficient, given, too_wide, malformed, paired, paired_with, numbered, Part, without_term, parts_of, weight_by, summed, sum_of, is_strict, cannot_hold, Failure, shape, no_contradiction, wide, as_failure, taken_if, judged_last, judged_first, judged_parts, judged_pairs, la_generic}
-use Rattle.spec_overflows.specs.Overflows.{IsOverflow}
-use Rattle.spec_overflows.proofs.Failing.{failing_in_turn, of_fault}
-use Rattle.spec_overflows.proofs.FormFaults.{IsFault, Fails, sum_fails, scaled_fails, difference_fails}
+use Rattle.spec_simplex.specs.Overflows.{IsOverflow}
+use Rattle.spec_simplex.proofs.Failing.{failing_in_turn, of_fault}
+use Rattle.spec_simplex.proofs.FormFaults.{IsFault, Fails, sum_fails, scaled_fails, difference_fails}
 
 -- where the failure is by an overflow, this is one
 abbrev IsWide : Failure → Type 0

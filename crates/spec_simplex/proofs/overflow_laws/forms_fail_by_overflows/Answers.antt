@@ -1,8 +1,8 @@
 -- By recursion on the term: each operation of its form fails by its own overflow.
 use Rattle.spec_arithmetic.specs.Forms.{form, difference}
-use Rattle.spec_overflows.proofs.Failing.{of_fault}
-use Rattle.spec_overflows.proofs.FormFaults.{IsFault, form_fails, difference_fails}
-use Rattle.spec_overflows.proofs.laws.forms_fail_by_overflows.Goals as goal
+use Rattle.spec_simplex.proofs.Failing.{of_fault}
+use Rattle.spec_simplex.proofs.FormFaults.{IsFault, form_fails, difference_fails}
+use Rattle.spec_simplex.proofs.overflow_laws.forms_fail_by_overflows.Goals as goal
 
 pub returns-clause-terms : goal.returns-clause-terms
 returns-clause-terms c = λ t e h. of_fault IsFault (form t) e (form_fails t) h

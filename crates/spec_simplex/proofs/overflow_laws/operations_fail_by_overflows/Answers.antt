@@ -1,6 +1,6 @@
 -- By the test of each operation.
-use Rattle.spec_overflows.proofs.Operations.{sum_overflows, difference_overflows, product_overflows, quotient_overflows}
-use Rattle.spec_overflows.proofs.laws.operations_fail_by_overflows.Goals as goal
+use Rattle.spec_simplex.proofs.Operations.{sum_overflows, difference_overflows, product_overflows, quotient_overflows}
+use Rattle.spec_simplex.proofs.overflow_laws.operations_fail_by_overflows.Goals as goal
 
 pub returns-clause-sum : goal.returns-clause-sum
 returns-clause-sum c = sum_overflows
