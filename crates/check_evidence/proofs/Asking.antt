@@ -7,8 +7,8 @@ use Rattle.spec_sorts.specs.Signatures.{symbols_in}
 use Rattle.spec_sorts.specs.WellSorted.{IsFormulaOver}
 use Rattle.spec_commands.specs.Stack.{Assertion, Stack, signature_of, assertions_of, terms_asserted}
 use Rattle.spec_arithmetic.specs.Numbers.{IsLinear}
-use Rattle.spec_readable.specs.Readable.{HasDecimals, IsReadableWhole}
-use Rattle.spec_readable.proofs.Search.{argument_readable}
+use Rattle.spec_proof_texts.specs.Readable.{HasDecimals, IsReadableWhole}
+use Rattle.spec_proof_texts.proofs.Search.{argument_readable}
 use Rattle.spec_derivations.specs.Problems.{known_terms, subterms_in}
 use Rattle.spec_derivations.specs.Examples.{asserting, speaking}
 use Rattle.spec_derivations.proofs.Below.{subterms_have}

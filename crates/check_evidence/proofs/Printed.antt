@@ -13,8 +13,8 @@ use Rattle.spec_derivations.specs.Lemmas.{IsMadeOf, given, is_true, IsLemma}
 use Rattle.spec_derivations.specs.Spent.{IsAtomOf, IsOverAtoms}
 use Rattle.spec_proof_texts.specs.Plans.{IsPrinted, in_clause, as_argument}
 use Rattle.spec_arithmetic.specs.Numbers.{IsLinear}
-use Rattle.spec_readable.specs.Readable.{HasDecimals, IsReadableWhole}
-use Rattle.spec_readable.proofs.Search.{argument_readable}
+use Rattle.spec_proof_texts.specs.Readable.{HasDecimals, IsReadableWhole}
+use Rattle.spec_proof_texts.proofs.Search.{argument_readable}
 use Rattle.search_loop.specs.Rounds.{AreSteps, nothing, lemmas, learning, HasSteps}
 
 -- a term can be read where what it negates can

@@ -3,7 +3,7 @@ use Rattle.std.specs.Prelude.{◌≡◌, ℕ, [], map, Result, Ok, Err}
 use Rattle.world_io.specs.declared.bytes.NoMemory.{NoMemory}
 use Rattle.spec_sorts.specs.Values.{Interpretation, Interprets}
 use Rattle.spec_commands.specs.Stack.{Stack, signature_of, terms_asserted, assertions_of}
-use Rattle.spec_readable.specs.Readable.{AreReadable}
+use Rattle.spec_proof_texts.specs.Readable.{AreReadable}
 use Rattle.spec_commands.specs.Checks.{Check}
 use Rattle.spec_derivations.specs.Derivations.{Derivation}
 use Rattle.spec_proof_texts.specs.Lines.{proof_text}

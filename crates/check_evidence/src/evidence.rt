@@ -4,7 +4,7 @@ ghost use Rattle.std.specs.Prelude.{◌≡◌, List, IfOk, OnErr};
 ghost use Rattle.spec_sorts.specs.Terms.{Term};
 ghost use Rattle.spec_sorts.specs.Signatures.{symbols_in};
 ghost use Rattle.spec_commands.specs.Stack.{Stack as ScriptStack, signature_of};
-ghost use Rattle.spec_readable.specs.Readable.{AreReadable};
+ghost use Rattle.spec_proof_texts.specs.Readable.{AreReadable};
 ghost use Rattle.spec_sessions.specs.Evidence.{Limits as SpokenLimits};
 ghost use Rattle.spec_sessions.specs.Meaning.{IsKeptCheck};
 ghost use Rattle.sat_budget.specs.declared.limits.Limits.{Limits as CodeLimits};
@@ -24,7 +24,7 @@ use spec_causes::laws::causes_are_overflows;
 use spec_commands::{assertions_are_formulas, commands_keep_stacks};
 use spec_derivations::search_laws::whole_clauses_are_over_whole_terms;
 use spec_proof_texts::laws::well_sorted_terms_are_printable;
-use spec_readable::laws::{
+use spec_proof_texts::readable_laws::{
     assertions_are_readable, linear_terms_with_decimals_are_readable, search_makes_readable_terms,
 };
 use std::alloc::Global;

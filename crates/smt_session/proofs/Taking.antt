@@ -19,7 +19,7 @@ use Rattle.term_core.specs.Tables.{TableView}
 use Rattle.sat_budget.specs.Budgets.{BudgetView}
 use Rattle.assertion_stack.specs.declared.stack.Stack.{Stack as CodeStack}
 use Rattle.assertion_stack.specs.Stacks.{OverTable, over_table, IsStack, Steps}
-use Rattle.spec_readable.specs.Readable.{AreReadable}
+use Rattle.spec_proof_texts.specs.Readable.{AreReadable}
 use Rattle.check_evidence.specs.Evidence.{check_on, IsHeld}
 use Rattle.smt_session.specs.declared.responses.Response.{Response as CodeResponse}
 use Rattle.smt_session.specs.Sessions.{KeepsBudget, Rejects, TakesScriptCommand}

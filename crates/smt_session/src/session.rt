@@ -17,7 +17,7 @@ use smt_lexer::Refused;
 use smt_sexpr::Sexpr;
 use spec_commands::commands_keep_stacks;
 use spec_proof_texts::laws::commands_leave_script_names;
-use spec_readable::laws::commands_leave_readable_definitions;
+use spec_proof_texts::readable_laws::commands_leave_readable_definitions;
 use spec_sessions::laws::what_is_shown_is_so;
 use std::alloc::Global;
 use std::marker::Model;

@@ -23,3 +23,9 @@ pub mod ScriptNames
 pub mod Sorted
 pub mod Given
 pub mod Refutation
+pub mod ReadNumbers
+pub mod ReadableHeads
+pub mod Filled
+pub mod Readings
+pub mod Stacks
+pub mod Search

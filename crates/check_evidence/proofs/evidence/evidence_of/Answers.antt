@@ -11,7 +11,7 @@ use Rattle.spec_sessions.specs.Evidence.{proof}
 use Rattle.spec_sessions.specs.Refutations.{IsProofOf}
 use Rattle.term_core.specs.Tables.{literal_at}
 use Rattle.proof_log.specs.Logs.{inference_of, derivation_in}
-use Rattle.spec_readable.specs.Readable.{IsReadableWhole}
+use Rattle.spec_proof_texts.specs.Readable.{IsReadableWhole}
 use Rattle.search_loop.specs.Rounds.{HasLogged, HasEvidence}
 use Rattle.check_evidence.specs.Evidence.{check_on}
 use Rattle.check_evidence.proofs.Asking.{asserted_readable, known_readable}

@@ -1,6 +1,6 @@
 -- By what arguments, equalities and order facts have.
-use Rattle.spec_readable.proofs.Search.{whole_decimal, whole_readable}
-use Rattle.spec_readable.proofs.laws.searched_terms_are_readable.Goals as goal
+use Rattle.spec_proof_texts.proofs.Search.{whole_decimal, whole_readable}
+use Rattle.spec_proof_texts.proofs.readable_laws.searched_terms_are_readable.Goals as goal
 
 pub returns-clause-decimals : goal.returns-clause-decimals
 returns-clause-decimals c = whole_decimal

@@ -14,8 +14,8 @@ use Rattle.spec_derivations.proofs.Below.{subterms_have}
 use Rattle.spec_valuations.proofs.Speaking.{choice, truth_fact, both_have, all_branches, whole_have}
 use Rattle.spec_valuations.proofs.Linear.{whole_linear}
 use Rattle.spec_proof_texts.specs.Printable.{IsReadable}
-use Rattle.spec_readable.specs.Readable.{HasDecimals, HaveDecimals, IsReadableWhole}
-use Rattle.spec_readable.proofs.Heads.{before}
+use Rattle.spec_proof_texts.specs.Readable.{HasDecimals, HaveDecimals, IsReadableWhole}
+use Rattle.spec_proof_texts.proofs.ReadableHeads.{before}
 
 -- the head of such a term can be read
 pub head_readable : (t : Term) → IsLinear t → HasDecimals t → IsReadable t

@@ -3,9 +3,9 @@ use Rattle.std.proofs.lemmas.List.Elements.{All-from_recursion, recursion_from_A
 use Rattle.spec_text.specs.Bytes.{Name}
 use Rattle.spec_sorts.specs.Terms.{Term}
 use Rattle.spec_sorts.specs.Signatures.{with_definitions}
-use Rattle.spec_readable.specs.Readable.{IsReadableWhole, IsReadableDeclaration}
-use Rattle.spec_readable.proofs.Readings.{text_readable, definition_readable}
-use Rattle.spec_readable.proofs.laws.readings_are_readable.Goals as goal
+use Rattle.spec_proof_texts.specs.Readable.{IsReadableWhole, IsReadableDeclaration}
+use Rattle.spec_proof_texts.proofs.Readings.{text_readable, definition_readable}
+use Rattle.spec_proof_texts.proofs.readable_laws.readings_are_readable.Goals as goal
 
 pub returns-clause-term : goal.returns-clause-term
 returns-clause-term c = λ w s b t r h e bound.

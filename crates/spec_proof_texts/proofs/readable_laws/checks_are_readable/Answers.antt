@@ -6,10 +6,10 @@ use Rattle.spec_commands.specs.Checks.{Check, asked, IsCurrent}
 use Rattle.spec_commands.proofs.Asked.{current_bare, all_asked}
 use Rattle.spec_commands.specs.Kept.{IsSoundStack}
 use Rattle.spec_derivations.proofs.Asked.{terms_have}
-use Rattle.spec_readable.specs.Readable.{IsReadableWhole, IsReadableDeclaration}
-use Rattle.spec_readable.proofs.Readings.{ReadDecimals}
-use Rattle.spec_readable.proofs.Stacks.{GoodStack, current_good, kept_readable}
-use Rattle.spec_readable.proofs.laws.checks_are_readable.Goals as goal
+use Rattle.spec_proof_texts.specs.Readable.{IsReadableWhole, IsReadableDeclaration}
+use Rattle.spec_proof_texts.proofs.Readings.{ReadDecimals}
+use Rattle.spec_proof_texts.proofs.Stacks.{GoodStack, current_good, kept_readable}
+use Rattle.spec_proof_texts.proofs.readable_laws.checks_are_readable.Goals as goal
 
 good_here : ReadDecimals → (limit : ℕ) (text : List ℕ) (k : ℕ) (here : Check) → IsCurrent limit text k here → GoodStack here.stack
 good_here decimal limit text k here is = current_good decimal limit empty_stack k is.commands here is.here tt

@@ -24,9 +24,9 @@ use Rattle.spec_reading.specs.Definitions.{Parts, bound_parameters, definitions_
 use Rattle.spec_reading.proofs.Values.{with_sorts_ok, by_rule_ok, by_form}
 use Rattle.spec_reading.proofs.Kept.{with_none, with_two}
 use Rattle.spec_proof_texts.specs.Decimals.{is_decimal}
-use Rattle.spec_readable.specs.Readable.{IsReadableWhole, IsReadableDeclaration}
-use Rattle.spec_readable.proofs.Heads.{Each, before, rule_keeps}
-use Rattle.spec_readable.proofs.Filled.{filled_readable}
+use Rattle.spec_proof_texts.specs.Readable.{IsReadableWhole, IsReadableDeclaration}
+use Rattle.spec_proof_texts.proofs.ReadableHeads.{Each, before, rule_keeps}
+use Rattle.spec_proof_texts.proofs.Filled.{filled_readable}
 
 -- both of two lists have what each item has
 pub append_each : {A : Type 0} (P : A → Type 0) (xs ys : List A) → AllByRecursion P xs → AllByRecursion P ys → AllByRecursion P (xs ++ ys)

@@ -13,7 +13,7 @@ use Rattle.spec_sorts.specs.Theory.{look_up, alike, Rule, at_least, unequal, tur
 use Rattle.spec_sorts.proofs.General.{list_of-terms_of}
 use Rattle.spec_arithmetic.specs.Numbers.{IsLinearHead, IsLinear, AreLinear}
 use Rattle.spec_proof_texts.specs.Printable.{HasText}
-use Rattle.spec_readable.specs.Readable.{HasDecimals, HaveDecimals, IsReadableWhole}
+use Rattle.spec_proof_texts.specs.Readable.{HasDecimals, HaveDecimals, IsReadableWhole}
 
 -- each of terms
 abbrev pub Each : List Term → Type 0

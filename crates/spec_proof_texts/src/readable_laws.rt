@@ -19,13 +19,13 @@ ghost use Rattle.spec_derivations.specs.Lemmas.{IsMadeOf};
 ghost use Rattle.spec_derivations.specs.Spent.{IsAtomOf};
 ghost use Rattle.spec_proof_texts.specs.Decimals.{is_decimal};
 ghost use Rattle.spec_proof_texts.specs.Printable.{IsReadable};
-ghost use Rattle.spec_readable.specs.Readable.{HasDecimals, IsReadableWhole, AreReadable};
+ghost use Rattle.spec_proof_texts.specs.Readable.{HasDecimals, IsReadableWhole, AreReadable};
 
 /// States that each literal that is not too wide to be read has a value that is a decimal, whatever its bytes are.
 pub fn read_numbers_are_decimals()
     ensures { (bytes : List ℕ) → is_wide bytes ≡ false → is_decimal (literal_value bytes) ≡ true }
 {
-    spec_proof_texts::laws::literals_are_decimals();
+    crate::laws::literals_are_decimals();
 }
 
 /// States that the head of a linear term with decimals can be read before its arguments.

@@ -18,8 +18,8 @@ use Rattle.spec_commands.specs.Stack.{Assertion, Stack, Key, Effect, done, unsup
 use Rattle.spec_commands.specs.Checks.{Check, this_or, after_effect, after_command, current_at}
 use Rattle.spec_commands.specs.Kept.{IsAsserted, IsSoundStack}
 use Rattle.spec_commands.proofs.Kept.{signature_last, signature_with, roomy_ok}
-use Rattle.spec_readable.specs.Readable.{IsReadableWhole, IsReadableDeclaration}
-use Rattle.spec_readable.proofs.Readings.{Good, append_each, ReadDecimals, text_readable, definition_readable}
+use Rattle.spec_proof_texts.specs.Readable.{IsReadableWhole, IsReadableDeclaration}
+use Rattle.spec_proof_texts.proofs.Readings.{Good, append_each, ReadDecimals, text_readable, definition_readable}
 
 -- the definitions of a stack's signature stand for such terms
 abbrev pub GoodStack : Stack → Type 0

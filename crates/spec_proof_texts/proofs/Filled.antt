@@ -8,8 +8,8 @@ use Rattle.spec_text.specs.declared.Fault.TheVariants.{NotLinear}
 use Rattle.spec_sorts.specs.Terms.{Head, Minus, Times, Divide, Literal, Parameter, Term, Terms, app, nil, cons, list_of, no_term, filled, filled_all}
 use Rattle.spec_sorts.specs.Theory.{is_constant, are_constant, keeps_constant, is_divisor, is_zero_divisor, count_of, product_fault, quotient_fault}
 use Rattle.spec_arithmetic.specs.Numbers.{IsLinearHead, IsLinear, AreLinear}
-use Rattle.spec_readable.specs.Readable.{HasDecimals, HaveDecimals, IsReadableWhole}
-use Rattle.spec_readable.proofs.Heads.{Each, not_fault, no_term_readable, IsDivisor, divisors_taken, divisors_free}
+use Rattle.spec_proof_texts.specs.Readable.{HasDecimals, HaveDecimals, IsReadableWhole}
+use Rattle.spec_proof_texts.proofs.ReadableHeads.{Each, not_fault, no_term_readable, IsDivisor, divisors_taken, divisors_free}
 
 -- how many of terms are no constants
 abbrev not_constant : Terms → ℕ

@@ -1,9 +1,9 @@
 -- By what readings make.
 use Rattle.std.proofs.lemmas.List.Elements.{All-nil, All-from_recursion, recursion_from_All}
 use Rattle.spec_commands.specs.Stack.{signature_of}
-use Rattle.spec_readable.specs.Readable.{IsReadableDeclaration}
-use Rattle.spec_readable.proofs.Stacks.{step_good}
-use Rattle.spec_readable.proofs.laws.commands_leave_readable_definitions.Goals as goal
+use Rattle.spec_proof_texts.specs.Readable.{IsReadableDeclaration}
+use Rattle.spec_proof_texts.proofs.Stacks.{step_good}
+use Rattle.spec_proof_texts.proofs.readable_laws.commands_leave_readable_definitions.Goals as goal
 
 pub returns-clause-first : goal.returns-clause-first
 returns-clause-first c = All-nil IsReadableDeclaration
