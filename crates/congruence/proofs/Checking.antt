@@ -1,7 +1,7 @@
 -- What a check of a closure shows, over a table.
 use Rattle.std.proofs.Common.{◌≡◌, ◌<◌, ◌↔◌, true, List, map, sym, subst, arith}
 use Rattle.std.specs.Prelude.{All}
-use Rattle.spec_congruence.specs.Congruence.{IsRefuted as AreRefuted}
+use Rattle.spec_equality.specs.Congruence.{IsRefuted as AreRefuted}
 use Rattle.spec_sorts.specs.Terms.{Term}
 use Rattle.spec_sorts.specs.Subsets.{IsClosed}
 use Rattle.term_core.specs.Tables.{TableView, literal_at}

@@ -1,6 +1,6 @@
 -- What a closure means as a theory.
 use Rattle.std.specs.Prelude.{length, map}
-use Rattle.spec_congruence.specs.Congruence.{IsCongruent}
+use Rattle.spec_equality.specs.Congruence.{IsCongruent}
 use Rattle.term_core.specs.declared.ids.TermId.{TermId}
 use Rattle.term_core.specs.Tables.{TableView, term_at}
 use Rattle.proof_log.specs.Theories.{Mark, TheoryView, terms_watched, literals_held}

@@ -1,7 +1,7 @@
 //! Congruence closure as a theory.
 
 ghost use Rattle.std.specs.Prelude.{◌≡◌, ◌-◌, ◌≤◌, ◌++◌, ◌∷◌, [], true, length, get_or, take, Contains, MatchResult, IfOk, IfErr, OnOk, OnErr, Ok};
-ghost use Rattle.spec_congruence.specs.Congruence.{IsFine, IsRefuted};
+ghost use Rattle.spec_equality.specs.Congruence.{IsFine, IsRefuted};
 ghost use Rattle.term_core.specs.Tables.{TableView};
 ghost use Rattle.sat_budget.specs.declared.limits.Stop.TheVariants as stops;
 ghost use Rattle.sat_budget.specs.Budgets.{Spends, StopsBy, AreSpent};
@@ -55,7 +55,7 @@ fn explain_conflict(
 
 impl Theory for Congruence {
     ghost use Rattle.std.specs.Prelude.{◌≡◌, true};
-    ghost use Rattle.spec_congruence.specs.Congruence.{IsFine, IsRefuted};
+    ghost use Rattle.spec_equality.specs.Congruence.{IsFine, IsRefuted};
     ghost use Rattle.congruence_relation.specs.Relation.{AreFactsOf};
     ghost use Rattle.congruence.specs.Views.{theory_of};
     ghost use Rattle.congruence_relation.proofs.Kept.{of_more};

@@ -6,7 +6,7 @@ use Rattle.spec_text.proofs.Members.{to_image, from_image}
 use Rattle.spec_sorts.specs.Terms.{Equal, Head, Term, Terms, app, nil, cons, terms_of, of}
 use Rattle.spec_sorts.specs.Literals.{Literal as TermLiteral}
 use Rattle.spec_equality.specs.Reasons.{equal}
-use Rattle.spec_congruence.specs.Congruence.{truth_term, signed_literal, IsRefuted as AreRefuted, IsCongruent as AreEqual, AreCongruent as AreAllEqual, equated, decided, itself as same_term, turned as turned_terms, joined as joined_terms, by_arguments as by_equal_arguments, none as no_terms, more as more_terms}
+use Rattle.spec_equality.specs.Congruence.{truth_term, signed_literal, IsRefuted as AreRefuted, IsCongruent as AreEqual, AreCongruent as AreAllEqual, equated, decided, itself as same_term, turned as turned_terms, joined as joined_terms, by_arguments as by_equal_arguments, none as no_terms, more as more_terms}
 use Rattle.term_core.specs.declared.ids.TermId.{TermId}
 use Rattle.term_core.specs.declared.ids.Lit.{Lit}
 use Rattle.term_core.specs.declared.nodes.Head.{Head as NodeHead}

@@ -1,7 +1,7 @@
 //! What the definitions imply. Each law is a function whose contract is the law; it computes nothing.
 
 ghost use Rattle.std.specs.Prelude.{◌↔◌, ◌≡◌, List, map};
-ghost use Rattle.spec_congruence.specs.Congruence.{IsCongruent as AreEqual, IsRefuted as AreRefuted};
+ghost use Rattle.spec_equality.specs.Congruence.{IsCongruent as AreEqual, IsRefuted as AreRefuted};
 ghost use Rattle.term_core.specs.declared.ids.TermId.{TermId as Number};
 ghost use Rattle.term_core.specs.Symbols.{AreDeclared};
 ghost use Rattle.term_core.specs.Tables.{TableView, Extends, IsIn, AreDifferent, term_at, literal_at};

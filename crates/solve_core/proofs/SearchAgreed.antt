@@ -16,7 +16,7 @@ use Rattle.spec_sorts.specs.Literals.{Literal}
 use Rattle.spec_sorts.proofs.LeastSubterms.{least_of}
 use Rattle.spec_arithmetic.specs.Numbers.{number_at, IsLinear, IsLinearOver}
 use Rattle.spec_simplex.specs.Numbers.{HoldsAt}
-use Rattle.spec_congruence.specs.Congruence.{IsCongruent, itself, IsFine}
+use Rattle.spec_equality.specs.Congruence.{IsCongruent, itself, IsFine}
 use Rattle.spec_derivations.specs.Problems.{Problem, terms_of_problem, known_terms, subterms_in}
 use Rattle.spec_derivations.specs.Orders.{whole_terms}
 use Rattle.spec_derivations.proofs.SearchTerms.{subterms_spoken}

@@ -15,7 +15,7 @@ use Rattle.spec_sorts.specs.Literals.{Clause, Literal, literal_of, literals_of}
 use Rattle.spec_rules.specs.Truths.{Truths, term_true_by}
 use Rattle.spec_arithmetic.specs.Numbers.{number_at, IsLinear}
 use Rattle.spec_simplex.specs.Numbers.{HoldsAt}
-use Rattle.spec_congruence.specs.Congruence.{signed_literal, IsCongruent, IsFine}
+use Rattle.spec_equality.specs.Congruence.{signed_literal, IsCongruent, IsFine}
 use Rattle.spec_derivations.specs.Problems.{Problem, terms_of_problem, known_terms}
 use Rattle.spec_derivations.specs.Orders.{whole_terms, whole_clauses}
 use Rattle.spec_valuations.specs.Classes.{class_in, AreShared}

@@ -7,7 +7,7 @@ use Rattle.spec_sorts.specs.Terms.{Number, Symbol, Equal, Apply, Term, Terms, ap
 use Rattle.spec_sorts.specs.Literals.{Literal}
 use Rattle.spec_arithmetic.specs.Numbers.{number_at, IsLinear}
 use Rattle.spec_simplex.specs.Numbers.{HoldsAt}
-use Rattle.spec_congruence.specs.Congruence.{IsFine}
+use Rattle.spec_equality.specs.Congruence.{IsFine}
 use Rattle.spec_derivations.specs.Problems.{Problem, known_terms, subterms_in}
 use Rattle.spec_derivations.specs.Orders.{whole_terms}
 use Rattle.spec_valuations.specs.Classes.{class_in, IsEqualityAmong}

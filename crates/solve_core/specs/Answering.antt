@@ -4,7 +4,7 @@ use Rattle.spec_numbers.specs.Fractions.{Fraction, IsReduced}
 use Rattle.spec_sorts.specs.Terms.{Number, Term, sort_of}
 use Rattle.spec_sorts.specs.Subsets.{AreAmong}
 use Rattle.spec_sorts.specs.Literals.{Literal}
-use Rattle.spec_congruence.specs.Congruence.{IsFine}
+use Rattle.spec_equality.specs.Congruence.{IsFine}
 use Rattle.spec_arithmetic.specs.Numbers.{number_at}
 use Rattle.spec_valuations.specs.Classes.{class_in, AreShared}
 use Rattle.spec_simplex.specs.Constraints.{HaveForms}

@@ -1,7 +1,7 @@
 //! The model where a search is saturated.
 
 ghost use Rattle.std.specs.Prelude.{◌≡◌, map, replicate, IfOk};
-ghost use Rattle.spec_congruence.specs.Congruence.{IsFine};
+ghost use Rattle.spec_equality.specs.Congruence.{IsFine};
 ghost use Rattle.spec_tableaux.specs.Numbers.{numbers as exact};
 ghost use Rattle.ratio128.specs.Meant.{fraction};
 ghost use Rattle.proof_log.specs.Theories.{TheoryView, terms_watched, literals_held};

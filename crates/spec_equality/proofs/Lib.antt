@@ -4,3 +4,5 @@ pub mod Sound
 pub mod Alone
 mod Taking
 mod Verdicts
+pub mod CongruenceSound
+pub mod Apart

@@ -1,9 +1,12 @@
-//! Definitions about steps of proofs by rules of equality and functions: what each rule takes, and that it keeps truth.
+//! Definitions about equality and functions: what held literals make equal, which steps of proofs the rules take, and that both keep
+//! truth.
 //!
 //! Only the names of the rules are code. The functions with empty bodies are laws and examples: what they ensure is proved of the definitions in
 //! `specs/`.
 #![tactic(auto)]
 
+pub mod congruence_examples;
+pub mod congruence_laws;
 pub mod examples;
 pub mod laws;
 mod rule_names;

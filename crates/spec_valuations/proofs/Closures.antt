@@ -4,7 +4,7 @@ use Rattle.spec_text.proofs.Members.{first, later}
 use Rattle.spec_sorts.specs.Terms.{Truth, Apply, Not, Equal, Symbol, Term, Terms, app, nil, cons, list_of, sort_of, negated}
 use Rattle.spec_sorts.specs.Literals.{Literal, literal_of}
 use Rattle.spec_equality.specs.Reasons.{equal}
-use Rattle.spec_congruence.specs.Congruence.{truth_term, signed_literal, IsCongruent, AreCongruent, IsFine, equated, decided, joined, by_arguments, none, more}
+use Rattle.spec_equality.specs.Congruence.{truth_term, signed_literal, IsCongruent, AreCongruent, IsFine, equated, decided, joined, by_arguments, none, more}
 use Rattle.spec_derivations.proofs.Formulas.{each_truth}
 use Rattle.spec_valuations.specs.Tables.{AreListed}
 use Rattle.spec_valuations.specs.Classes.{AreClasses}

@@ -7,7 +7,7 @@ use Rattle.spec_sorts.specs.Terms.{Sort, Truth, Number, Declared, Symbol, Equal,
 use Rattle.spec_sorts.specs.Values.{Value, truth, number, element, same_value, is_true, HasSort, chosen}
 use Rattle.spec_sorts.proofs.SameTerms.{one_sorts}
 use Rattle.spec_sorts.proofs.WellSorted.{same_sort_is, choice_takes}
-use Rattle.spec_congruence.specs.Congruence.{truth_term}
+use Rattle.spec_equality.specs.Congruence.{truth_term}
 use Rattle.spec_derivations.proofs.Obeying.{ite_takes, number_differs}
 use Rattle.spec_valuations.specs.Tables.{Valuation, values_by, IsFunctional, Obeys, AreListed, IsValuation}
 use Rattle.spec_valuations.specs.Classes.{value_in, value_by, AreJoint}

@@ -15,7 +15,7 @@ use Rattle.spec_sorts.specs.Theory.{keeps_constant}
 use Rattle.spec_sorts.specs.Literals.{Literal as HeldLiteral, literal_of}
 use Rattle.spec_sorts.proofs.LeastSubterms.{least_of}
 use Rattle.spec_sorts.proofs.WellSorted.{same_sort_is, less_takes, at_most_takes}
-use Rattle.spec_congruence.specs.Congruence.{signed_literal}
+use Rattle.spec_equality.specs.Congruence.{signed_literal}
 use Rattle.spec_arithmetic.specs.Numbers.{number_at}
 use Rattle.spec_arithmetic.specs.Contradictions.{are_numbers}
 use Rattle.spec_arithmetic.proofs.Differences.{IsBelowZero, less_true}

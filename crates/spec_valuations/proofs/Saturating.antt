@@ -14,7 +14,7 @@ use Rattle.spec_sorts.specs.WellSorted.{IsWellSorted, IsFormulaOver}
 use Rattle.spec_sorts.specs.Subsets.{AreAmong, IsClosed}
 use Rattle.spec_sorts.proofs.General.{sorts_listed}
 use Rattle.spec_sorts.proofs.WellSorted.{other_sort}
-use Rattle.spec_congruence.specs.Congruence.{truth_term, signed_literal, IsCongruent, IsFine}
+use Rattle.spec_equality.specs.Congruence.{truth_term, signed_literal, IsCongruent, IsFine}
 use Rattle.spec_equality.proofs.Values.{value_itself}
 use Rattle.spec_rules.specs.Truths.{Truths, literal_true, term_true_by}
 use Rattle.spec_derivations.specs.Problems.{Problem, terms_of_problem, known_terms}

@@ -7,7 +7,7 @@ use Rattle.spec_sorts.specs.Terms.{Truth, Number, Symbol, Equal, Ite, Term, app,
 use Rattle.spec_sorts.specs.WellSorted.{IsWellSorted}
 use Rattle.spec_sorts.specs.Subsets.{arguments_of}
 use Rattle.spec_sorts.proofs.WellSorted.{choice_takes}
-use Rattle.spec_congruence.specs.Congruence.{truth_term}
+use Rattle.spec_equality.specs.Congruence.{truth_term}
 use Rattle.spec_derivations.specs.Problems.{Problem, known_terms, known_subterms}
 use Rattle.spec_derivations.specs.Base.{truth_facts, branch_equalities, spoken_terms, search_terms}
 use Rattle.spec_derivations.specs.Orders.{order_fact, order_facts, ordered_terms, whole_terms}

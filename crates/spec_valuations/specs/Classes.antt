@@ -4,7 +4,7 @@ use Rattle.spec_text.specs.Bytes.{Name}
 use Rattle.spec_numbers.specs.Fractions.{Fraction, IsReduced}
 use Rattle.spec_sorts.specs.Terms.{Sort, Truth, Number, Declared, Symbol, Equal, Ite, Apply, Term, Terms, app, of, pair, list_of, sort_of, same_term}
 use Rattle.spec_sorts.specs.Values.{Value, truth, number, element}
-use Rattle.spec_congruence.specs.Congruence.{truth_term}
+use Rattle.spec_equality.specs.Congruence.{truth_term}
 use Rattle.spec_valuations.specs.Tables.{Valuation, Obeys}
 
 -- the value of a term of a sort, by its truth, its number or its class

@@ -6,7 +6,7 @@ use Rattle.spec_sorts.specs.Terms.{Truth, Number, Symbol, Term, sort_of}
 use Rattle.spec_sorts.specs.WellSorted.{IsFormulaOver}
 use Rattle.spec_sorts.specs.Subsets.{AreAmong}
 use Rattle.spec_sorts.specs.Literals.{Clause, Literal, literal_of}
-use Rattle.spec_congruence.specs.Congruence.{signed_literal, IsCongruent, IsFine}
+use Rattle.spec_equality.specs.Congruence.{signed_literal, IsCongruent, IsFine}
 use Rattle.spec_arithmetic.specs.Numbers.{number_at, IsLinear}
 use Rattle.spec_simplex.specs.Numbers.{HoldsAt}
 use Rattle.spec_rules.specs.Truths.{Truths, term_true_by}

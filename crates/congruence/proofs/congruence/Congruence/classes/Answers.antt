@@ -4,7 +4,7 @@ use Rattle.std.specs.Prelude.{Vec, IfOk}
 use Rattle.std.specs.declared.alloc.Global.{Global}
 use Rattle.std.proofs.lemmas.Result.{IfOk-weaker}
 use Rattle.spec_sorts.specs.Terms.{Term}
-use Rattle.spec_congruence.specs.Congruence.{IsCongruent as AreEqual}
+use Rattle.spec_equality.specs.Congruence.{IsCongruent as AreEqual}
 use Rattle.term_core.specs.Tables.{term_at, literal_at}
 use Rattle.congruence_relation.specs.Relation.{IsCongruentIn}
 use Rattle.congruence_closure.specs.Closure.{ClosureView, TellClasses}

@@ -1,7 +1,7 @@
 -- Equal terms, by numbers and over a table.
 use Rattle.std.proofs.Common.{◌≡◌, ◌↔◌, true, List, map, sym, subst}
 use Rattle.spec_sorts.specs.Terms.{Term}
-use Rattle.spec_congruence.specs.Congruence.{IsCongruent as AreEqual}
+use Rattle.spec_equality.specs.Congruence.{IsCongruent as AreEqual}
 use Rattle.term_core.specs.Tables.{term_at, literal_at}
 use Rattle.congruence_relation.specs.Relation.{IsCongruentIn}
 use Rattle.congruence_closure.specs.Closure.{ClosureView}

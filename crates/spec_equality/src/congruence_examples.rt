@@ -4,8 +4,8 @@
 ghost use Rattle.std.specs.Prelude.{true, false, [], ◌∷◌};
 ghost use Rattle.spec_equality.specs.Reasons.{equal};
 ghost use Rattle.spec_equality.specs.Examples.{a, b};
-ghost use Rattle.spec_congruence.specs.Congruence.{truth_term, IsCongruent, IsRefuted, IsFine};
-ghost use Rattle.spec_congruence.specs.Examples.{f, h, same, apart};
+ghost use Rattle.spec_equality.specs.Congruence.{truth_term, IsCongruent, IsRefuted, IsFine};
+ghost use Rattle.spec_equality.specs.CongruenceExamples.{f, h, same, apart};
 
 /// States that terms with equal arguments are equal where both are listed. Terms that are equal say nothing of their arguments.
 pub fn equal_arguments_give_equal_terms()

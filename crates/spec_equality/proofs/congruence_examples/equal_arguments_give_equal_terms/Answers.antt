@@ -4,10 +4,10 @@ use Rattle.std.proofs.lemmas.Bool.{false≢true, true≢false}
 use Rattle.spec_text.proofs.Members.{first, later}
 use Rattle.spec_sorts.specs.Terms.{same_term, same_terms}
 use Rattle.spec_equality.specs.Examples.{a, b}
-use Rattle.spec_congruence.specs.Congruence.{IsCongruent, equated, turned}
-use Rattle.spec_congruence.specs.Examples.{f, same}
-use Rattle.spec_congruence.proofs.Apart.{head_in, one_class, kept_by, by_one}
-use Rattle.spec_congruence.proofs.examples.equal_arguments_give_equal_terms.Goals as goal
+use Rattle.spec_equality.specs.Congruence.{IsCongruent, equated, turned}
+use Rattle.spec_equality.specs.CongruenceExamples.{f, same}
+use Rattle.spec_equality.proofs.Apart.{head_in, one_class, kept_by, by_one}
+use Rattle.spec_equality.proofs.congruence_examples.equal_arguments_give_equal_terms.Goals as goal
 
 pub returns : goal.returns
 unfolding same_term same_terms

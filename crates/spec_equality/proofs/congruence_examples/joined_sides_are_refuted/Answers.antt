@@ -5,10 +5,10 @@ use Rattle.spec_sorts.specs.Terms.{Term, same_term, same_terms}
 use Rattle.spec_sorts.specs.Literals.{Literal}
 use Rattle.spec_equality.specs.Reasons.{equal}
 use Rattle.spec_equality.specs.Examples.{a, b}
-use Rattle.spec_congruence.specs.Congruence.{truth_term, signed_literal, equated}
-use Rattle.spec_congruence.specs.Examples.{f, same, apart}
-use Rattle.spec_congruence.proofs.Apart.{left_of, right_of, head_in, one_class, member, kept_by, by_one}
-use Rattle.spec_congruence.proofs.examples.joined_sides_are_refuted.Goals as goal
+use Rattle.spec_equality.specs.Congruence.{truth_term, signed_literal, equated}
+use Rattle.spec_equality.specs.CongruenceExamples.{f, same, apart}
+use Rattle.spec_equality.proofs.Apart.{left_of, right_of, head_in, one_class, member, kept_by, by_one}
+use Rattle.spec_equality.proofs.congruence_examples.joined_sides_are_refuted.Goals as goal
 
 pub returns : goal.returns
 unfolding same_term same_terms

@@ -6,7 +6,7 @@ use Rattle.spec_sorts.specs.Terms.{Head, Term, Terms, no_term, app, nil, cons, l
 use Rattle.spec_sorts.specs.Literals.{Literal}
 use Rattle.spec_equality.specs.Reasons.{equal}
 use Rattle.spec_text.proofs.Members.{none as nothing}
-use Rattle.spec_congruence.specs.Congruence.{truth_term, signed_literal, IsCongruent, AreCongruent, equated, decided, itself, turned, joined, by_arguments, none, more}
+use Rattle.spec_equality.specs.Congruence.{truth_term, signed_literal, IsCongruent, AreCongruent, equated, decided, itself, turned, joined, by_arguments, none, more}
 
 -- Each of two terms that are stated to be equal, or are listed with one head and arguments of the same classes, is of the other's class.
 pub record AreKept {K : Type 0} (listed : List Term) (held : List Literal) (class : Term → K) : Type 0 where

@@ -1,6 +1,6 @@
 -- Equal terms have one value, so refuted literals are not all true.
-use Rattle.spec_congruence.proofs.Sound.{one_value, never_refuted}
-use Rattle.spec_congruence.proofs.laws.congruence_is_sound.Goals as goal
+use Rattle.spec_equality.proofs.CongruenceSound.{one_value, never_refuted}
+use Rattle.spec_equality.proofs.congruence_laws.congruence_is_sound.Goals as goal
 
 pub returns : goal.returns
 returns c = record {

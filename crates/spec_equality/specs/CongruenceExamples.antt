@@ -3,7 +3,7 @@ use Rattle.std.specs.Prelude.{true, false, [], ◌∷◌, codes}
 use Rattle.spec_sorts.specs.Terms.{Truth, Declared, Apply, Term, of}
 use Rattle.spec_sorts.specs.Literals.{Literal}
 use Rattle.spec_equality.specs.Reasons.{equal}
-use Rattle.spec_congruence.specs.Congruence.{signed_literal}
+use Rattle.spec_equality.specs.Congruence.{signed_literal}
 
 -- (f t) for a term of a declared sort
 abbrev pub f : Term → Term

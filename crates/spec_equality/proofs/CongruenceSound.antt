@@ -8,8 +8,8 @@ use Rattle.spec_sorts.specs.Values.{truth, is_true, Interpretation}
 use Rattle.spec_sorts.specs.TermValues.{value_at, values_at}
 use Rattle.spec_equality.specs.Reasons.{equal}
 use Rattle.spec_equality.proofs.Values.{sides_same, same_sides, by_values}
-use Rattle.spec_congruence.specs.Congruence.{truth_term, signed_literal, IsCongruent, AreCongruent, IsRefuted, equated, decided, itself, turned, joined, by_arguments, none, more}
-use Rattle.spec_congruence.specs.Truth.{IsTrueLiteral, AreTrueUnder}
+use Rattle.spec_equality.specs.Congruence.{truth_term, signed_literal, IsCongruent, AreCongruent, IsRefuted, equated, decided, itself, turned, joined, by_arguments, none, more}
+use Rattle.spec_equality.specs.Truth.{IsTrueLiteral, AreTrueUnder}
 
 module _ (i : Interpretation) (listed : List Term) (held : List Literal) (true_held : AreTrueUnder i held) where
   is_held : (l : Literal) → Contains held l → IsTrueLiteral i l

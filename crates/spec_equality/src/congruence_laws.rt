@@ -5,8 +5,8 @@ ghost use Rattle.spec_sorts.specs.Terms.{Term};
 ghost use Rattle.spec_sorts.specs.Literals.{Literal};
 ghost use Rattle.spec_sorts.specs.Values.{Interpretation};
 ghost use Rattle.spec_sorts.specs.TermValues.{value_at};
-ghost use Rattle.spec_congruence.specs.Congruence.{IsCongruent, IsRefuted};
-ghost use Rattle.spec_congruence.specs.Truth.{AreTrueUnder};
+ghost use Rattle.spec_equality.specs.Congruence.{IsCongruent, IsRefuted};
+ghost use Rattle.spec_equality.specs.Truth.{AreTrueUnder};
 
 /// States that terms which held literals make equal have one value, under each interpretation that makes these literals true.
 /// Refuted literals are true under none. Source: SMT-LIB 2.6, section 5.3, theory Core.

@@ -4,10 +4,10 @@ use Rattle.std.proofs.lemmas.Bool.{true≢false}
 use Rattle.spec_sorts.specs.Terms.{Equal, Term, same_head, same_term, same_terms}
 use Rattle.spec_equality.specs.Reasons.{equal}
 use Rattle.spec_equality.specs.Examples.{a, b}
-use Rattle.spec_congruence.specs.Congruence.{truth_term, equated, decided}
-use Rattle.spec_congruence.specs.Examples.{f, h, same, apart}
-use Rattle.spec_congruence.proofs.Apart.{head_in, one_class, kept_by, by_one}
-use Rattle.spec_congruence.proofs.examples.held_terms_are_truth_values.Goals as goal
+use Rattle.spec_equality.specs.Congruence.{truth_term, equated, decided}
+use Rattle.spec_equality.specs.CongruenceExamples.{f, h, same, apart}
+use Rattle.spec_equality.proofs.Apart.{head_in, one_class, kept_by, by_one}
+use Rattle.spec_equality.proofs.congruence_examples.held_terms_are_truth_values.Goals as goal
 
 pub returns : goal.returns
 unfolding same_term same_terms
