@@ -4,7 +4,7 @@ ghost use Rattle.std.specs.Prelude.{◌≡◌};
 ghost use Rattle.world_io.specs.Writing.{Sends};
 ghost use Rattle.spec_sorts.specs.Signatures.{symbols_in};
 ghost use Rattle.spec_commands.specs.Stack.{Stack as ScriptStack, signature_of};
-ghost use Rattle.spec_replies.specs.Lines.{word_line};
+ghost use Rattle.spec_models.specs.Replies.{word_line};
 ghost use Rattle.spec_sessions.specs.Evidence.{Found};
 ghost use Rattle.spec_sessions.specs.Responses.{answer_text, evidence_text};
 ghost use Rattle.sat_budget.specs.Budgets.{BudgetView};
@@ -14,7 +14,7 @@ ghost use Rattle.check_evidence.specs.Evidence.{checked_on, IsEvidence, IsSomeEv
 use crate::evidence::Evidence;
 use alethe_writer::send as send_proof;
 use model_text::send as send_model;
-use reply_text::{Word, overflow, pivots_spent, spent, word};
+use reply_text::{ResponseWord, overflow, pivots_spent, spent, word};
 use sat_budget::Reason;
 use term_core::TermTable;
 use world_io::{Failed, Sink};
@@ -31,14 +31,14 @@ pub fn send_answer<K: Sink>(evidence: &Evidence, out: &mut K) -> Result<(), Fail
 }
 
 /// The word that answers a check.
-fn word_of(evidence: &Evidence) -> Word
+fn word_of(evidence: &Evidence) -> ResponseWord
     ensures { (t : TableView) (budget : BudgetView) (f : Found) → IsEvidence t budget evidence.now f
         → answer_text f ≡ word_line result }
 {
     match evidence {
-        Evidence::Model(_) => Word::Sat,
-        Evidence::Proof(_, _) => Word::Unsat,
-        Evidence::Reason(_) => Word::Unknown,
+        Evidence::Model(_) => ResponseWord::Sat,
+        Evidence::Proof(_, _) => ResponseWord::Unsat,
+        Evidence::Reason(_) => ResponseWord::Unknown,
     }
 }
 

@@ -4,7 +4,7 @@ use Rattle.std.specs.Prelude.{codes}
 use Rattle.spec_text.specs.Printed.{printed}
 use Rattle.spec_numbers.specs.Bounds.{Overflow}
 use Rattle.spec_models.specs.Values.{fraction_tree}
-use Rattle.spec_replies.specs.Lines.{operation_word, overflow, reason_line}
+use Rattle.spec_models.specs.Replies.{operation_word, overflow, reason_line}
 use Rattle.world_io.specs.Writing.{SinkView}
 use Rattle.world_io.proofs.Chains.{IsSending, start}
 

@@ -3,7 +3,7 @@
 
 ghost use Rattle.std.specs.Prelude.{◌≡◌};
 ghost use Rattle.world_io.specs.Writing.{Sends};
-ghost use Rattle.spec_replies.specs.Lines.{error_text, word_of, word_line};
+ghost use Rattle.spec_models.specs.Replies.{error_text, word_of, word_line};
 
 mod reasons;
 mod values;
@@ -11,7 +11,7 @@ mod values;
 use itoa::Buffer;
 pub use reasons::{overflow, pivots_spent, spent};
 use smt_lexer::Place;
-pub use spec_replies::ResponseWord;
+pub use spec_models::ResponseWord;
 pub use values::{name, value, write_numeral};
 use world_io::{Failed, Sink, write_pieces};
 

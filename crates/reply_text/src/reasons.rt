@@ -1,7 +1,7 @@
 //! Lines of reasons why a check was answered `unknown`.
 
 ghost use Rattle.std.specs.Prelude.{◌≡◌};
-ghost use Rattle.spec_replies.specs.Lines.{operation_word, conflicts, pivots, overflow, reason_line};
+ghost use Rattle.spec_models.specs.Replies.{operation_word, conflicts, pivots, overflow, reason_line};
 ghost use Rattle.ratio128.specs.Meant.{overflow as overflow_meant};
 ghost use Rattle.world_io.specs.Writing.{Sends};
 

@@ -9,7 +9,7 @@ use Rattle.spec_text.specs.Faults.{Located}
 use Rattle.spec_text.specs.Places.{IsPlaceOf, column_of, name_of}
 use Rattle.spec_text.specs.Lexemes.{lexemes_from}
 use Rattle.spec_text.specs.Readings.{EndsTrees, kept, is_long, limited}
-use Rattle.spec_replies.specs.Lines.{error_text}
+use Rattle.spec_models.specs.Replies.{error_text}
 use Rattle.spec_commands.specs.Stack.{Stack, empty_stack}
 use Rattle.spec_sessions.specs.Evidence.{Limits}
 use Rattle.spec_sessions.specs.Responses.{Mode, Response, success, not_supported, answered, said, ended, rejected, Answered, Answers, response_text, is_rejected, is_end}

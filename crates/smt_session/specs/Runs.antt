@@ -2,7 +2,7 @@
 use Rattle.std.specs.Prelude.{◌≡◌, ℕ, Bool, true, false, List, [], Ok}
 use Rattle.world_io.specs.Writing.{SinkView, Sent, NotSent}
 use Rattle.spec_text.specs.Places.{name_of}
-use Rattle.spec_replies.specs.Lines.{error_text}
+use Rattle.spec_models.specs.Replies.{error_text}
 use Rattle.spec_sessions.specs.Evidence.{Limits}
 use Rattle.spec_sessions.specs.Responses.{Mode}
 use Rattle.spec_sessions.specs.Transcripts.{IsTranscript, IsBegun}

@@ -16,7 +16,7 @@ use crate::mode::Mode;
 use crate::session::After;
 use assertion_stack::Stack;
 use check_evidence::{Evidence, send_answer, send_evidence};
-use reply_text::{Word, error, word};
+use reply_text::{ResponseWord, error, word};
 use smt_lexer::Refusal;
 use term_core::TermTable;
 use world_io::{Failed, Sink, write_pieces};
@@ -82,7 +82,7 @@ fn send_success<K: Sink>(print: bool, out: &mut K) -> Result<(), Failed>
     ensures { Sends (success_by print) result (K.state out.old) (K.state out.new) }
 {
     if print {
-        return word(Word::Success, out);
+        return word(ResponseWord::Success, out);
     }
     Ok(())
 }
@@ -102,7 +102,7 @@ fn write_response<K: Sink>(
 {
     match response {
         Response::Success | Response::Ended => send_success(stack.options.print_success, out),
-        Response::Unsupported => word(Word::Unsupported, out),
+        Response::Unsupported => word(ResponseWord::Unsupported, out),
         Response::Answered(evidence) => send_check(mode, table, evidence, out),
         Response::Said(text) => send_string(text, out),
         Response::Rejected(refusal) => {

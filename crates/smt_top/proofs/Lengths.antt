@@ -13,7 +13,7 @@ use Rattle.spec_text.specs.Places.{name_of}
 use Rattle.spec_proofs.specs.declared.ProofKind.{ProofKind}
 use Rattle.spec_proofs.specs.declared.ProofKind.TheVariants as kinds
 use Rattle.spec_proofs.specs.Faults.{fault_name}
-use Rattle.spec_replies.specs.Lines.{error_text}
+use Rattle.spec_models.specs.Replies.{error_text}
 use Rattle.smt_top.specs.Output.{longest_line}
 
 text_name : (f : Fault) → length (name_of f) ≤ 20

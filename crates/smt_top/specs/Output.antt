@@ -2,7 +2,7 @@
 use Rattle.std.specs.Prelude.{ℕ, List, codes, Option, Some, None}
 use Rattle.spec_text.specs.Places.{line_of, column_of}
 use Rattle.spec_proofs.specs.Faults.{Fault, fault_name}
-use Rattle.spec_replies.specs.Lines.{error_text}
+use Rattle.spec_models.specs.Replies.{error_text}
 
 -- how the arguments are to be
 abbrev pub usage : List ℕ

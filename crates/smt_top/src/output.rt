@@ -2,7 +2,7 @@
 
 ghost use Rattle.std.specs.Prelude.{◌≤◌, length, IsOk};
 ghost use Rattle.world_io.specs.Writing.{HasRoom};
-ghost use Rattle.spec_replies.specs.Lines.{error_text};
+ghost use Rattle.spec_models.specs.Replies.{error_text};
 ghost use Rattle.smt_top.specs.Output.{usage, valid, longest_line};
 ghost use Rattle.smt_session.specs.Sessions.{Delivers};
 ghost use Rattle.spec_proofs.specs.Faults.{fault_name};

@@ -1,5 +1,7 @@
--- The texts of values and models, and what they mean.
+-- The texts of values and models, what they mean, and the lines of other responses.
 pub mod Values
 pub mod Models
 pub mod Meaning
 pub mod Examples
+pub mod Replies
+pub mod ReplyExamples

@@ -8,8 +8,8 @@ use Rattle.spec_commands.specs.Stack.{signature_of}
 use Rattle.spec_commands.specs.Kept.{IsAsserted, IsSoundStack}
 use Rattle.spec_commands.specs.Checks.{Check, term_limit, IsCurrent, MakesTrue, HasNoModel}
 use Rattle.spec_proofs.specs.Texts.{IsWholeText}
-use Rattle.spec_replies.specs.declared.ResponseWord.TheVariants.{Unsat}
-use Rattle.spec_replies.specs.Lines.{word_line}
+use Rattle.spec_models.specs.declared.ResponseWord.TheVariants.{Unsat}
+use Rattle.spec_models.specs.Replies.{word_line}
 use Rattle.spec_models.specs.Models.{model_text}
 use Rattle.spec_models.specs.Meaning.{DefineAll}
 use Rattle.spec_checking.specs.Good.{IsGood}

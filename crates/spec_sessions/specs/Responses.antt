@@ -7,8 +7,8 @@ use Rattle.spec_text.specs.Trees.{Tree}
 use Rattle.spec_sorts.specs.Signatures.{symbols_in}
 use Rattle.spec_commands.specs.Stack.{Stack, Effect, done, unsupported, check, say, leave, Taken, signature_of, step}
 use Rattle.spec_commands.specs.Checks.{Check}
-use Rattle.spec_replies.specs.declared.ResponseWord.TheVariants.{Success, Unsupported, Sat, Unsat, Unknown}
-use Rattle.spec_replies.specs.Lines.{conflicts, pivots, overflow, error_text, word_line, reason_line}
+use Rattle.spec_models.specs.declared.ResponseWord.TheVariants.{Success, Unsupported, Sat, Unsat, Unknown}
+use Rattle.spec_models.specs.Replies.{conflicts, pivots, overflow, error_text, word_line, reason_line}
 use Rattle.spec_models.specs.Models.{model_text}
 use Rattle.spec_sessions.specs.Evidence.{Limits, Found, model, proof, spent, overflowed, out_of_pivots, Checked, Justifies}
 

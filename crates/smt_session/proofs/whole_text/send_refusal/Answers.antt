@@ -1,7 +1,7 @@
 -- The line is passed on.
 use Rattle.std.proofs.Common.{◌≡◌, ◌∙◌, subst}
 use Rattle.spec_text.specs.Places.{name_of}
-use Rattle.spec_replies.specs.Lines.{error_text}
+use Rattle.spec_models.specs.Replies.{error_text}
 use Rattle.smt_session.specs.Sessions.{Delivers}
 use Rattle.smt_session.proofs.Delivering.{delivered}
 use Rattle.smt_session.proofs.whole_text.send_refusal.Goals as goal

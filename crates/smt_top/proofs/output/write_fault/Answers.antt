@@ -2,7 +2,7 @@
 use Rattle.std.proofs.Common.{◌≡◌, ◌≤◌, ◌∙◌, length, sym, subst, arith}
 use Rattle.world_io.proofs.Sending.{room_for_less}
 use Rattle.spec_proofs.specs.Faults.{fault_name}
-use Rattle.spec_replies.specs.Lines.{error_text}
+use Rattle.spec_models.specs.Replies.{error_text}
 use Rattle.smt_session.specs.Sessions.{Delivers}
 use Rattle.smt_session.proofs.Delivering.{delivered}
 use Rattle.smt_top.specs.Output.{longest_line}

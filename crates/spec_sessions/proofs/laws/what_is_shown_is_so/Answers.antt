@@ -18,8 +18,8 @@ use Rattle.spec_checking.proofs.Good.{no_fault}
 use Rattle.spec_checking.proofs.Sound.{sound, EntryTrue, TermTrue, IsTruly}
 use Rattle.spec_checking.specs.Accepted.{IsAccepted}
 use Rattle.spec_proofs.specs.Texts.{IsWholeText}
-use Rattle.spec_replies.specs.declared.ResponseWord.TheVariants.{Unsat}
-use Rattle.spec_replies.specs.Lines.{word_line}
+use Rattle.spec_models.specs.declared.ResponseWord.TheVariants.{Unsat}
+use Rattle.spec_models.specs.Replies.{word_line}
 use Rattle.spec_models.specs.Meaning.{IsSymbolIn}
 use Rattle.spec_proof_texts.specs.Lines.{proof_text}
 use Rattle.spec_proof_texts.specs.Meaning.{AreRightLines}

@@ -6,8 +6,8 @@ use Rattle.spec_text.specs.Printed.{printed}
 use Rattle.spec_numbers.specs.Bounds.{Overflow}
 use Rattle.spec_numbers.specs.declared.Op.{Op}
 use Rattle.spec_numbers.specs.declared.Op.TheVariants.{Add, Sub, Mul, Div}
-use Rattle.spec_replies.specs.declared.ResponseWord.{ResponseWord}
-use Rattle.spec_replies.specs.declared.ResponseWord.TheVariants.{Success, Unsupported, Sat, Unsat, Unknown}
+use Rattle.spec_models.specs.declared.ResponseWord.{ResponseWord}
+use Rattle.spec_models.specs.declared.ResponseWord.TheVariants.{Success, Unsupported, Sat, Unsat, Unknown}
 use Rattle.spec_models.specs.Values.{in_list, word_tree, numeral_tree, fraction_tree}
 
 -- an error with its line and column, both from 1, and its name

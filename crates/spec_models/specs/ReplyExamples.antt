@@ -1,10 +1,10 @@
 -- Responses as they are written.
 use Rattle.std.specs.Prelude.{◌≡◌, refl, codes, pos, negsuc}
 use Rattle.std.specs.Fmt.{digits}
-use Rattle.spec_replies.specs.declared.ResponseWord.TheVariants.{Success, Sat}
+use Rattle.spec_models.specs.declared.ResponseWord.TheVariants.{Success, Sat}
 use Rattle.spec_numbers.specs.declared.Op.TheVariants.{Sub, Mul, Div}
 use Rattle.spec_models.specs.Values.{numeral}
-use Rattle.spec_replies.specs.Lines.{error_text, word_line, conflicts, pivots, overflow, reason_line, reason_info}
+use Rattle.spec_models.specs.Replies.{error_text, word_line, conflicts, pivots, overflow, reason_line, reason_info}
 
 -- an error's line
 pub error : error_text 12 1 (codes "BadShape") ≡ codes "(error \"12:1: BadShape\")\n"

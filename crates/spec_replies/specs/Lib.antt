@@ -1,3 +1,0 @@
--- What is written as a response.
-pub mod Lines
-pub mod Examples
