@@ -11,13 +11,13 @@ ghost use Rattle.search_loop.specs.Rounds.{BeginsSearch};
 
 use crate::atoms::atoms_of;
 use crate::decider::Decider;
+use crate::restarts::Restarts;
 use crate::search::Search;
 use clause_store::ClauseStore;
 use clause_store::laws::{reasons_stay_right, what_is_marked_was_seen};
 use clausify::{ClauseStop, Stated, clauses_of_all};
 use proof_log::laws::empty_logs_are_right;
 use proof_log::{ProofLog, StepId};
-use restarts::Restarts;
 use sat_budget::{Budget, Limits};
 use sat_trail::SatTrail;
 use spec_derivations::search_laws::{whole_clauses_are_over_whole_terms, whole_terms_are_known};

@@ -15,11 +15,13 @@ mod decision;
 mod feeding;
 mod lemmas;
 mod looking;
+mod restarts;
 mod search;
 mod waiting;
 mod watching;
 
 pub use cdcl::{Answer, End};
 pub use decider::Decider;
+pub use restarts::Restarts;
 pub use search::Search;
 pub use watching::watch_all;

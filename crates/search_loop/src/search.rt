@@ -1,9 +1,9 @@
 //! What a search has in hand.
 
 use crate::decider::Decider;
+use crate::restarts::Restarts;
 use clause_store::ClauseStore;
 use proof_log::ProofLog;
-use restarts::Restarts;
 use sat_budget::Budget;
 use sat_trail::SatTrail;
 use std::alloc::Global;

@@ -1,6 +1,6 @@
 //! Tests of what no clause says: how long the runs between restarts are.
 
-use restarts::Restarts;
+use search_loop::Restarts;
 use std::test::Fail;
 
 /// The first numbers of the sequence. Source: Luby, Sinclair and Zuckerman 1993.

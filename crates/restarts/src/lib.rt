@@ -1,6 +1,0 @@
-//! When a search begins again from level 0.
-#![tactic(auto)]
-
-mod restarts;
-
-pub use restarts::Restarts;
