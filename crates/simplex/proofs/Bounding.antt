@@ -33,9 +33,9 @@ use Rattle.simplex_atoms.specs.Limits.{Limit, limit_of, limit_on, limits_where, 
 use Rattle.simplex_atoms.specs.Limits as limits
 use Rattle.simplex_atoms.specs.TermTableauViews.{owner_meant}
 use Rattle.simplex_atoms.proofs.Numbered.{owner_mapped}
-use Rattle.simplex_reasons.specs.Stops.{IsStatedBound}
-use Rattle.simplex_reasons.proofs.Pieces.{with_relation, reads}
-use Rattle.simplex_held.proofs.Stating.{bounds_stated, literals_held as held_literal}
+use Rattle.simplex_explain.specs.Stops.{IsStatedBound}
+use Rattle.simplex_explain.proofs.Pieces.{with_relation, reads}
+use Rattle.simplex_explain.proofs.StatedBounds.{bounds_stated, literals_held as held_literal}
 use Rattle.simplex.specs.Views.{SimplexView, SimplexFits, IsOf}
 use Rattle.simplex.specs.Coming.{term_tableau_of}
 

@@ -40,9 +40,9 @@ use Rattle.simplex_atoms.specs.Atoms.{AtomsView}
 use Rattle.simplex_atoms.specs.Slacks.{slack_in}
 use Rattle.simplex_atoms.specs.TermTableauViews.{owner_meant, term_tableau_in}
 use Rattle.simplex_atoms.specs.Watching.{IsWatched}
-use Rattle.simplex_held.specs.Stated.{IsKnownIn}
-use Rattle.simplex_held.proofs.Stating.{all_from}
-use Rattle.simplex_held.proofs.TermTableauViews.{term_tableau_kept, among_kept, atoms_kept}
+use Rattle.simplex_explain.specs.Stated.{IsKnownIn}
+use Rattle.simplex_explain.proofs.StatedBounds.{all_from}
+use Rattle.simplex_explain.proofs.TermTableauViews.{term_tableau_kept, among_kept, atoms_kept}
 use Rattle.held_literals.specs.Room.{AreOverWatched}
 use Rattle.simplex.specs.Views.{SimplexView, SimplexFits, IsOf}
 use Rattle.simplex.specs.Checks.{Suits, KeepsBounds}

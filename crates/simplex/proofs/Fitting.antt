@@ -14,7 +14,7 @@ use Rattle.simplex_atoms.specs.declared.slack.Slack.{Slack}
 use Rattle.simplex_atoms.specs.Limits.{Limit, limit_of}
 use Rattle.simplex_atoms.specs.Atoms.{AtomsView, AtomsFit}
 use Rattle.simplex.specs.declared.starts.Start.{Start}
-use Rattle.simplex_held.specs.Stated.{stated_by, all_stated, IsKnownIn}
+use Rattle.simplex_explain.specs.Stated.{stated_by, all_stated, IsKnownIn}
 use Rattle.simplex.specs.Views.{SimplexView, SimplexFits, IsOf, start_of, slack_count}
 use Rattle.simplex.proofs.Stated.{stated_more, stated_first, first_states_less, count_first, stated_bounded}
 

@@ -33,14 +33,14 @@ use Rattle.simplex_check.specs.declared.check.CheckOutcome.{CheckOutcome}
 use Rattle.simplex_check.specs.declared.check.CheckOutcome.TheVariants.{Fine, Crossed, Conflict}
 use Rattle.simplex_explain.specs.declared.weighted.Weighted.{Weighted}
 use Rattle.simplex_explain.specs.Reasons.{AreAtomReasons, AreHeld, Refutes}
-use Rattle.simplex_reasons.specs.Reasons.{AreOfHeld}
-use Rattle.simplex_reasons.proofs.Holding.{ran_updated}
-use Rattle.simplex_held.specs.Stated.{AreBoundsOf, IsKnownIn}
-use Rattle.simplex_held.specs.Keeping.{KeepsHeld}
-use Rattle.simplex_held.proofs.Stating.{all_from}
-use Rattle.simplex_held.proofs.Reasons.{reasons_held, reasons_watched}
-use Rattle.simplex_held.proofs.Feasible.{feasible}
-use Rattle.simplex_held.proofs.Assignments.{fit}
+use Rattle.simplex_explain.specs.BoundReasons.{AreOfHeld}
+use Rattle.simplex_explain.proofs.Holding.{ran_updated}
+use Rattle.simplex_explain.specs.Stated.{AreBoundsOf, IsKnownIn}
+use Rattle.simplex_explain.specs.Keeping.{KeepsHeld}
+use Rattle.simplex_explain.proofs.StatedBounds.{all_from}
+use Rattle.simplex_explain.proofs.HeldReasons.{reasons_held, reasons_watched}
+use Rattle.simplex_explain.proofs.Feasible.{feasible}
+use Rattle.simplex_explain.proofs.Assignments.{fit}
 use Rattle.simplex_atoms.specs.Slacks.{slack_in}
 use Rattle.simplex_atoms.specs.Watching.{IsWatched}
 use Rattle.simplex_atoms.proofs.Fitting.{right_after}

@@ -34,7 +34,7 @@ use Rattle.simplex_atoms.specs.Owners.{owner_at}
 use Rattle.simplex_atoms.specs.TermTableauViews.{owner_meant, TellsOwners}
 use Rattle.simplex_atoms.proofs.Numbered.{owner_mapped}
 use Rattle.simplex_atoms.proofs.Coming.{term_owned}
-use Rattle.simplex_held.proofs.Owners.{absent}
+use Rattle.simplex_explain.proofs.Owners.{absent}
 use Rattle.simplex_numbers.specs.Values.{flat, KeepsApart}
 use Rattle.simplex.specs.Views.{SimplexView, IsOf}
 use Rattle.simplex.specs.Values.{TellsValues}

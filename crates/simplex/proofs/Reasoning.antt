@@ -34,9 +34,9 @@ use Rattle.simplex_atoms.specs.Limits as limits
 use Rattle.simplex_explain.specs.declared.weighted.Weighted.{Weighted}
 use Rattle.simplex_explain.specs.Reasons.{literals_meant, weights_meant}
 use Rattle.simplex_explain.specs.Steps.{judged}
-use Rattle.simplex_reasons.specs.Stops.{stop_of}
-use Rattle.simplex_reasons.specs.Reasons.{footing, AreReasonsFor}
-use Rattle.simplex_reasons.specs.Reasons as code
+use Rattle.simplex_explain.specs.Stops.{stop_of}
+use Rattle.simplex_explain.specs.BoundReasons.{footing, AreReasonsFor}
+use Rattle.simplex_explain.specs.BoundReasons as code
 use Rattle.simplex.specs.Views.{SimplexView, SimplexFits, IsOf}
 use Rattle.simplex.specs.Checks.{Found, OverflowsFound, AreReasonsOf}
 use Rattle.simplex.specs.Coming.{term_tableau_of}

@@ -25,7 +25,7 @@ use Rattle.sat_budget.specs.declared.limits.Stop.{Stop}
 use Rattle.sat_budget.specs.declared.limits.Stop.TheVariants.{Strained, Pivots}
 use Rattle.sat_budget.specs.declared.limits.Stop.TheVariants as stops
 use Rattle.sat_budget.specs.Budgets.{StopsBy}
-use Rattle.simplex_held.specs.Stated.{all_stated, IsKnownIn}
+use Rattle.simplex_explain.specs.Stated.{all_stated, IsKnownIn}
 use Rattle.simplex.specs.Views.{SimplexView, SimplexFits, IsOf, start_of, slack_count}
 use Rattle.simplex.specs.Coming.{term_tableau_of, IsOverflowAt}
 use Rattle.simplex.proofs.Stated.{stated_same, count_same}

@@ -17,7 +17,7 @@ use Rattle.spec_simplex.specs.Constraints.{Relation, below, at_most, equals, at_
 use Rattle.simplex_atoms.specs.declared.slack.Slack.{Slack}
 use Rattle.simplex_atoms.specs.Slacks.{slack_in, relation_by}
 use Rattle.simplex_atoms.specs.Limits.{limits_by, limits_where}
-use Rattle.simplex_held.specs.Stated.{stated_at, stated_by, all_stated}
+use Rattle.simplex_explain.specs.Stated.{stated_at, stated_by, all_stated}
 use Rattle.simplex.specs.Views.{has_slack, slack_count}
 
 joined : {A : Type 0} (xs ys zs : List A) → xs ++ (ys ++ zs) ≡ (xs ++ ys) ++ zs

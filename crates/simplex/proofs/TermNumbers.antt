@@ -26,7 +26,7 @@ use Rattle.simplex_bounds.specs.Deltas.{pair_of}
 use Rattle.simplex_atoms.specs.Owners.{owner_at, IsNumberOf, AreOwned}
 use Rattle.simplex_atoms.specs.TermTableauViews.{owner_meant}
 use Rattle.simplex_atoms.proofs.Numbered.{owner_mapped}
-use Rattle.simplex_held.proofs.Owners.{point_of, owned, absent}
+use Rattle.simplex_explain.proofs.Owners.{point_of, owned, absent}
 use Rattle.simplex_numbers.specs.Values.{flat}
 use Rattle.spec_tableaux.specs.Halves.{at_number}
 use Rattle.simplex.specs.Views.{SimplexView, IsOf}

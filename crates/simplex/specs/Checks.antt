@@ -16,7 +16,7 @@ use Rattle.simplex_check.specs.declared.check.CheckOutcome.{CheckOutcome}
 use Rattle.simplex_check.specs.declared.check.CheckOutcome.TheVariants.{Fine, Crossed, Conflict}
 use Rattle.simplex_explain.specs.declared.weighted.Weighted.{Weighted}
 use Rattle.spec_causes.specs.Reasons.{with_basic, unit_entries}
-use Rattle.simplex_reasons.specs.Reasons.{footing, AreReasonsFor, OverflowsReasons}
+use Rattle.simplex_explain.specs.BoundReasons.{footing, AreReasonsFor, OverflowsReasons}
 use Rattle.simplex.specs.Views.{SimplexView, IsOf}
 
 -- What is held, over a table.

@@ -11,7 +11,7 @@ use Rattle.simplex_atoms.specs.Atoms.{AtomsView, AtomsFit}
 use Rattle.simplex_atoms.specs.Slacks.{slack_in}
 use Rattle.simplex_atoms.specs.declared.slack.Slack.{Slack}
 use Rattle.simplex.specs.declared.starts.Start.{Start}
-use Rattle.simplex_held.specs.Stated.{all_stated, AreBoundsOf, IsKnownIn}
+use Rattle.simplex_explain.specs.Stated.{all_stated, AreBoundsOf, IsKnownIn}
 
 -- Literals that are held, what their atoms are placed on, and the bounds that they state.
 pub record SimplexView : Type 0 where

@@ -17,7 +17,7 @@ ghost use Rattle.simplex_check.specs.Ends.{EndsCheck};
 ghost use Rattle.simplex_check.specs.declared.check.CheckOutcome.{CheckOutcome};
 ghost use Rattle.simplex_explain.specs.Reasons.{Refutes};
 ghost use Rattle.simplex_explain.specs.Steps.{derived};
-ghost use Rattle.simplex_reasons.specs.Reasons.{AreOfHeld, OnReasonOverflow};
+ghost use Rattle.simplex_explain.specs.BoundReasons.{AreOfHeld, OnReasonOverflow};
 ghost use Rattle.simplex.specs.Views.{IsOf};
 ghost use Rattle.simplex.specs.Checks.{Case, KeepsBounds, Found, OverflowsFound, AreReasonsOf, AnswersOutcome};
 ghost use Rattle.simplex.specs.Coming.{term_tableau_of, CameBy, StoppedBy, IsOverflowAt};
@@ -27,8 +27,7 @@ use proof_log::{ProofLog, StepId, Verdict};
 use ratio128::Wide;
 use sat_budget::{Budget, Stop, Strain};
 use simplex_check::CheckOutcome;
-use simplex_explain::{ExplainStop, Weighted, explain};
-use simplex_reasons::{ReasonStop, crossing_reasons, row_reasons};
+use simplex_explain::{ExplainStop, ReasonStop, Weighted, crossing_reasons, explain, row_reasons};
 use term_core::TermTable;
 
 impl Simplex {

@@ -20,9 +20,9 @@ impl Theory for Simplex {
     ghost use Rattle.simplex_atoms.specs.Slacks.{slack_in};
     ghost use Rattle.simplex_atoms.specs.Watching.{IsWatched};
     ghost use Rattle.simplex_atoms.proofs.Fitting.{right_after};
-    ghost use Rattle.simplex_held.specs.Stated.{IsKnownIn};
-    ghost use Rattle.simplex_held.proofs.Stating.{all_from};
-    ghost use Rattle.simplex_held.proofs.TermTableauViews.{term_tableau_kept, among_kept, atoms_kept};
+    ghost use Rattle.simplex_explain.specs.Stated.{IsKnownIn};
+    ghost use Rattle.simplex_explain.proofs.StatedBounds.{all_from};
+    ghost use Rattle.simplex_explain.proofs.TermTableauViews.{term_tableau_kept, among_kept, atoms_kept};
     ghost use Rattle.simplex.specs.Checks.{Suits, KeepsBounds};
     ghost use Rattle.simplex.specs.Coming.{term_tableau_of, CameBy, StoppedBy, IsOverflowAt};
 

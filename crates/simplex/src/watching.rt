@@ -9,7 +9,7 @@ ghost use Rattle.sat_budget.specs.Budgets.{StopsBy};
 ghost use Rattle.sat_budget.specs.declared.limits.Stop.TheVariants as stops;
 ghost use Rattle.proof_log.specs.Theories.{with_watched, terms_watched, IsTermIn, CameTo};
 ghost use Rattle.simplex_check.specs.Assignments.{IsBasisOf};
-ghost use Rattle.simplex_held.specs.Stated.{IsKnownIn};
+ghost use Rattle.simplex_explain.specs.Stated.{IsKnownIn};
 ghost use Rattle.simplex.specs.Views.{IsOf, slack_count};
 ghost use Rattle.simplex.specs.Coming.{CameBy, StoppedBy, IsOverflowAt};
 

@@ -3,3 +3,17 @@ pub mod Judged
 pub mod Terms
 pub mod Stated
 pub mod Free
+pub mod Telling
+pub mod Solutions
+pub mod Distances
+pub mod Pieces
+pub mod Refuting
+pub mod Holding
+pub mod StatedBounds
+pub mod HeldReasons
+pub mod Forms
+pub mod Owners
+pub mod Feasible
+pub mod Assignments
+pub mod Checked
+pub mod TermTableauViews

@@ -23,9 +23,9 @@ use Rattle.spec_tableaux.specs.Points.{point_in}
 use Rattle.simplex_atoms.specs.Owners.{AreOwned}
 use Rattle.simplex_atoms.specs.Atoms.{AtomsView, setting_of, ground_of}
 use Rattle.simplex_atoms.proofs.Values.{tilt_comes}
-use Rattle.simplex_held.specs.Keeping.{KeepsHeld}
-use Rattle.simplex_held.proofs.Stating.{all_from}
-use Rattle.simplex_held.proofs.Feasible.{slack_list, solved, literal_kept}
+use Rattle.simplex_explain.specs.Keeping.{KeepsHeld}
+use Rattle.simplex_explain.proofs.StatedBounds.{all_from}
+use Rattle.simplex_explain.proofs.Feasible.{slack_list, solved, literal_kept}
 use Rattle.simplex_numbers.specs.Values.{flat, assignment_at_number, KeepsAt}
 use Rattle.spec_tableaux.specs.Halves.{at_number}
 use Rattle.simplex_numbers.proofs.Flat.{flat_point}

@@ -14,7 +14,7 @@ use Rattle.simplex_bounds.specs.Deltas.{pair_of}
 use Rattle.spec_tableaux.specs.Points.{deltas, point_in}
 use Rattle.simplex_bounds.specs.Held.{strongest, value_in, ranges_in}
 use Rattle.simplex_bounds.proofs.Keeping.{strongest_is_held}
-use Rattle.simplex_reasons.proofs.Refuting.{zero_solves}
+use Rattle.simplex_explain.proofs.Refuting.{zero_solves}
 use Rattle.simplex_numbers.specs.Values.{bound_at, flat, IsInward, KeepsAt}
 use Rattle.spec_tableaux.specs.Halves.{at_number, is_less}
 use Rattle.simplex_numbers.proofs.Orders.{level_stays}

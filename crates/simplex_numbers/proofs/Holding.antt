@@ -14,10 +14,10 @@ use Rattle.simplex_check.specs.Assignments.{AssignmentView}
 use Rattle.simplex_check.proofs.Points.{same_point}
 use Rattle.simplex_atoms.specs.Limits.{limit_of}
 use Rattle.simplex_atoms.specs.Atoms.{AtomsView}
-use Rattle.simplex_reasons.specs.Stops.{IsStatedBound}
-use Rattle.simplex_held.specs.Keeping.{KeepsHeld}
-use Rattle.simplex_held.proofs.Stating.{bounds_stated}
-use Rattle.simplex_held.proofs.Assignments.{fit}
+use Rattle.simplex_explain.specs.Stops.{IsStatedBound}
+use Rattle.simplex_explain.specs.Keeping.{KeepsHeld}
+use Rattle.simplex_explain.proofs.StatedBounds.{bounds_stated}
+use Rattle.simplex_explain.proofs.Assignments.{fit}
 use Rattle.simplex_numbers.specs.Values.{flat, assignment_at_number, IsInward, KeepsAt}
 use Rattle.spec_tableaux.specs.Halves.{at_number}
 use Rattle.simplex_numbers.proofs.Tilts.{inward}

@@ -21,7 +21,7 @@ ghost use Rattle.simplex_atoms.specs.declared.slack.Slack.{Slack};
 ghost use Rattle.simplex_atoms.specs.Owners.{AreOwned};
 ghost use Rattle.simplex_atoms.specs.Limits.{Limit, limits_by};
 ghost use Rattle.simplex_atoms.specs.Atoms.{AtomsView};
-ghost use Rattle.simplex_held.specs.Keeping.{KeepsHeld};
+ghost use Rattle.simplex_explain.specs.Keeping.{KeepsHeld};
 ghost use Rattle.simplex_numbers.specs.Values.{flat, assignment_at_number, IsInward, IsSmaller, StaysLess, KeepsAt};
 ghost use Rattle.spec_tableaux.specs.Halves.{at_number};
 

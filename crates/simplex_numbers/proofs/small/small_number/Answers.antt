@@ -12,7 +12,7 @@ use Rattle.simplex_bounds.specs.Held.{ranges_in}
 use Rattle.spec_tableaux.specs.Points.{point_in}
 use Rattle.spec_tableaux.specs.Halves.{is_less, OverflowsRange, OverflowsNumber}
 use Rattle.spec_tableaux.specs.Halves as halves
-use Rattle.simplex_reasons.proofs.Distances.{one_above}
+use Rattle.simplex_explain.proofs.Distances.{one_above}
 use Rattle.simplex_numbers.proofs.Orders.{irreflexive, not_above}
 use Rattle.simplex_numbers.proofs.Keeping.{off_after, kept_after}
 use Rattle.simplex_numbers.proofs.Everywhere.{everywhere, one_more, none_more, epsilon_of_all}

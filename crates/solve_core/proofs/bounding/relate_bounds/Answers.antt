@@ -7,7 +7,7 @@ use Rattle.term_core.proofs.TermsExtend.{Extends-self}
 use Rattle.term_clauses.specs.SpokenTerms.{AreRising}
 use Rattle.simplex.specs.Views.{SimplexView}
 use Rattle.simplex.specs.Checks.{Suits}
-use Rattle.simplex_held.specs.Stated.{IsKnownIn}
+use Rattle.simplex_explain.specs.Stated.{IsKnownIn}
 use Rattle.solve_core.proofs.SearchRelated.{related_same}
 use Rattle.solve_core.proofs.bounding.relate_bounds.Goals as goal
 

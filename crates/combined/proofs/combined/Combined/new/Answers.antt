@@ -8,7 +8,7 @@ use Rattle.term_core.specs.Tables.{term_at, IsIn}
 use Rattle.simplex.specs.Views.{SimplexView}
 use Rattle.simplex.specs.Checks.{Suits}
 use Rattle.simplex.specs.Coming.{CameBy}
-use Rattle.simplex_held.specs.Stated.{IsKnownIn}
+use Rattle.simplex_explain.specs.Stated.{IsKnownIn}
 use Rattle.combined.proofs.combined.Combined.new.Goals as goal
 
 pub returns-clause-simplex : goal.returns-clause-simplex

@@ -7,7 +7,7 @@ use Rattle.held_literals.proofs.Rooms.{held_more}
 use Rattle.simplex_check.proofs.KeptFirst.{keeps_more}
 use Rattle.simplex_atoms.specs.declared.slack.Slack.{Slack}
 use Rattle.simplex_atoms.specs.Slacks.{slack_in}
-use Rattle.simplex_held.specs.Stated.{stated_at, stated_by}
+use Rattle.simplex_explain.specs.Stated.{stated_at, stated_by}
 use Rattle.simplex.specs.Views.{SimplexView, SimplexFits, IsOf, slack_count}
 use Rattle.simplex.proofs.Fitting.{HoldsStated, room_for, fits_held, of_kept, no_place, nothing_stated}
 use Rattle.simplex.proofs.simplex.Simplex.assume_lit.Goals as goal

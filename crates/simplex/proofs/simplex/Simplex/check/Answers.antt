@@ -22,7 +22,7 @@ use Rattle.simplex_bounds.specs.Held.{ranges_in}
 use Rattle.simplex_bounds.proofs.Keeping.{ranges_kept}
 use Rattle.simplex_check.specs.Suspects.{KeepsFirst}
 use Rattle.simplex_check.proofs.KeptFirst.{keeps_all}
-use Rattle.simplex_held.proofs.Checked.{checked_meets}
+use Rattle.simplex_explain.proofs.Checked.{checked_meets}
 use Rattle.simplex.specs.Views.{SimplexView, IsOf}
 use Rattle.simplex.proofs.Judging.{spent, stopped, assignment_fits, table_grows, fine, found, no_pivots, nothing_came, answers, clash_differs, stop_differs}
 use Rattle.simplex.proofs.simplex.Simplex.check.Goals as goal

@@ -10,8 +10,8 @@ use Rattle.held_literals.specs.Room.{AreOverWatched}
 use Rattle.simplex_explain.specs.declared.weighted.Weighted.{Weighted}
 use Rattle.simplex_explain.specs.Reasons.{AreAtomReasons, AreHeld, Refutes}
 use Rattle.simplex_explain.specs.Steps.{IsCause, judged}
-use Rattle.simplex_reasons.specs.Reasons.{OnReasonOverflow}
-use Rattle.simplex_held.proofs.Reasons.{infeasible}
+use Rattle.simplex_explain.specs.BoundReasons.{OnReasonOverflow}
+use Rattle.simplex_explain.proofs.HeldReasons.{infeasible}
 use Rattle.simplex.specs.Views.{SimplexView, SimplexFits}
 use Rattle.simplex.specs.Checks.{Case, OverflowsFound}
 use Rattle.simplex.proofs.Judging.{AreRefuted, overflowed, refuted}

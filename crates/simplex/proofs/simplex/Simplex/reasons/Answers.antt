@@ -2,8 +2,8 @@
 use Rattle.std.proofs.Common.{IfErr, IfOk, sym, ◌∙◌, subst}
 use Rattle.simplex_check.specs.declared.check.CheckOutcome.TheVariants.{Crossed, Conflict}
 use Rattle.simplex_atoms.specs.Atoms.{AtomsFit}
-use Rattle.simplex_reasons.specs.Reasons.{OnReasonOverflow}
-use Rattle.simplex_held.proofs.Stating.{bounds_stated}
+use Rattle.simplex_explain.specs.BoundReasons.{OnReasonOverflow}
+use Rattle.simplex_explain.proofs.StatedBounds.{bounds_stated}
 use Rattle.simplex.specs.Views.{SimplexView, IsOf}
 use Rattle.simplex.specs.Checks.{Found, OverflowsFound, AreReasonsOf}
 use Rattle.simplex.proofs.simplex.Simplex.reasons.Goals as goal

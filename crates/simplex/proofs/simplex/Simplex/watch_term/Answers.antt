@@ -3,7 +3,7 @@ use Rattle.std.proofs.Common.{◌≡◌, ◌++◌, ◌∷◌, [], refl, ap, sym,
 use Rattle.spec_causes.specs.Counts.{counted}
 use Rattle.term_core.specs.Tables.{term_at}
 use Rattle.proof_log.specs.Theories.{TheoryView}
-use Rattle.simplex_held.specs.Stated.{IsKnownIn}
+use Rattle.simplex_explain.specs.Stated.{IsKnownIn}
 use Rattle.simplex_check.specs.Suspects.{KeepsFirst}
 use Rattle.simplex.specs.Views.{SimplexView, IsOf, slack_count}
 use Rattle.simplex.proofs.Fitting.{of_kept}

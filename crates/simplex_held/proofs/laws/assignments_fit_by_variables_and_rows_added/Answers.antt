@@ -1,6 +1,0 @@
--- Nothing else of the assignment is asked.
-use Rattle.simplex_held.proofs.Assignments.{fit}
-use Rattle.simplex_held.proofs.laws.assignments_fit_by_variables_and_rows_added.Goals as goal
-
-pub returns : goal.returns
-returns c = fit

@@ -1,6 +1,0 @@
--- The rule is done, and nonbasic variables keep their bounds.
-use Rattle.simplex_held.proofs.Checked.{checked_meets}
-use Rattle.simplex_held.proofs.laws.checked_values_keep_bounds.Goals as goal
-
-pub returns : goal.returns
-returns c = checked_meets
