@@ -5,10 +5,10 @@ ghost use Rattle.std.specs.List.Sorted.{IsPermutation};
 ghost use Rattle.agreement.specs.Agreeing.{Concur, Clash, HasPairs, HasClashes, IsAgreementOn};
 
 use delta_num::Delta;
+use no_memory::NoMemory;
 use std::alloc::Global;
 use std::cmp::Ordering;
 use term_core::TermId;
-use world_io::NoMemory;
 
 /// A term that both theories speak of, with what each says of it.
 #[derive(Clone, Copy, PartialEq, Eq, Debug)]

@@ -1,6 +1,6 @@
 -- What reading a script up to a check comes to.
 use Rattle.std.specs.Prelude.{ℕ, Bool, true, false, List, [], Option, Some, None, Result, Ok, Err}
-use Rattle.world_io.specs.declared.bytes.NoMemory.{NoMemory}
+use Rattle.no_memory.specs.declared.NoMemory.{NoMemory}
 use Rattle.spec_commands.specs.Stack.{Stack}
 use Rattle.spec_commands.specs.Checks.{Check, term_limit, IsCurrent, HasNoCheck}
 use Rattle.assertion_stack.specs.Stacks.{OverTable, over_table, IsStack}

@@ -7,11 +7,11 @@ ghost use Rattle.assertion_stack.specs.Stacks.{over_table, IsStack};
 ghost use Rattle.alethe_check.specs.Loads.{Loads, Reaches};
 
 use assertion_stack::{Effect, Stack, TERM_LIMIT};
+use no_memory::NoMemory;
 use smt_lexer::{Refused, start};
 use smt_sexpr::LimitedText;
 use std::alloc::Global;
 use term_core::TermTable;
-use world_io::NoMemory;
 
 /// Holds what a script has stated: its stack, and the table that has the stack's terms.
 #[derive(Drop)]

@@ -3,11 +3,11 @@
 ghost use Rattle.std.specs.Prelude.{◌≡◌};
 ghost use Rattle.alethe_reader.specs.declared.errors.CommandError.TheVariants as errors;
 
+use no_memory::NoMemory;
 use smt_lexer::Place;
 use spec_proofs::ProofKind;
 use std::alloc::{AllocError, AllocFailed};
 use thiserror::Error;
-use world_io::NoMemory;
 
 /// A fault of a proof with its offset in bytes.
 #[derive(Clone, Copy, Debug, PartialEq, Eq)]

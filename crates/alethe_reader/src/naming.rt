@@ -10,12 +10,12 @@ ghost use Rattle.sort_check.specs.Naming.{wanted_word, next_word, listed_word};
 ghost use Rattle.alethe_reader.specs.Naming.{IsErrorAmong};
 
 use crate::errors::{CommandError, fault};
+use no_memory::NoMemory;
 use smt_sexpr::{Trees, View, Word, look, split};
 use spec_proofs::ProofKind;
 use spec_text::Fault;
 use std::alloc::Global;
 use term_reader::{ListForm, NextAttribute, ReadError, list_form, next_after};
-use world_io::NoMemory;
 
 /// Tells whether a name is at an offset that is the first tree, where that is wanted as a name.
 fn is_wanted_at(next: NextAttribute, item: Trees<'_>, at: u64) -> bool

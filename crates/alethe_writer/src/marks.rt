@@ -6,10 +6,10 @@ ghost use Rattle.proof_log.specs.Logs.{IsLogOf, logged_at, named, premises_in, d
 ghost use Rattle.spec_proof_texts.specs.Plans.{AreRests};
 ghost use Rattle.alethe_writer.specs.Marks.{MarksNumbers, IsNumberMarked, AreOfClauses, ArePrintedFor, Closes, plain_numbers};
 
+use no_memory::NoMemory;
 use proof_log::{ProofLog, StepId};
 use std::alloc::Global;
 use term_core::{TermId, TermTable};
-use world_io::NoMemory;
 
 /// Marks the numbers of the clauses that a clause rests on, its own among them.
 ///

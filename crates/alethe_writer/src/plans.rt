@@ -9,11 +9,11 @@ ghost use Rattle.alethe_writer.specs.Printing.{PlanFits};
 
 use crate::counter::Counter;
 use crate::marks::{printed_of, rests_of};
+use no_memory::NoMemory;
 use proof_log::{ProofLog, StepId};
 use std::alloc::Global;
 use std::marker::Model;
 use term_core::{TermId, TermTable};
-use world_io::NoMemory;
 
 /// Says what is printed for a clause of a log: which terms are defined, which clauses are assumes and steps, and their numbers.
 ///

@@ -12,13 +12,13 @@ ghost use Rattle.assertion_stack.specs.Stacks.{over_table, HasStack, IsStack, Pe
 use crate::names::in_script;
 use crate::printing::print;
 use crate::stack::{Effect, Stack};
+use no_memory::NoMemory;
 use smt_command::FunctionText;
 use smt_sexpr::Trees;
 use sort_check::{Room, define, term};
 use std::alloc::Global;
 use term_core::{Sort, TermId, TermTable};
 use term_reader::ReadError;
-use world_io::NoMemory;
 
 /// Gives the room for the names and terms of a command at an offset.
 fn room(stack: &Stack, at: u64) -> Room

@@ -3,10 +3,11 @@
 ghost use Rattle.std.specs.Prelude.{◌≡◌, ◌++◌, [], ◌∷◌, length, OnErr, OnOk};
 ghost use Rattle.assertion_stack.specs.Assertions.{no_assertions};
 
+use no_memory::NoMemory;
 use std::alloc::Global;
 use std::marker::Model;
 use term_core::TermId;
-use world_io::{Bytes, NoMemory};
+use world_io::Bytes;
 
 /// Holds the asserted terms by their numbers, oldest first, with the text of each.
 ///

@@ -16,12 +16,12 @@ ghost use Rattle.assertion_stack.specs.Stacks.{over_table, IsStack, HasStack, Pe
 use crate::faults::refused;
 use crate::names::{new_function, new_sort, sorts_in};
 use crate::stack::{Effect, Stack};
+use no_memory::NoMemory;
 use smt_sexpr::{Trees, Word};
 use spec_text::Fault;
 use std::alloc::Global;
 use term_core::{Sort, SortId, SymbolId, TermTable};
 use term_reader::{Function, ReadError, sort_in};
-use world_io::NoMemory;
 
 /// Tells whether there is room for one name more.
 fn has_room(stack: &Stack) -> bool

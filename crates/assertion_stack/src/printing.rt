@@ -5,10 +5,11 @@ ghost use Rattle.spec_text.specs.Printed.{printed_word, printed_all, printed};
 ghost use Rattle.smt_sexpr.specs.Items.{trees_meant, tree_meant};
 ghost use Rattle.assertion_stack.specs.Printing.{printed_after};
 
+use no_memory::NoMemory;
 use smt_lexer::bars_of;
 use smt_sexpr::{Kind, Trees, View, look, split};
 use std::alloc::Global;
-use world_io::{Bytes, NoMemory};
+use world_io::Bytes;
 
 /// Lends what is before a word and after it: quotes, bars where the name wants them, or a colon.
 fn marks_of<'a>(kind: Kind, bytes: &'a [u8]) -> (&'a [u8], &'a [u8])

@@ -7,10 +7,10 @@ ghost use Rattle.proof_log.specs.Theories.{IsTheoryOver, terms_watched, DerivesL
 ghost use Rattle.proof_log.specs.Clashes.{IsClash};
 ghost use Rattle.bound_lemmas.specs.Excluding.{IsIdle, CanHold};
 
+use no_memory::NoMemory;
 use proof_log::{ProofLog, StepId, Theory, Verdict};
 use sat_budget::{Budget, Stop};
 use term_core::{Lit, TermTable};
-use world_io::NoMemory;
 
 /// Asks a theory that holds nothing whether two literals can both hold. Where it finds that they cannot, this gives the step of the log
 /// that says so: each literal of its clause is false under the two.

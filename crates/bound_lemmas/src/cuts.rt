@@ -5,11 +5,11 @@ ghost use Rattle.term_core.specs.Tables.{IsIn};
 
 use crate::sums::SumNumbers;
 use linear_form::Form;
+use no_memory::NoMemory;
 use ratio128::Ratio;
 use simplex_atoms::{AtomSides, AtomStop, Comparison, difference_of, sides_of};
 use std::alloc::Global;
 use term_core::{Lit, TermId, TermTable};
-use world_io::NoMemory;
 
 /// Says where an order cuts the values of a sum in two.
 #[derive(Clone, Copy, Debug, PartialEq, Eq)]

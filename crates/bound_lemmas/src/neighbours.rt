@@ -6,9 +6,9 @@ ghost use Rattle.bound_lemmas.specs.Pairs.{IsPairOf, IsCutOf};
 
 use crate::cuts::{Cut, cut_of};
 use crate::sums::SumNumbers;
+use no_memory::NoMemory;
 use std::alloc::Global;
 use term_core::{Lit, TermId, TermTable};
-use world_io::NoMemory;
 
 /// Lists where atoms cut sums, each that does.
 fn cuts_of(alloc: Global, table: &TermTable, atoms: &[TermId]) -> Result<Vec<Cut>, NoMemory>

@@ -1,9 +1,9 @@
 //! Numbers for sums of terms.
 
 use indexmap::IndexSet;
+use no_memory::NoMemory;
 use ratio128::Ratio;
 use std::alloc::Global;
-use world_io::NoMemory;
 
 /// Numbers sums from 0, in the order in which they come.
 #[derive(Drop)]

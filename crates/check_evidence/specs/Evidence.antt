@@ -1,6 +1,6 @@
 -- What a check finds, and what shows it. Source: SMT-LIB 2.6, section 4.2.5; what counts as shown is own.
 use Rattle.std.specs.Prelude.{◌≡◌, ℕ, [], map, Result, Ok, Err}
-use Rattle.world_io.specs.declared.bytes.NoMemory.{NoMemory}
+use Rattle.no_memory.specs.declared.NoMemory.{NoMemory}
 use Rattle.spec_sorts.specs.Values.{Interpretation, Interprets}
 use Rattle.spec_commands.specs.Stack.{Stack, signature_of, terms_asserted, assertions_of}
 use Rattle.spec_proof_texts.specs.Readable.{AreReadable}

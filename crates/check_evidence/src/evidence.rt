@@ -17,6 +17,7 @@ use alethe_writer::printable::{logs_are_over_their_terms, terms_are_printable};
 use alethe_writer::{Plan, prepare};
 use assertion_stack::Stack;
 use assertion_stack::laws::stacks_hold_in_grown_tables;
+use no_memory::NoMemory;
 use proof_log::ProofLog;
 use sat_budget::{Budget, Limits, Reason};
 use solve_core::{Answer, Outcome, decide};
@@ -30,7 +31,6 @@ use spec_proof_texts::readable_laws::{
 use std::alloc::Global;
 use term_core::TermTable;
 use term_walks::Interp;
-use world_io::NoMemory;
 
 /// What a check found, with what shows it.
 ///

@@ -6,10 +6,10 @@ ghost use Rattle.class_table.specs.Rings.{alone, Joins, AreJoins};
 ghost use Rattle.class_table.specs.Kept.{numbers_at};
 
 use crate::rows::{list_ring, push_terms, renumber, swap_next};
+use no_memory::NoMemory;
 use std::alloc::Global;
 use std::marker::Model;
 use term_core::TermId;
-use world_io::NoMemory;
 
 /// Says that one class went into another, by their numbers.
 #[derive(Clone, Copy)]

@@ -4,9 +4,9 @@ ghost use Rattle.std.specs.Prelude.{◌≡◌, ◌+◌, ◌<◌, ◌≤◌, ◌+
 ghost use Rattle.std.specs.List.{range_with_len};
 ghost use Rattle.class_table.specs.Rings.{walk, set_each, swapped};
 
+use no_memory::NoMemory;
 use std::alloc::Global;
 use term_core::TermId;
-use world_io::NoMemory;
 
 /// Puts so many new terms last: each is in the class of its own number, is its own successor, and counts one.
 pub(crate) fn push_terms(

@@ -4,10 +4,10 @@ ghost use Rattle.std.specs.Prelude.{◌≡◌, ◌≢◌, ◌-◌, ◌<◌, ◌�
 ghost use Rattle.class_table.specs.Classes.{class_at, members_count, joined, with_terms, AreMembers, ClassesAreNumbered};
 
 use crate::rings::{MergeMark, Rings};
+use no_memory::NoMemory;
 use std::alloc::Global;
 use std::marker::Model;
 use term_core::TermId;
-use world_io::NoMemory;
 
 /// Holds terms in classes, joins two classes, and goes back to a mark.
 ///

@@ -10,9 +10,9 @@ use crate::literals::{find_open, first_open, is_true, latest_but};
 use crate::pair::{Pair, other_of};
 use crate::watched::Watched;
 use clause_literals::same;
+use no_memory::NoMemory;
 use sat_trail::SatTrail;
 use term_core::Lit;
-use world_io::NoMemory;
 
 /// What the first look at a clause comes to.
 #[derive(Clone, Copy, Debug, PartialEq, Eq)]

@@ -10,9 +10,9 @@ ghost use Rattle.clause_store.specs.Resting.{LengthsRise, IsPrefixOf, last_of, S
 use crate::fresh::Fresh;
 use crate::watched::Watched;
 use clause_literals::negated;
+use no_memory::NoMemory;
 use sat_trail::SatTrail;
 use term_core::Lit;
-use world_io::NoMemory;
 
 /// Holds clauses, and at which prefixes of what was seen they rest: where one of two watched literals is false, the other holds.
 #[derive(Drop)]

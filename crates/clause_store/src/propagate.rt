@@ -5,9 +5,9 @@ ghost use Rattle.clause_store.specs.Stores.{LiteralsAreBelow, HasSeen, HasSameCl
 ghost use Rattle.clause_store.specs.Propagating.{AddsImplied, EndsPropagation};
 
 use crate::store::ClauseStore;
+use no_memory::NoMemory;
 use proof_log::StepId;
 use sat_trail::SatTrail;
-use world_io::NoMemory;
 
 /// What propagation comes to.
 #[derive(Clone, Copy, Debug, PartialEq, Eq)]

@@ -9,12 +9,12 @@ use crate::entry::StoredClause;
 use crate::parts::StoreParts;
 use crate::watched::Watched;
 use clause_literals::literals_of;
+use no_memory::NoMemory;
 use proof_log::{ProofLog, StepId};
 use std::alloc::Global;
 use std::marker::Model;
 use term_core::{Lit, TermTable};
 use watch_index::WatchIndex;
-use world_io::NoMemory;
 
 /// Holds clauses by their literals, and of each the step that derives it, oldest first.
 ///

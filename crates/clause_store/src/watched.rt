@@ -10,10 +10,10 @@ use crate::entry::StoredClause;
 use crate::literals::{is_false, is_true, next_open};
 use crate::pair::{Pair, other_of};
 use clause_literals::same;
+use no_memory::NoMemory;
 use sat_trail::SatTrail;
 use term_core::{Lit, TermId};
 use watch_index::WatchIndex;
-use world_io::NoMemory;
 
 /// Holds clauses, of each the two literals that are watched, and for each literal the numbers of the clauses that watch it.
 #[derive(Drop)]

@@ -14,12 +14,12 @@ ghost use Rattle.clausify.specs.Overflows.{OnClauseOverflow};
 
 use crate::stop::ClauseStop;
 use linear_form::{ArithFault, Coeff, la_generic};
+use no_memory::NoMemory;
 use proof_log::{Clause, Numbers, ProofLog, Rule, Step, StepId, StepIds};
 use ratio128::Ratio;
 use ratio128::laws::ratios_are_fractions;
 use std::alloc::Global;
 use term_core::{TermId, TermTable};
-use world_io::NoMemory;
 
 /// Gives the number 1.
 pub(crate) fn one() -> Ratio

@@ -13,11 +13,11 @@ ghost use Rattle.term_clauses.specs.Marks.{marked};
 ghost use Rattle.clausify.specs.Orders.{AreOrdered};
 
 use crate::sides::{order_fact, sides_of};
+use no_memory::NoMemory;
 use std::alloc::Global;
 use term_clauses::marks::marks_of;
 use term_clauses::spoken::spoken_of;
 use term_core::{TermId, TermTable};
-use world_io::NoMemory;
 
 /// Lists formulas, the interface equalities first, after them the equalities that a search needs, and last the order fact of
 /// each equality of numbers among the subterms of all these. They come into the table.

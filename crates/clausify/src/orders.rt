@@ -16,13 +16,13 @@ ghost use Rattle.spec_causes.specs.Checks.{IsOverflowAmong};
 use crate::judged::{one, state_judged};
 use crate::sides::{Sides, at_most, order_fact, sides_of};
 use crate::stop::ClauseStop;
+use no_memory::NoMemory;
 use proof_log::{ProofLog, Rule, StepId};
 use ratio128::Ratio;
 use std::alloc::Global;
 use term_clauses::signs::signed;
 use term_clauses::steps::state;
 use term_core::{TermId, TermTable};
-use world_io::NoMemory;
 
 /// States the three clauses of the orders of an equality of numbers; other terms have none.
 ///

@@ -20,6 +20,7 @@ use crate::ordered::ordered_of;
 use crate::orders::state_orders;
 use crate::stated::Stated;
 use crate::stop::ClauseStop;
+use no_memory::NoMemory;
 use proof_log::{ProofLog, StepId, StepIds};
 use spec_sorts::subterms::subterms_are_least;
 use std::alloc::Global;
@@ -28,7 +29,6 @@ use term_clauses::choices::state_choice;
 use term_clauses::marks::{marked_ids, marks_of};
 use term_clauses::statements::state_term;
 use term_core::{TermId, TermTable};
-use world_io::NoMemory;
 
 /// Makes the clauses that a search for a term begins with, and lists the terms that they speak of: `clauses_of_all` for
 /// one term, with none beside it.

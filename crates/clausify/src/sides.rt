@@ -8,10 +8,10 @@ ghost use Rattle.proof_log.specs.Theories.{IsTermIn};
 ghost use Rattle.term_clauses.specs.Stating.{Widens, NamesTerm};
 ghost use Rattle.clausify.specs.Orders.{IsNumberIn, order_at, HasNoOrders, AreSidesOf};
 
+use no_memory::NoMemory;
 use std::alloc::Global;
 use term_clauses::signs::signed;
 use term_core::{Head, Node, Sort, TermId, TermTable};
-use world_io::NoMemory;
 
 /// Names the sides of an equality of numbers.
 #[derive(Clone, Copy)]

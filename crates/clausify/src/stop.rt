@@ -2,10 +2,10 @@
 
 ghost use Rattle.std.specs.Prelude.{◌≡◌};
 
+use no_memory::NoMemory;
 use ratio128::Wide;
 use std::alloc::{AllocError, AllocFailed};
 use thiserror::Error;
-use world_io::NoMemory;
 
 /// Says why the clauses of a search are not made.
 #[derive(Clone, Copy, Debug, PartialEq, Eq, Error)]

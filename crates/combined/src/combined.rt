@@ -10,12 +10,12 @@ ghost use Rattle.simplex.specs.Coming.{CameBy};
 ghost use Rattle.combined.specs.Views.{HoldTheSame};
 
 use congruence::{Congruence, Truths};
+use no_memory::NoMemory;
 use simplex::Simplex;
 use simplex_atoms::laws::no_atoms_fit;
 use std::alloc::Global;
 use std::marker::Model;
 use term_core::TermTable;
-use world_io::NoMemory;
 
 /// Holds literals of equality, functions and linear real arithmetic, in a theory of each kind.
 ///

@@ -2,11 +2,11 @@
 
 use crate::combined::Combined;
 use congruence::Congruence;
+use no_memory::NoMemory;
 use proof_log::{ProofLog, Theory, Verdict};
 use sat_budget::{Budget, Stop};
 use simplex::Simplex;
 use term_core::{Lit, TermId, TermTable};
-use world_io::NoMemory;
 
 impl Theory for Combined {
     ghost use Rattle.std.specs.Prelude.{◌⊎◌};

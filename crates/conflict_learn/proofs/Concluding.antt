@@ -9,7 +9,7 @@ use Rattle.spec_sorts.specs.Literals.{Literal, literal_of, complement}
 use Rattle.spec_proofs.specs.Resolution.{Resolves}
 use Rattle.spec_proofs.specs.declared.Rule.TheVariants.{Resolution}
 use Rattle.spec_derivations.specs.Derivations.{Derivation, by_rule, FollowsFrom}
-use Rattle.world_io.specs.declared.bytes.NoMemory.{NoMemory}
+use Rattle.no_memory.specs.declared.NoMemory.{NoMemory}
 use Rattle.term_core.specs.declared.ids.TermId.{TermId}
 use Rattle.term_core.specs.declared.ids.Lit.{Lit}
 use Rattle.term_core.specs.Tables.{TableView, IsIn, term_at, literal_at, clause_at, positive_literal, Extends}

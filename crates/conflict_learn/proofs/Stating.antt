@@ -11,7 +11,7 @@ use Rattle.spec_sorts.specs.Literals.{Clause, Literal, literal_of, literals_of, 
 use Rattle.spec_rules.specs.Clauses.{IsResolvent}
 use Rattle.spec_proofs.specs.declared.Rule.TheVariants.{Resolution}
 use Rattle.spec_derivations.specs.Derivations.{by_rule, FollowsFrom}
-use Rattle.world_io.specs.declared.bytes.NoMemory.{NoMemory}
+use Rattle.no_memory.specs.declared.NoMemory.{NoMemory}
 use Rattle.term_core.specs.declared.ids.TermId.{TermId}
 use Rattle.term_core.specs.declared.ids.Lit.{Lit}
 use Rattle.term_core.specs.Symbols.{SymbolsView}

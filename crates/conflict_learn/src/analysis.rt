@@ -8,11 +8,11 @@ ghost use Rattle.conflict_learn.specs.Conflicts.{AreTrailReasons, IsConflictLeve
 ghost use Rattle.conflict_learn.specs.Analyses.{IsMarkedAt, IsNewest, HasComeTo, HasPassed};
 
 use crate::meeting::{Seen, meet_all};
+use no_memory::NoMemory;
 use proof_log::{ProofLog, StepId};
 use sat_trail::SatTrail;
 use std::alloc::Global;
 use term_core::{Lit, TermTable};
-use world_io::NoMemory;
 
 /// The analysis of a conflict, as far down the trail as it has come.
 #[derive(Drop)]

@@ -10,11 +10,11 @@ ghost use Rattle.conflict_learn.specs.Analyses.{HasPassed, AreDropped, HasFound}
 use crate::analysis::{Analysis, analyze, newest_before};
 use crate::marks::mark;
 use clause_literals::negated;
+use no_memory::NoMemory;
 use proof_log::{ProofLog, StepId};
 use sat_trail::SatTrail;
 use std::alloc::Global;
 use term_core::{Lit, TermTable};
-use world_io::NoMemory;
 
 /// The clause that was found, and from which steps it follows.
 #[derive(Drop)]

@@ -13,12 +13,12 @@ use crate::level::conflict_level;
 use crate::lits::Lits;
 use crate::marks::mark;
 use crate::stated::{log_step, terms_of};
+use no_memory::NoMemory;
 use proof_log::laws::logs_hold_in_grown_tables;
 use proof_log::{ProofLog, StepId};
 use sat_trail::SatTrail;
 use std::alloc::Global;
 use term_core::TermTable;
-use world_io::NoMemory;
 
 /// Learns the clause of a conflict's first unique implication point, and logs it as a step by `resolution`.
 ///

@@ -6,9 +6,9 @@ ghost use Rattle.term_core.specs.declared.ids.Lit.{Lit};
 ghost use Rattle.term_core.specs.Tables.{TableView, IsIn, AreIn, clause_at, literal_at};
 ghost use Rattle.conflict_learn.specs.Analyses.{MarksVariables, AreSorted, IsBefore};
 
+use no_memory::NoMemory;
 use sat_trail::SatTrail;
 use term_core::{Lit, TermId, TermTable};
-use world_io::NoMemory;
 
 /// What came up in the analysis of a conflict.
 #[derive(Drop)]

@@ -9,10 +9,10 @@ ghost use Rattle.proof_log.specs.Logs.{IsFormulaIn, AreFormulasIn, stepped, infe
 ghost use Rattle.proof_log.specs.Adding.{IsAdded};
 ghost use Rattle.conflict_learn.specs.Analyses.{IsBare, StatesLiteral, StateAll};
 
+use no_memory::NoMemory;
 use proof_log::{Clause, Numbers, ProofLog, Rule, Step, StepId, StepIds};
 use std::alloc::Global;
 use term_core::{Head, Lit, Node, TermId, TermTable};
-use world_io::NoMemory;
 
 /// Gives the negation of a formula, which is put where it is not there.
 fn negation(alloc: Global, table: &mut TermTable, id: TermId) -> Result<TermId, NoMemory>

@@ -10,10 +10,10 @@ ghost use Rattle.congruence.specs.Views.{theory_of, AreEqualBy};
 
 use congruence_closure::Closure;
 use congruence_relation::{Truths, numbers_and_terms_agree};
+use no_memory::NoMemory;
 use std::alloc::Global;
 use std::marker::Model;
 use term_core::{TermId, TermTable};
-use world_io::NoMemory;
 
 /// Holds literals of equality and uninterpreted functions, closed under congruence as far as they were checked.
 ///

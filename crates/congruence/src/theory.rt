@@ -17,11 +17,11 @@ use crate::congruence::Congruence;
 use congruence_closure::Closure;
 use congruence_explain::explain;
 use congruence_relation::{Conflict, facts_stay_over_more_terms, refutations_agree};
+use no_memory::NoMemory;
 use proof_log::{ProofLog, StepId, Theory, Verdict};
 use sat_budget::{Budget, Stop};
 use std::alloc::Global;
 use term_core::{Lit, TermId, TermTable};
-use world_io::NoMemory;
 
 /// Explains a conflict of a closure's edges by steps of the log. Where memory runs out, table and log are as they were.
 fn explain_conflict(

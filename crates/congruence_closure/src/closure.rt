@@ -13,10 +13,10 @@ use crate::Conflict;
 use crate::parts::{ClosureParts, Extent};
 use congruence_relation::{Listed, Truths};
 use explain_forest::Forest;
+use no_memory::NoMemory;
 use std::alloc::Global;
 use std::marker::Model;
 use term_core::{Lit, Node, TermId};
-use world_io::NoMemory;
 
 /// Holds what a closure had at a mark.
 #[derive(Drop)]

@@ -5,10 +5,10 @@ ghost use Rattle.congruence_closure.specs.Closure.{denial};
 ghost use Rattle.congruence_closure.specs.Tables.{noted};
 
 use crate::users::grow;
+use no_memory::NoMemory;
 use std::alloc::Global;
 use std::marker::Model;
 use term_core::{Lit, TermId};
-use world_io::NoMemory;
 
 /// Writes the place of a literal as its term's entry, if it denies its term.
 fn note_denial(denials: &mut Vec<u64>, lit: Lit, place: u64)

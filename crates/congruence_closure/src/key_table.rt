@@ -7,11 +7,11 @@ ghost use Rattle.congruence_closure.specs.Keys.{key_of, oldest, AreKeys, IsLooke
 
 use class_table::ClassTable;
 use indexmap::IndexSet;
+use no_memory::NoMemory;
 use smallvec::SmallVec;
 use std::alloc::Global;
 use std::marker::Model;
 use term_core::{Node, TermId};
-use world_io::NoMemory;
 
 /// Makes the key of a node: its head, and for each argument its class's number.
 ///

@@ -7,10 +7,10 @@ ghost use Rattle.congruence_closure.specs.Listed.{nth, HasPlace, IsListed, AreUs
 
 use crate::users::{drop_users, grow, note_users};
 use congruence_relation::Listed;
+use no_memory::NoMemory;
 use std::alloc::Global;
 use std::marker::Model;
 use term_core::{Node, TermId};
-use world_io::NoMemory;
 
 /// Holds the listed terms, oldest first. It finds the place of a term, and the places of terms that have it as an argument.
 ///

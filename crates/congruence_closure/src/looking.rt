@@ -15,8 +15,8 @@ use crate::parts::ClosureParts;
 use crate::reading::sides_of;
 use crate::saturating::Turn;
 use congruence_relation::Truths;
+use no_memory::NoMemory;
 use term_core::{Lit, TermId};
-use world_io::NoMemory;
 
 /// Gives the term of a truth value.
 fn truth_term(truths: Truths, positive: bool) -> TermId

@@ -13,10 +13,10 @@ use crate::listing::Listing;
 use class_table::ClassTable;
 use congruence_relation::Truths;
 use explain_forest::Forest;
+use no_memory::NoMemory;
 use std::alloc::Global;
 use std::marker::Model;
 use term_core::{Lit, Node, TermId};
-use world_io::NoMemory;
 
 /// Holds listed terms and held literals, the classes and edges that they make, and what is left to do.
 ///

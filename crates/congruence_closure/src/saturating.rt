@@ -11,8 +11,8 @@ use crate::listing::Listing;
 use crate::parts::ClosureParts;
 use class_table::ClassTable;
 use explain_forest::Label;
+use no_memory::NoMemory;
 use term_core::{Lit, TermId};
-use world_io::NoMemory;
 
 /// Says what one turn came to.
 #[derive(Clone, Copy, Debug, PartialEq, Eq)]

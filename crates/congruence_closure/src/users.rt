@@ -3,9 +3,9 @@
 ghost use Rattle.std.specs.Prelude.{◌<◌, ◌≤◌, ℕ, suc, max, OnOk, Contains, [], get_or, length};
 ghost use Rattle.congruence_closure.specs.Tables.{lists, AreGrown, HaveKept, HaveKeptBelow, HaveNoted};
 
+use no_memory::NoMemory;
 use std::alloc::Global;
 use term_core::TermId;
-use world_io::NoMemory;
 
 /// Makes entries, so that there is one for a term.
 pub(crate) fn grow(numbers: &mut Vec<u64>, t: TermId) -> Result<(), NoMemory>

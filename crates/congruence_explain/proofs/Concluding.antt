@@ -15,7 +15,7 @@ use Rattle.spec_proofs.specs.Resolution.{Derives as Propagates, given, Conflicts
 use Rattle.spec_rules.specs.Clauses.{IsResolvent}
 use Rattle.spec_derivations.specs.Derivations.{by_rule, FollowsFrom}
 use Rattle.spec_derivations.specs.Lemmas.{IsLemma}
-use Rattle.world_io.specs.declared.bytes.NoMemory.{NoMemory}
+use Rattle.no_memory.specs.declared.NoMemory.{NoMemory}
 use Rattle.term_core.specs.declared.ids.TermId.{TermId}
 use Rattle.term_core.specs.declared.ids.Lit.{Lit}
 use Rattle.term_core.specs.Tables.{TableView, term_at, IsIn, AreIn, clause_at, literal_at, AreDifferent, Extends, Shape, shape_term}

@@ -10,7 +10,7 @@ use Rattle.spec_sorts.specs.Literals.{literals_of}
 use Rattle.spec_proofs.specs.declared.Rule.{Rule}
 use Rattle.spec_derivations.specs.Derivations.{by_rule, Derivation, FollowsFrom}
 use Rattle.spec_derivations.specs.Lemmas.{IsMadeOf, IsLemma}
-use Rattle.world_io.specs.declared.bytes.NoMemory.{NoMemory}
+use Rattle.no_memory.specs.declared.NoMemory.{NoMemory}
 use Rattle.term_core.specs.declared.ids.TermId.{TermId}
 use Rattle.term_core.specs.Tables.{TableView, term_at, clause_at}
 use Rattle.term_core.proofs.TermsExtend.{clause_at-kept, Extends-trans}

@@ -9,7 +9,7 @@ use Rattle.spec_sorts.specs.Literals.{literal_of, literals_of, complement}
 use Rattle.spec_equality.specs.Reasons.{equal}
 use Rattle.spec_rules.specs.Schemes.{signed_term}
 use Rattle.spec_derivations.specs.Lemmas.{IsMadeOf, is_negation}
-use Rattle.world_io.specs.declared.bytes.NoMemory.{NoMemory}
+use Rattle.no_memory.specs.declared.NoMemory.{NoMemory}
 use Rattle.term_core.specs.declared.ids.TermId.{TermId}
 use Rattle.term_core.specs.declared.nodes.Node.{Node}
 use Rattle.term_core.specs.declared.nodes.Head.TheVariants as heads

@@ -9,10 +9,10 @@ use crate::edges::turn;
 use crate::paths::tell;
 use congruence_relation::Truths;
 use explain_forest::Forest;
+use no_memory::NoMemory;
 use proof_log::ProofLog;
 use std::alloc::Global;
 use term_core::{TermId, TermTable};
-use world_io::NoMemory;
 
 /// Logs that two linked terms are equal, and why each edge is there that this rests on.
 ///

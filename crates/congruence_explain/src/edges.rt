@@ -17,10 +17,10 @@ use crate::putting::put_alone;
 use crate::rules::{rule_of_arguments, rule_of_decided, rule_of_value};
 use congruence_relation::{Edge, Label, Truths};
 use explain_forest::Forest;
+use no_memory::NoMemory;
 use proof_log::ProofLog;
 use std::alloc::Global;
 use term_core::{Lit, TermId, TermTable};
-use world_io::NoMemory;
 
 /// Copies the arguments of a term.
 fn arguments_of(alloc: Global, table: &TermTable, id: TermId) -> Result<Vec<TermId>, NoMemory>

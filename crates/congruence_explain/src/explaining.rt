@@ -16,10 +16,10 @@ use crate::collecting::collect;
 use crate::putting::{put, put_alone};
 use congruence_relation::{Conflict, Truths};
 use explain_forest::Forest;
+use no_memory::NoMemory;
 use proof_log::{ProofLog, Rule, StepId};
 use std::alloc::Global;
 use term_core::{TermId, TermTable};
-use world_io::NoMemory;
 
 /// Lists the numbers of the steps from one on.
 fn steps_from(alloc: Global, log: &ProofLog, from: u64) -> Result<Vec<StepId>, NoMemory>

@@ -12,10 +12,10 @@ use crate::putting::put_alone;
 use crate::rules::rule_of_path;
 use congruence_relation::Truths;
 use explain_forest::{Forest, PathStep};
+use no_memory::NoMemory;
 use proof_log::ProofLog;
 use std::alloc::Global;
 use term_core::{Head, TermId, TermTable};
-use world_io::NoMemory;
 
 /// Denies what the edges of a path say, and marks these as needed.
 fn deny_path(

@@ -12,10 +12,10 @@ ghost use Rattle.congruence_explain.specs.Claims.{IsClaimIn, IsClaimOf, IsClaimP
 ghost use Rattle.congruence_explain.specs.Steps.{Start, derived, spoken, Explains, HasPut};
 
 use crate::claims::{Claim, SignedClaim};
+use no_memory::NoMemory;
 use proof_log::{Clause, Numbers, ProofLog, Rule, Step, StepId, StepIds};
 use std::alloc::Global;
 use term_core::{Head, Node, TermId, TermTable};
-use world_io::NoMemory;
 
 /// Puts the formula of a claim, or finds it.
 fn formula_of(alloc: Global, table: &mut TermTable, claim: Claim) -> Result<TermId, NoMemory>

@@ -7,9 +7,9 @@ ghost use Rattle.explain_forest.specs.Telling.{step_of, halves, Turns};
 
 use crate::climb::top;
 use crate::types::{Edge, PathPart, PathStep};
+use no_memory::NoMemory;
 use std::alloc::Global;
 use term_core::TermId;
-use world_io::NoMemory;
 
 /// Gives the edge of a number.
 fn edge_of(edges: &[Edge], k: u64) -> Edge

@@ -7,10 +7,10 @@ use crate::arrays::{cut, grow, shrink};
 use crate::climb::find;
 use crate::explain::explain;
 use crate::types::{Edge, EdgeMark, Label, PathStep};
+use no_memory::NoMemory;
 use std::alloc::Global;
 use std::marker::Model;
 use term_core::TermId;
-use world_io::NoMemory;
 
 /// Holds edges between terms, of which none joins terms that were linked, and goes back to a mark.
 ///

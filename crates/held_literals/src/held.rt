@@ -4,10 +4,10 @@ ghost use Rattle.std.specs.Prelude.{◌≡◌, ◌<◌, ◌≤◌, [], length, g
 ghost use Rattle.proof_log.specs.Theories.{with_held, with_watched, with_mark, at_mark, gone_back};
 ghost use Rattle.held_literals.specs.Room.{without_mark, IsHeldOver, AreHeldMarks};
 
+use no_memory::NoMemory;
 use std::alloc::Global;
 use std::marker::Model;
 use term_core::{Lit, TermId};
-use world_io::NoMemory;
 
 /// How many literals and terms there were.
 #[derive(Clone, Copy, Debug, PartialEq, Eq)]

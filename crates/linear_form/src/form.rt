@@ -12,12 +12,12 @@ use crate::entries::{both, change_all, changed_number, is_zero, join_all, push_e
 pub use crate::entries::{FormChange, FormJoin};
 use crate::numbers::{one, zero};
 use crate::stop::FormStop;
+use no_memory::NoMemory;
 use ratio128::Ratio;
 use std::alloc::Global;
 use std::collections::HashMap;
 use std::marker::Model;
 use term_core::TermId;
-use world_io::NoMemory;
 
 /// Holds a constant, and variables with coefficients other than 0, in their order.
 ///

@@ -7,10 +7,10 @@ ghost use Rattle.linear_form.specs.Walks.{needed_at, known_meant, KnownVariables
 use crate::form::{Form, copy};
 use crate::heads::by_head;
 use crate::stop::FormStop;
+use no_memory::NoMemory;
 use ratio128::Wide;
 use std::alloc::Global;
 use term_core::{TermId, TermTable};
-use world_io::NoMemory;
 
 /// Says what is known of a term.
 #[derive(Drop)]

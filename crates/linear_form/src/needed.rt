@@ -5,10 +5,10 @@ ghost use Rattle.term_core.specs.Tables.{IsIn};
 ghost use Rattle.term_walks.specs.Orders.{numbers_of, AddsNumbers};
 ghost use Rattle.linear_form.specs.Walks.{needed_by, needed_at, IsOrder};
 
+use no_memory::NoMemory;
 use std::alloc::Global;
 use std::collections::BTreeSet;
 use term_core::{Head, Node, TermId, TermTable};
-use world_io::NoMemory;
 
 /// Lends the arguments of which a term's form is made: those of an arithmetic head.
 pub fn needed(table: &TermTable, id: TermId) -> &[TermId]

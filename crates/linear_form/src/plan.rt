@@ -7,9 +7,9 @@ ghost use Rattle.term_walks.specs.Orders.{numbers_of, In, Ascends};
 ghost use Rattle.linear_form.specs.Walks.{needed_at, numbers_at, IsOrder, IsPlan, AreLast};
 
 use crate::needed::{needed, order_of};
+use no_memory::NoMemory;
 use std::alloc::Global;
 use term_core::{TermId, TermTable};
-use world_io::NoMemory;
 
 /// Holds the plan of a walk.
 #[derive(Drop)]

@@ -6,8 +6,8 @@ ghost use Rattle.linear_form.specs.Walks.{numbers_at, AreLast, IsKnown, AreKnown
 
 use crate::known::{KnownForm, copy_known};
 use crate::plan::WalkPlan;
+use no_memory::NoMemory;
 use std::alloc::Global;
-use world_io::NoMemory;
 
 /// Copies what is at a place.
 fn copied(

@@ -13,9 +13,9 @@ use crate::needed::needed;
 use crate::plan::plan_of;
 use crate::slots::{fetch, fetch_all};
 use crate::stop::FormFault;
+use no_memory::NoMemory;
 use std::alloc::Global;
 use term_core::{TermId, TermTable};
-use world_io::NoMemory;
 
 /// Makes the ordered form of a term.
 ///

@@ -1,7 +1,7 @@
 -- What comes of adding to a log.
 use Rattle.std.specs.Prelude.{◌≡◌, ◌<◌, List, [], ◌∷◌, ◌++◌, length, map, All, Vec, Result, Ok, Err}
 use Rattle.std.specs.declared.alloc.Global.{Global}
-use Rattle.world_io.specs.declared.bytes.NoMemory.{NoMemory}
+use Rattle.no_memory.specs.declared.NoMemory.{NoMemory}
 use Rattle.spec_rules.specs.Rules.{IsWide}
 use Rattle.spec_derivations.specs.Derivations.{Derivation, Inference, «assumption», by_rule, conclusion_at, FollowsFrom}
 use Rattle.term_core.specs.declared.ids.TermId.{TermId}

@@ -10,12 +10,12 @@ use crate::entry::LogEntry;
 use crate::log_fault::LogFault;
 use crate::premises::StepId;
 use crate::step::Step;
+use no_memory::NoMemory;
 use rule_bool::{judge, written_numbers};
 use std::alloc::Global;
 use std::marker::Model;
 use std::slice;
 use term_core::{Clause, TermId, TermTable};
-use world_io::NoMemory;
 
 /// Holds clauses by their numbers, each assumed or stepped from earlier ones.
 ///

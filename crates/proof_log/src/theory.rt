@@ -12,9 +12,9 @@ ghost use Rattle.proof_log.specs.Theories.{TheoryView, with_held, with_watched, 
 
 use crate::log::ProofLog;
 use crate::premises::StepId;
+use no_memory::NoMemory;
 use sat_budget::{Budget, Stop};
 use term_core::{Lit, TermId, TermTable};
-use world_io::NoMemory;
 
 /// What a theory says of the literals that it holds.
 #[derive(Clone, Copy, Debug, PartialEq, Eq)]

@@ -1,8 +1,8 @@
 //! Why a family has no line.
 
+use no_memory::NoMemory;
 use std::alloc::{AllocError, AllocFailed};
 use tableau::RowStop;
-use world_io::NoMemory;
 
 /// Says why a family has no line.
 #[derive(Clone, Copy)]

@@ -4,10 +4,10 @@ ghost use Rattle.std.specs.Prelude.{◌≡◌, ◌<◌, ◌≤◌, [], length, g
 ghost use Rattle.sat_budget.specs.Budgets.{Learns, Exchanges, no_exchange};
 
 use crate::limits::{BudgetStop, Limits};
+use no_memory::NoMemory;
 use std::alloc::Global;
 use std::marker::Model;
 use term_core::Lit;
-use world_io::NoMemory;
 
 /// Holds the limits of one search on conflicts and on exchanges, the clauses that it has learned, and the exchanges that it has
 /// made, oldest first.

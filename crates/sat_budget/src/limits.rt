@@ -3,10 +3,10 @@
 ghost use Rattle.std.specs.Prelude.{◌≡◌};
 
 use delta_num::Delta;
+use no_memory::NoMemory;
 use ratio128::Wide;
 use std::alloc::{AllocError, AllocFailed};
 use thiserror::Error;
-use world_io::NoMemory;
 
 /// Limits what a search may spend, and how much a script may ask to be held.
 ///

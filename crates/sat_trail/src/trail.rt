@@ -5,10 +5,10 @@ ghost use Rattle.clause_literals.specs.Literals.{IsConsistent};
 ghost use Rattle.sat_trail.specs.Trails.{TrailView, empty, no_lit, VariablesAreApart, IsUnassigned, HasValue, HasSame, IsPushed, IsCutTo, IsLeveled};
 ghost use Rattle.sat_trail.specs.Values.{HasValues};
 
+use no_memory::NoMemory;
 use std::alloc::Global;
 use std::marker::Model;
 use term_core::Lit;
-use world_io::NoMemory;
 
 /// Takes off all literals but the first `len`, and their values.
 fn take_off(held: &mut Vec<Lit>, values: &mut Vec<Option<bool>>, len: usize)

@@ -4,9 +4,9 @@ ghost use Rattle.std.specs.Prelude.{◌≡◌, ◌↔◌, true, All, IfOk};
 ghost use Rattle.proof_log.specs.Theories.{IsTermIn, IsAtomIn};
 ghost use Rattle.search_loop.specs.Search.{AreAtomsAmong};
 
+use no_memory::NoMemory;
 use std::alloc::Global;
 use term_core::{Lit, Sort, TermId, TermTable};
-use world_io::NoMemory;
 
 /// Tells whether a term is an atom: of sort Bool, and no negation.
 fn is_atom(table: &TermTable, id: TermId) -> bool

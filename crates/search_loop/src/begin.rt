@@ -16,6 +16,7 @@ use crate::search::Search;
 use clause_store::ClauseStore;
 use clause_store::laws::{reasons_stay_right, what_is_marked_was_seen};
 use clausify::{ClauseStop, Stated, clauses_of_all};
+use no_memory::NoMemory;
 use proof_log::laws::empty_logs_are_right;
 use proof_log::{ProofLog, StepId};
 use sat_budget::{Budget, Limits};
@@ -23,7 +24,6 @@ use sat_trail::SatTrail;
 use spec_derivations::search_laws::{whole_clauses_are_over_whole_terms, whole_terms_are_known};
 use std::alloc::Global;
 use term_core::{TermId, TermTable};
-use world_io::NoMemory;
 
 /// Makes the store of clauses of a log, given by their numbers.
 fn store_of(

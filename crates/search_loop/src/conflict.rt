@@ -17,11 +17,11 @@ use crate::feeding::go_back;
 use crate::search::Search;
 use clause_store::laws::{reasons_stay_right, what_is_marked_was_seen};
 use conflict_learn::{conflict_level, learn, refute};
+use no_memory::NoMemory;
 use proof_log::laws::logs_hold_in_grown_tables;
 use proof_log::{StepId, Theory};
 use sat_budget::{Budget, BudgetStop, Reason};
 use term_core::{Lit, TermTable};
-use world_io::NoMemory;
 
 /// Puts a learned clause last in a budget that has room for it.
 fn note(budget: &mut Budget, clause: &[Lit]) -> Result<(), NoMemory>

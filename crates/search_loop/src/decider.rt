@@ -10,13 +10,13 @@ ghost use Rattle.search_loop.specs.Waiting.{AreWaiting, AreOfAtoms, IsOpen, Choo
 use crate::activity::bump_conflict;
 use crate::decision::next_decision;
 use crate::waiting::{insert_all, put_back};
+use no_memory::NoMemory;
 use proof_log::{ProofLog, StepId};
 use sat_trail::SatTrail;
 use std::alloc::Global;
 use std::marker::Model;
 use term_core::{Lit, TermId, TermTable};
 use variable_order::VariableOrder;
-use world_io::NoMemory;
 
 /// Says which literal is decided next: that of the most active variable without a value, with the sign that it had last.
 ///

@@ -10,9 +10,9 @@ ghost use Rattle.search_loop.specs.Rounds.{BeginsSearch, Continues, HasKept};
 
 use crate::search::Search;
 use clause_store::laws::{reasons_stay_right, what_is_marked_was_seen};
+use no_memory::NoMemory;
 use proof_log::StepId;
 use term_core::TermTable;
-use world_io::NoMemory;
 
 impl Search {
     /// Puts the clause of a step of the log last in the store of a search that begins, where it is over the search's atoms.

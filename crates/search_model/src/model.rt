@@ -9,12 +9,12 @@ ghost use Rattle.search_model.specs.Models.{AreIncreasing, IsModelOf};
 
 use crate::rows::{blank_tables, note};
 use crate::values::listed_values;
+use no_memory::NoMemory;
 use ratio128::Ratio;
 use sat_trail::SatTrail;
 use std::alloc::Global;
 use term_core::{TermId, TermTable};
 use term_walks::Interp;
-use world_io::NoMemory;
 
 /// Makes the interpretation that truths, classes and numbers give. A symbol's table has a row for each listed term with
 /// it in front, and for all other arguments false, 0 or the first element. A constant that is listed has its value

@@ -13,11 +13,11 @@ ghost use Rattle.term_walks.specs.Valuations.{value_meant, row_meant, IsNamed, I
 ghost use Rattle.search_model.specs.Made.{HasValues, meant, row_put, default_put, AreBlank, AreTables, IsApplied};
 
 use crate::values::values_at;
+use no_memory::NoMemory;
 use ratio128::Ratio;
 use std::alloc::Global;
 use term_core::{Head, Sort, SymbolId, TermId, TermTable};
 use term_walks::{Table, Value, ValueRow};
-use world_io::NoMemory;
 
 /// Gives the symbol that a head is; nothing where it is none.
 fn applied(head: Head) -> Option<SymbolId>

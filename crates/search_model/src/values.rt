@@ -12,12 +12,12 @@ ghost use Rattle.term_walks.specs.Valuations.{value_meant, IsNamed};
 ghost use Rattle.search_model.specs.Models.{truths_of, values_of, AreIncreasing};
 ghost use Rattle.search_model.specs.Made.{value_at_id, HasValues};
 
+use no_memory::NoMemory;
 use ratio128::Ratio;
 use sat_trail::SatTrail;
 use std::alloc::Global;
 use term_core::{Sort, TermId, TermTable};
 use term_walks::Value;
-use world_io::NoMemory;
 
 /// Tells whether a term is true by the literals that hold. What is no negation and has no value is false.
 fn truth_of(table: &TermTable, id: TermId, trail: &SatTrail) -> bool

@@ -19,7 +19,7 @@ use Rattle.spec_causes.specs.Reached.{IsReached, IsStoppedAt}
 use Rattle.spec_causes.specs.Reached as reached
 use Rattle.spec_causes.specs.Counts.{counted}
 use Rattle.spec_causes.proofs.Resting.{kept_makes_none, kept_is_not_short}
-use Rattle.world_io.specs.declared.bytes.NoMemory.{NoMemory}
+use Rattle.no_memory.specs.declared.NoMemory.{NoMemory}
 use Rattle.term_core.specs.declared.ids.TermId.{TermId}
 use Rattle.term_core.specs.declared.ids.Lit.{Lit}
 use Rattle.term_core.specs.Tables.{TableView, term_at, clause_at, positive_literal, IsIn, Extends}

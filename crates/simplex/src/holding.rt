@@ -11,11 +11,11 @@ ghost use Rattle.simplex.specs.Views.{IsOf};
 
 use crate::simplex::Simplex;
 use crate::starts::Start;
+use no_memory::NoMemory;
 use simplex_atoms::laws::bounds_have_weights;
 use simplex_atoms::{Slack, bounds_by};
 use simplex_bounds::{Bound, Bounds};
 use term_core::Lit;
-use world_io::NoMemory;
 
 /// Holds a bound, if there is one. It takes no memory.
 fn hold_one(bounds: &mut Bounds, bound: Option<Bound>)

@@ -18,6 +18,7 @@ ghost use Rattle.simplex.specs.Coming.{term_tableau_of, IsOverflowAt};
 
 use crate::simplex::Simplex;
 use delta_num::Delta;
+use no_memory::NoMemory;
 use ratio128::{Ratio, Wide};
 use sat_budget::Stop;
 use simplex_numbers::{small_number, value_at};
@@ -25,7 +26,6 @@ use std::alloc::Global;
 use std::collections::HashMap;
 use tableau::numbers::zero;
 use term_core::{TermId, TermTable};
-use world_io::NoMemory;
 
 /// Makes a table of values by the numbers of their terms: for each of the terms the value at its place. Of one that is there twice it
 /// has the later value.

@@ -13,6 +13,7 @@ ghost use Rattle.simplex.specs.Views.{SimplexFits};
 use crate::starts::Start;
 use delta_num::Delta;
 use held_literals::HeldLiterals;
+use no_memory::NoMemory;
 use sat_budget::Basis;
 use simplex_atoms::Atoms;
 use simplex_bounds::Bounds;
@@ -20,7 +21,6 @@ use simplex_check::{Move, RealAssignment};
 use std::alloc::Global;
 use std::marker::Model;
 use term_core::TermId;
-use world_io::NoMemory;
 
 /// Holds literals of linear real arithmetic, and values of the variables that keep what was checked of them.
 ///

@@ -1,10 +1,10 @@
 //! Simplex as a theory of the search.
 
 use crate::simplex::Simplex;
+use no_memory::NoMemory;
 use proof_log::{ProofLog, Theory, Verdict};
 use sat_budget::{Budget, Stop};
 use term_core::{Lit, TermId, TermTable};
-use world_io::NoMemory;
 
 impl Theory for Simplex {
     ghost use Rattle.std.proofs.Common.{sym, subst};

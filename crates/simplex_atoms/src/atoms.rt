@@ -18,13 +18,13 @@ use crate::reading::{difference_of, sides_of};
 use crate::slack::Slack;
 use crate::stop::AtomStop;
 use crate::sums::Sums;
+use no_memory::NoMemory;
 use simplex_bounds::Bounds;
 use simplex_check::RealAssignment;
 use std::alloc::Global;
 use std::collections::HashMap;
 use std::marker::Model;
 use term_core::{TermId, TermTable};
-use world_io::NoMemory;
 
 /// Holds which terms and sums the variables of an assignment stand for, and the slack variables of the atoms that are watched.
 ///

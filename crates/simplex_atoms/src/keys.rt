@@ -5,11 +5,11 @@ ghost use Rattle.tableau.specs.Numbers.{number_of};
 ghost use Rattle.tableau.specs.Entries.{entries_of};
 ghost use Rattle.simplex_atoms.specs.Sums.{with_sign, signed_entries, begins_negative, pairs_meant, IsKeyOf};
 
+use no_memory::NoMemory;
 use ratio128::Ratio;
 use std::alloc::Global;
 use tableau::Entry;
 use tableau::numbers::{is_negative, negative};
-use world_io::NoMemory;
 
 /// Holds the entries of a sum, or those of its opposite, so that both have one list.
 #[derive(Drop)]

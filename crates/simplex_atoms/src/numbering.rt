@@ -11,12 +11,12 @@ ghost use Rattle.simplex_atoms.specs.Watching.{IsNumbered, EntriesAreNumbered};
 ghost use Rattle.simplex_atoms.specs.TermTableauViews.{GroundLeads, TellsOwners, IsVariableOf};
 
 use crate::owners::Owners;
+use no_memory::NoMemory;
 use ratio128::Ratio;
 use simplex_check::RealAssignment;
 use std::alloc::Global;
 use tableau::Entry;
 use term_core::TermId;
-use world_io::NoMemory;
 
 /// Gives the variable that means a term, which is added where none does.
 ///

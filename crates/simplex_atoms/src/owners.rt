@@ -3,11 +3,11 @@
 ghost use Rattle.std.specs.Prelude.{◌≡◌, ◌<◌, Some, None, [], ◌∷◌, ◌++◌, length, OnOk, OnErr};
 ghost use Rattle.simplex_atoms.specs.Owners.{owner_at, IsNumberOf, AreOwnedOnce};
 
+use no_memory::NoMemory;
 use std::alloc::Global;
 use std::collections::HashMap;
 use std::marker::Model;
 use term_core::TermId;
-use world_io::NoMemory;
 
 /// Holds for each variable the term that it stands for, if it stands for one.
 ///

@@ -3,11 +3,11 @@
 ghost use Rattle.std.specs.Prelude.{◌≡◌};
 
 use linear_form::{FormFault, FormStop};
+use no_memory::NoMemory;
 use ratio128::Wide;
 use std::alloc::{AllocError, AllocFailed};
 use tableau::RowStop;
 use thiserror::Error;
-use world_io::NoMemory;
 
 /// Says why an atom is not placed.
 #[derive(Clone, Copy, Debug, PartialEq, Eq, Error)]

@@ -4,12 +4,12 @@ ghost use Rattle.std.specs.Prelude.{◌≡◌, [], ◌∷◌, IfOk, OnOk, OnErr,
 ghost use Rattle.simplex_atoms.specs.Sums.{key_meant, IsKeyOf, sum_by, IsNew};
 
 use crate::keys::{Key, key_of};
+use no_memory::NoMemory;
 use ratio128::Ratio;
 use std::alloc::Global;
 use std::collections::HashMap;
 use std::marker::Model;
 use tableau::Entry;
-use world_io::NoMemory;
 
 /// Says of which variable a sum is a multiple: it is the variable, or minus it.
 #[derive(Clone, Copy, Debug, PartialEq, Eq)]

@@ -7,9 +7,9 @@ ghost use Rattle.simplex_bounds.specs.Limits.{are_crossed};
 use crate::bounds::Bound;
 use crate::limits::VariableLimits;
 use crate::ranges::Range;
+use no_memory::NoMemory;
 use std::alloc::Global;
 use std::marker::Model;
-use world_io::NoMemory;
 
 /// Holds a bound with what it changed, so that this can be undone.
 #[derive(Clone, Copy)]

@@ -13,12 +13,12 @@ ghost use Rattle.spec_tableaux.specs.BoundsOverflows.{OverflowsNew};
 
 use crate::sums::sum_at;
 use delta_num::Delta;
+use no_memory::NoMemory;
 use sat_budget::Basis;
 use simplex_bounds::deltas::zero;
 use std::alloc::Global;
 use std::marker::Model;
 use tableau::{Entry, RowStop, Tableau};
-use world_io::NoMemory;
 
 /// Holds a tableau with a value of each variable, so that the values solve the rows.
 ///

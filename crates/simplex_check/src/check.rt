@@ -11,9 +11,9 @@ ghost use Rattle.simplex_check.specs.Suspects.{is_among, Suspect, SuspectBut, Ke
 use crate::assignment::RealAssignment;
 use crate::rule::Move;
 use crate::suspects::Suspects;
+use no_memory::NoMemory;
 use sat_budget::{Budget, BudgetStop, Stop};
 use simplex_bounds::Bounds;
-use world_io::NoMemory;
 
 /// Says what a check found.
 #[derive(Clone, Copy, PartialEq, Eq, Debug)]

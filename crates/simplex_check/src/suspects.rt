@@ -5,10 +5,10 @@ ghost use Rattle.simplex_check.specs.Changes.{is_changed};
 ghost use Rattle.simplex_check.specs.Suspects.{is_among};
 
 use crate::changes::ValueChange;
+use no_memory::NoMemory;
 use std::alloc::Global;
 use std::collections::BTreeSet;
 use std::marker::Model;
-use world_io::NoMemory;
 
 /// Holds numbers of variables in ascending order, none twice.
 #[derive(Drop)]

@@ -5,7 +5,7 @@ use Rattle.std.proofs.lemmas.List.{map-append, map_more}
 use Rattle.std.proofs.lemmas.List.Elements.{All-push}
 use Rattle.spec_sorts.specs.Terms.{negated}
 use Rattle.spec_simplex.specs.Weights.{denial}
-use Rattle.world_io.specs.declared.bytes.NoMemory.{NoMemory}
+use Rattle.no_memory.specs.declared.NoMemory.{NoMemory}
 use Rattle.term_core.specs.declared.ids.TermId.{TermId}
 use Rattle.term_core.specs.declared.ids.Lit.{Lit}
 use Rattle.term_core.specs.declared.nodes.Node.{Node}

@@ -8,9 +8,9 @@ ghost use Rattle.term_clauses.specs.Stating.{Widens};
 ghost use Rattle.simplex_explain.specs.Reasons.{IsDenialPut, denials_meant};
 
 use crate::weighted::Weighted;
+use no_memory::NoMemory;
 use std::alloc::Global;
 use term_core::{Head, Lit, Node, TermId, TermTable};
-use world_io::NoMemory;
 
 /// Puts the term that negates a literal, or finds it.
 fn negation(alloc: Global, table: &mut TermTable, literal: Lit) -> Result<TermId, NoMemory>

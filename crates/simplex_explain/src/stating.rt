@@ -19,13 +19,13 @@ use crate::judging::judge;
 use crate::putting::negations;
 use crate::weighted::Weighted;
 use linear_form::ArithFault;
+use no_memory::NoMemory;
 use proof_log::laws::logs_hold_in_grown_tables;
 use proof_log::{Clause, Numbers, ProofLog, Rule, Step, StepId, StepIds};
 use ratio128::Ratio;
 use ratio128::laws::ratios_are_fractions;
 use std::alloc::{AllocError, Global};
 use term_core::{TermId, TermTable};
-use world_io::NoMemory;
 
 /// Lists the weights, in their order.
 fn weights_of(alloc: Global, reasons: &[Weighted]) -> Result<Vec<Ratio>, AllocError>

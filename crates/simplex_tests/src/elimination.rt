@@ -1,7 +1,7 @@
 //! An elimination of variables from inequalities, one after the other, until only constants are left.
 
+use no_memory::NoMemory;
 use std::alloc::{AllocError, AllocFailed, Global};
-use world_io::NoMemory;
 
 /// The coefficients of four variables.
 pub(crate) type Form = [i128; 4];

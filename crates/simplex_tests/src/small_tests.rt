@@ -1,6 +1,7 @@
 //! Checks of small systems by hand. The variables are x0, x1 and x2, which is the sum of multiples of the others.
 
 use delta_num::Delta;
+use no_memory::NoMemory;
 use ratio128::Op;
 use sat_budget::{Budget, Limits, Stop};
 use simplex_bounds::{Bound, Bounds, Lit, Side};
@@ -9,7 +10,6 @@ use std::alloc::Global;
 use std::test::Fail;
 use tableau::{Entry, Ratio, RowStop};
 use term_core::TermId;
-use world_io::NoMemory;
 
 /// Gives a whole number as a value.
 fn whole(n: i64) -> Delta {

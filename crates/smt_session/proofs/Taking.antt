@@ -10,7 +10,7 @@ use Rattle.spec_proof_texts.specs.ReadBack.{AreScriptNames}
 use Rattle.spec_sessions.specs.Evidence.{Limits}
 use Rattle.spec_sessions.specs.Responses.{Response, rejected, Answered, Responds, AnswersBy, Answers}
 use Rattle.spec_sessions.specs.Meaning.{IsKeptCheck}
-use Rattle.world_io.specs.declared.bytes.NoMemory.{NoMemory}
+use Rattle.no_memory.specs.declared.NoMemory.{NoMemory}
 use Rattle.smt_lexer.specs.declared.Refused.{Refused}
 use Rattle.smt_lexer.specs.declared.Refused.TheVariants as refusals
 use Rattle.smt_sexpr.specs.declared.sexpr.Sexpr.{Sexpr}

@@ -1,6 +1,6 @@
 -- Sessions: what one stands for, and what a command comes to. Source: SMT-LIB 2.6, section 4.2.
 use Rattle.std.specs.Prelude.{◌≡◌, ℕ, List, [], Result, Ok, Err, IsErr}
-use Rattle.world_io.specs.declared.bytes.NoMemory.{NoMemory}
+use Rattle.no_memory.specs.declared.NoMemory.{NoMemory}
 use Rattle.world_io.specs.declared.fault.Failed.{Failed}
 use Rattle.world_io.specs.Writing.{SinkView, Sent, NotSent}
 use Rattle.spec_text.specs.Places.{IsPlaceOf}

@@ -12,6 +12,7 @@ use crate::mode::Mode;
 use crate::responses::{Response, after_of, send_response};
 use assertion_stack::{Effect, Stack};
 use check_evidence::check;
+use no_memory::NoMemory;
 use sat_budget::{Budget, Limits};
 use smt_lexer::Refused;
 use smt_sexpr::Sexpr;
@@ -22,7 +23,7 @@ use spec_sessions::laws::what_is_shown_is_so;
 use std::alloc::Global;
 use std::marker::Model;
 use term_core::TermTable;
-use world_io::{Failed, NoMemory, Sink};
+use world_io::{Failed, Sink};
 
 /// Tells what comes after a command.
 #[derive(Clone, Copy, Debug, PartialEq, Eq)]

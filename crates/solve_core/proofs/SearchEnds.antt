@@ -1,7 +1,7 @@
 -- How a round of the search ends, where what was shown later was shown before.
 use Rattle.std.specs.Prelude.{Result, Ok, Err, IfOk}
 use Rattle.std.proofs.Common.{List, sym, subst}
-use Rattle.world_io.specs.declared.bytes.NoMemory.{NoMemory}
+use Rattle.no_memory.specs.declared.NoMemory.{NoMemory}
 use Rattle.term_core.specs.declared.ids.TermId.{TermId}
 use Rattle.term_core.specs.Tables.{TableView}
 use Rattle.sat_budget.specs.declared.limits.Stop.{Stop}

@@ -1,7 +1,7 @@
 -- How a round of the search ends: with an answer, or with pairs of terms on which the theories do not agree.
 use Rattle.std.specs.Prelude.{◌≡◌, List, Result, Ok, Err}
 use Rattle.spec_derivations.specs.Problems.{Problem}
-use Rattle.world_io.specs.declared.bytes.NoMemory.{NoMemory}
+use Rattle.no_memory.specs.declared.NoMemory.{NoMemory}
 use Rattle.term_core.specs.declared.ids.TermId.{TermId}
 use Rattle.term_core.specs.Tables.{TableView}
 use Rattle.sat_budget.specs.declared.limits.Stop.{Stop}

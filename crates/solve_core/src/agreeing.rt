@@ -18,6 +18,7 @@ use crate::modelling::TheoryAssignment;
 use crate::sharing::is_declared;
 use agreement::{Agreement, Delta, Shared, agree};
 use combined::Combined;
+use no_memory::NoMemory;
 use sat_budget::Stop;
 use search_loop::Search;
 use spec_valuations::laws::{
@@ -26,7 +27,6 @@ use spec_valuations::laws::{
 };
 use std::alloc::Global;
 use term_core::{TermId, TermTable};
-use world_io::NoMemory;
 
 /// What is found where a search is saturated.
 #[derive(Drop)]

@@ -26,11 +26,11 @@ use crate::sharing::is_number;
 use crate::truths::truth_values;
 use combined::Combined;
 use congruence::Congruence;
+use no_memory::NoMemory;
 use proof_log::laws::logs_hold_in_grown_tables;
 use sat_budget::{Reason, Stop};
 use search_loop::{Answer, End, Search, watch_all};
 use term_core::{TermId, TermTable};
-use world_io::NoMemory;
 
 /// What comes of a search.
 #[derive(Drop)]

@@ -13,12 +13,12 @@ ghost use Rattle.bound_lemmas.specs.Pairs.{IsPairOf};
 ghost use Rattle.solve_core.specs.Relating.{HasRelated};
 
 use bound_lemmas::{excluding, neighbours_of};
+use no_memory::NoMemory;
 use sat_budget::{Budget, Limits, Stop};
 use search_loop::{Search, watch_all};
 use simplex::Simplex;
 use simplex_atoms::laws::no_atoms_fit;
 use term_core::{Lit, TermTable};
-use world_io::NoMemory;
 
 /// The limits of one question to the theory. Bounds of multiples of one sum have rows of their own, and need an exchange.
 const QUESTION: Limits = Limits {

@@ -6,10 +6,10 @@ ghost use Rattle.term_clauses.specs.SpokenTerms.{HasMore};
 ghost use Rattle.term_clauses.specs.Stating.{Widens};
 ghost use Rattle.solve_core.specs.Rounds.{IsComparable, equality_in};
 
+use no_memory::NoMemory;
 use std::alloc::Global;
 use term_clauses::choices::equality;
 use term_core::{TermId, TermTable};
-use world_io::NoMemory;
 
 /// Puts the equality of each of these pairs, or finds it, and its number after others.
 ///

@@ -5,12 +5,12 @@ ghost use Rattle.spec_derivations.specs.Examples.{asserting};
 ghost use Rattle.term_core.specs.Tables.{IsIn, AreIn, clause_at, term_at};
 ghost use Rattle.solve_core.specs.Forms.{FindsOverflow, FindsInForm};
 
+use no_memory::NoMemory;
 use ratio128::Wide;
 use simplex_atoms::{AtomStop, difference_of, sides_of};
 use std::alloc::Global;
 use term_clauses::marks::marks_of;
 use term_core::{TermId, TermTable};
-use world_io::NoMemory;
 
 /// Gives the first operation that leaves 128 bits where the form of a term is taken, if the term is an atom of linear arithmetic and
 /// such an operation comes.

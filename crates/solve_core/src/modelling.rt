@@ -10,6 +10,7 @@ ghost use Rattle.search_loop.specs.Rounds.{ShowsAnswer};
 ghost use Rattle.search_loop.specs.Asking.{HasSaturated};
 ghost use Rattle.solve_core.specs.Answering.{HoldTogether};
 
+use no_memory::NoMemory;
 use ratio128::Ratio;
 use search_loop::Search;
 use search_model::laws::{made_models_are_those_of_numbers, made_models_stand};
@@ -22,7 +23,6 @@ use std::alloc::Global;
 use tableau::numbers::zero;
 use term_core::TermTable;
 use term_walks::Interp;
-use world_io::NoMemory;
 
 /// What the theories say of terms, in the order of these.
 #[derive(Drop)]

@@ -12,6 +12,7 @@ use crate::equalities::{add_equalities, affirm};
 use crate::forms::first_overflow;
 use crate::sharing::shared_terms;
 use clausify::ClauseStop;
+use no_memory::NoMemory;
 use proof_log::ProofLog;
 use proof_log::laws::empty_logs_are_right;
 use ratio128::Wide;
@@ -20,7 +21,6 @@ use search_loop::begin::begin;
 use search_loop::{Answer, Search};
 use std::alloc::Global;
 use term_core::{TermId, TermTable};
-use world_io::NoMemory;
 
 /// A check's answer, with the log of its steps, and the budget: its limits, what was learned and what was exchanged.
 #[derive(Drop)]

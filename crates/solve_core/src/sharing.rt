@@ -7,11 +7,11 @@ ghost use Rattle.spec_sorts.specs.Subterms.{subterms_of};
 ghost use Rattle.term_core.specs.Tables.{IsIn, AreIn, term_at, clause_at, head_over};
 ghost use Rattle.solve_core.specs.Sharing.{is_declared, reals_in, shared_by, AddsSharedTerms, AreSharedOf};
 
+use no_memory::NoMemory;
 use std::alloc::Global;
 use std::slice;
 use term_clauses::marks::marks_of;
 use term_core::{Head, Sort, TermId, TermTable};
-use world_io::NoMemory;
 
 /// Tells whether a term has the sort Real.
 pub(crate) fn is_number(table: &TermTable, id: TermId) -> bool

@@ -7,13 +7,13 @@ ghost use Rattle.proof_log.specs.Logs.{AreFormulasIn};
 ghost use Rattle.solve_core.specs.Decisions.{SolverView, IsShownBy};
 
 use crate::outcome::{Outcome, decide};
+use no_memory::NoMemory;
 use proof_log::ProofLog;
 use sat_budget::{Budget, Limits};
 use search_loop::Answer;
 use std::alloc::Global;
 use std::marker::Model;
 use term_core::{TermId, TermTable};
-use world_io::NoMemory;
 
 /// Decides whether terms can be true, and keeps what shows its last answer.
 ///

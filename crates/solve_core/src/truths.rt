@@ -5,9 +5,9 @@ ghost use Rattle.spec_sorts.specs.Terms.{True, False, of};
 ghost use Rattle.term_core.specs.Tables.{declared_in, Extends, IsIn, term_at};
 
 use congruence::Truths;
+use no_memory::NoMemory;
 use std::alloc::Global;
 use term_core::{Head, Node, TermTable};
-use world_io::NoMemory;
 
 /// Finds the terms `true` and `false`, or puts them.
 pub(crate) fn truth_values(alloc: Global, table: &mut TermTable) -> Result<Truths, NoMemory>

@@ -9,7 +9,7 @@ use Rattle.spec_text.specs.Trees.{Tree, Trees, none, more}
 use Rattle.spec_reading.specs.Names.{names_bound, without, mentions, any_mentions, first_mentions, let_mentions, binding_mentions}
 use Rattle.smt_sexpr.specs.declared.items.Trees.{Trees as Cursor}
 use Rattle.smt_sexpr.specs.Items.{trees_meant, tree_meant}
-use Rattle.world_io.specs.declared.bytes.NoMemory.{NoMemory}
+use Rattle.no_memory.specs.declared.NoMemory.{NoMemory}
 use Rattle.sort_check.specs.declared.mentions.Left.{Left}
 use Rattle.sort_check.specs.declared.mentions.Left.TheVariants.{Terms, Values, Body, Back}
 use Rattle.sort_check.specs.Splitting.{first_binding, let_parts}

@@ -18,7 +18,7 @@ use Rattle.term_core.specs.declared.sorts.Sort.{Sort as TableSort}
 use Rattle.term_core.specs.Symbols.{HasSortIn, HaveSortsIn, sort_meant, sorts_meant}
 use Rattle.term_core.specs.Tables.{TableView, term_at, IsIn, AreIn}
 use Rattle.term_reader.proofs.NameStacks.{newest_push}
-use Rattle.world_io.specs.declared.bytes.NoMemory.{NoMemory}
+use Rattle.no_memory.specs.declared.NoMemory.{NoMemory}
 use Rattle.term_reader.specs.Building.{KeepsTable, MeansTerm, EndsBuilding}
 use Rattle.term_reader.proofs.Tables.{keeps_same, keeps_along}
 use Rattle.sort_check.specs.Bindings.{BindingsView, no_bindings, named_term, bound_at, paired}

@@ -6,7 +6,7 @@ use Rattle.spec_text.specs.Answers.{Answer}
 use Rattle.spec_sorts.specs.Terms.{Sort}
 use Rattle.spec_sorts.specs.Signatures.{Definition, Signature}
 use Rattle.spec_reading.specs.Reading.{Bound}
-use Rattle.world_io.specs.declared.bytes.NoMemory.{NoMemory}
+use Rattle.no_memory.specs.declared.NoMemory.{NoMemory}
 use Rattle.term_core.specs.declared.ids.TermId.{TermId}
 use Rattle.term_core.specs.declared.sorts.Sort.{Sort as TableSort}
 use Rattle.term_core.specs.Symbols.{HaveSortsIn, sorts_meant}

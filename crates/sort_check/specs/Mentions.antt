@@ -6,7 +6,7 @@ use Rattle.spec_sorts.specs.Forms.{Form, malformed, reserved, applies, binds, an
 use Rattle.spec_reading.specs.Names.{names_bound, without, mentions, any_mentions, first_mentions, let_mentions, binding_mentions}
 use Rattle.smt_sexpr.specs.Items.{trees_meant, tree_meant}
 use Rattle.term_core.specs.declared.ids.TermId.{TermId}
-use Rattle.world_io.specs.declared.bytes.NoMemory.{NoMemory}
+use Rattle.no_memory.specs.declared.NoMemory.{NoMemory}
 use Rattle.term_reader.specs.NameStacks.{newest}
 use Rattle.sort_check.specs.declared.mentions.Left.{Left}
 use Rattle.sort_check.specs.declared.mentions.Left.TheVariants.{Terms, Values, Body, Back}

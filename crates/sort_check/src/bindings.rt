@@ -6,11 +6,11 @@ ghost use Rattle.spec_sorts.specs.Theory.{look_up};
 ghost use Rattle.term_reader.specs.NameStacks.{newest};
 ghost use Rattle.sort_check.specs.Bindings.{no_bindings, no_id};
 
+use no_memory::NoMemory;
 use std::alloc::Global;
 use std::marker::Model;
 use term_core::TermId;
 use term_reader::NameStack;
-use world_io::NoMemory;
 
 /// Holds bound names with the terms that they stand for, oldest first. Of a name that is bound twice the newest counts.
 ///

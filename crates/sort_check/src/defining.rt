@@ -20,11 +20,11 @@ use crate::naming::is_function;
 use crate::reads::{FunctionParts, Room};
 use crate::sorted::{find_room, read_of_sort};
 use crate::splitting::first_binding;
+use no_memory::NoMemory;
 use smt_sexpr::Trees;
 use std::alloc::Global;
 use term_core::{Head, Sort, TermId, TermTable, TheoryHead};
 use term_reader::{Function, Macro, NameStack, ReadError, Scope, Setting, new_name, put, sort_in};
-use world_io::NoMemory;
 
 // Whether a name is a theory's, or one of these.
 fn is_listed(names: &NameStack, name: &[u8]) -> bool

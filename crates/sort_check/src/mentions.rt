@@ -13,10 +13,10 @@ ghost use Rattle.sort_check.specs.Mentions.{names_of, form_mentions, rest_of, wi
 
 use crate::bindings::Bindings;
 use crate::splitting::{first_binding, let_parts};
+use no_memory::NoMemory;
 use smt_sexpr::{Trees, View, is_symbol, look, split};
 use std::alloc::Global;
 use term_reader::{ListForm, NameStack, list_form};
-use world_io::NoMemory;
 
 /// Says what of a text is left to look at.
 #[derive(Clone, Copy, Debug)]

@@ -18,6 +18,7 @@ ghost use Rattle.sort_check.specs.Naming.{NamesMean, annotated_meant, EndsNaming
 
 use crate::bindings::Bindings;
 use crate::mentions::mentions;
+use no_memory::NoMemory;
 use smt_sexpr::{Trees, View, Word, look, split};
 use spec_text::Fault;
 use std::alloc::Global;
@@ -25,7 +26,6 @@ use term_core::{TermId, TermTable, TheoryHead};
 use term_reader::{
     Function, Macro, NextAttribute, ReadError, Scope, Setting, fault_at, new_name, next_after,
 };
-use world_io::NoMemory;
 
 /// Holds a term with attributes.
 #[derive(Clone, Copy, Debug)]

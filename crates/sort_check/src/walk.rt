@@ -24,12 +24,12 @@ use crate::bindings::Bindings;
 use crate::frames::{Frame, Opened, Walk, begin};
 use crate::naming::{Annotated, may_name, name_term};
 use crate::splitting::{first_binding, let_parts};
+use no_memory::NoMemory;
 use smt_sexpr::{Kind, Trees, View, look, split};
 use spec_text::Fault;
 use std::alloc::Global;
 use term_core::{TermId, TermTable, TheoryHead};
 use term_reader::{ListForm, ReadError, Scope, Setting, fault_at, list_form, new_name};
-use world_io::NoMemory;
 
 // A term more in the innermost row, and what is left of it.
 fn add_value<'a>(walk: &mut Walk<'a>, id: TermId, rest: Trees<'a>) -> Result<(), ReadError>

@@ -4,11 +4,11 @@ ghost use Rattle.std.specs.Prelude.{◌≤◌, length};
 
 use crate::plain_closure::PlainClosure;
 use congruence_closure::{Closure, Lit, Node, TermId, Truths};
+use no_memory::NoMemory;
 use std::alloc::Global;
 use std::marker::Model;
 use std::test::Fail;
 use term_core::{Head, SymbolId};
-use world_io::NoMemory;
 
 /// How many cases there are, how many terms in each, and how many calls.
 const CASES: u64 = 2_000;

@@ -1,9 +1,9 @@
 //! Tests of the order, over one text of rows.
 
+use no_memory::NoMemory;
 use std::alloc::Global;
 use std::test::Fail;
 use variable_order::{TermId, VariableOrder};
-use world_io::NoMemory;
 
 /// What is done to an order of no variables; then the variables that are taken from it until none is left.
 ///

@@ -1,9 +1,9 @@
 //! A closure that goes over all pairs of terms until nothing is joined any more.
 
 use congruence_closure::{Lit, Node, TermId, Truths};
+use no_memory::NoMemory;
 use std::alloc::Global;
 use term_core::Head;
-use world_io::NoMemory;
 
 /// Holds what a closure is about, and what it was about at each mark.
 #[derive(Drop)]

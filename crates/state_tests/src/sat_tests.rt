@@ -1,9 +1,9 @@
 //! Tests of the trail, over one text of rows.
 
+use no_memory::NoMemory;
 use sat_trail::{Lit, SatTrail, TermId};
 use std::alloc::Global;
 use std::test::Fail;
-use world_io::NoMemory;
 
 /// What is done to a trail of no variables; then its literals, their levels, their reasons, its level and how many literals are marked
 /// as propagated, with `|` between them.

@@ -1,9 +1,9 @@
 //! Tests of the index, over one text of rows.
 
+use no_memory::NoMemory;
 use std::alloc::Global;
 use std::test::Fail;
 use watch_index::{Lit, TermId, WatchIndex};
-use world_io::NoMemory;
 
 /// What is done to an index of no lists, and after `=` some literals with the numbers of their lists.
 ///

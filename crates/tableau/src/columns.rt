@@ -9,9 +9,9 @@ ghost use Rattle.tableau.specs.Kept.{column_at, HasGrown, IsNoted, AreNoted, Row
 use crate::entries::{Entry, Row};
 use crate::pivots::RowChange;
 use indexmap::IndexSet;
+use no_memory::NoMemory;
 use std::alloc::Global;
 use std::marker::Model;
-use world_io::NoMemory;
 
 /// Holds row numbers in the order in which they came, none twice.
 #[derive(Drop)]

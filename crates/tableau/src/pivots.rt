@@ -15,9 +15,9 @@ use crate::entries::{Entry, Row, coefficient};
 use crate::numbers::{is_zero, negative, one, product, quotient};
 use crate::stops::RowStop;
 use crate::sums::{merge, put_new, without};
+use no_memory::NoMemory;
 use ratio128::Ratio;
 use std::alloc::Global;
-use world_io::NoMemory;
 
 /// A row's equation divided by the coefficient of its entering variable, which is factor times the leaving variable
 /// minus the sum of the others.

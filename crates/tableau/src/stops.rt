@@ -1,8 +1,8 @@
 //! Why a row could not be made.
 
+use no_memory::NoMemory;
 use ratio128::Wide;
 use std::alloc::{AllocError, AllocFailed};
-use world_io::NoMemory;
 
 /// Says why rows could not be changed. They are as they were before the call.
 #[derive(Clone, Copy, PartialEq, Eq, Debug)]

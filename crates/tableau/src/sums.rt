@@ -13,9 +13,9 @@ ghost use Rattle.tableau.specs.Views.{OnRowOverflow};
 use crate::entries::Entry;
 use crate::numbers::{difference, is_zero, negative, product, sum};
 use crate::stops::RowStop;
+use no_memory::NoMemory;
 use ratio128::{Ratio, Wide};
 use std::alloc::Global;
-use world_io::NoMemory;
 
 // Gives a sum, or a difference.
 fn total(a: Ratio, b: Ratio, minus: bool) -> Result<Ratio, Wide>

@@ -17,10 +17,10 @@ use crate::entries::{Entry, Row, coefficient};
 use crate::flattening::flattened;
 use crate::pivots::{RowChange, changes_of, pivot_of, put_changes};
 use crate::stops::RowStop;
+use no_memory::NoMemory;
 use ratio128::Ratio;
 use std::alloc::Global;
 use std::marker::Model;
-use world_io::NoMemory;
 
 /// Holds rows of linear equations in solved form: each row gives a basic variable as a sum of nonbasic ones.
 ///

@@ -14,10 +14,10 @@ ghost use Rattle.term_clauses.specs.Choices.{AreComparable, equality_at, IsNoCho
 
 use crate::signs::signed;
 use crate::steps::state;
+use no_memory::NoMemory;
 use proof_log::{ProofLog, Rule, StepId};
 use std::alloc::Global;
 use term_core::{Head, Node, Sort, TermId, TermTable};
-use world_io::NoMemory;
 
 /// Names the parts of a choice between terms of another sort than Bool.
 ///

@@ -4,10 +4,10 @@ ghost use Rattle.std.specs.Prelude.{ℕ, ◌<◌, ◌≤◌, length, All, IfOk};
 ghost use Rattle.term_core.specs.Tables.{IsIn, AreIn};
 ghost use Rattle.term_clauses.specs.Marks.{MarksTerms, IsMarked, AreMarksOf, AreMarked};
 
+use no_memory::NoMemory;
 use spec_sorts::subterms::subterms_are_least;
 use std::alloc::Global;
 use term_core::{TermId, TermTable};
-use world_io::NoMemory;
 
 /// Marks the numbers of terms and of all their subterms, up to the greatest of them.
 ///

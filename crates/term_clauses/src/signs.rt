@@ -10,10 +10,10 @@ ghost use Rattle.rule_bool.specs.Schemes.{HasPlaces};
 ghost use Rattle.proof_log.specs.Logs.{IsFormulaIn};
 ghost use Rattle.term_clauses.specs.Stating.{ComesBefore, NamesTerm, NamesAll, Widens, IsSingle, single};
 
+use no_memory::NoMemory;
 use spec_proofs::{ArgumentLiteral, Rest};
 use std::alloc::Global;
 use term_core::{Head, Node, TermId, TermTable};
-use world_io::NoMemory;
 
 /// Puts the negation of a formula, or finds it.
 fn negation(alloc: Global, table: &mut TermTable, id: TermId) -> Result<TermId, NoMemory>

@@ -15,9 +15,9 @@ ghost use Rattle.term_clauses.specs.Choices.{AreComparable, equality_at, truth_t
 use crate::choices::{choice_of, equality};
 use crate::marks::marks_of;
 use crate::signs::signed;
+use no_memory::NoMemory;
 use std::alloc::Global;
 use term_core::{Head, Node, TermId, TermTable};
-use world_io::NoMemory;
 
 /// Lists formulas, the interface equalities first, and after them the equalities that a search needs: those of each choice
 /// between terms of another sort than Bool, among the formulas' subterms, with its two terms, and that the negation of

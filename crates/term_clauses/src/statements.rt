@@ -17,12 +17,12 @@ ghost use Rattle.term_clauses.specs.Stating.{JoinsFormulas, ComesBefore, listed_
 use crate::head_rules::rules_of;
 use crate::signs::{argument_count, innermost, signed, with_rest};
 use crate::steps::state;
+use no_memory::NoMemory;
 use proof_log::{ProofLog, Rule, StepId};
 use rule_bool::{are_formulas, scheme_of};
 use spec_proofs::{ArgumentLiteral, Rest};
 use std::alloc::Global;
 use term_core::{TermId, TermTable};
-use world_io::NoMemory;
 
 /// States the clauses that a term gives by its rules without premises; it has none where an argument is not of sort Bool.
 pub fn state_term(

@@ -8,11 +8,11 @@ ghost use Rattle.proof_log.specs.Logs.{AreFormulasIn, IsLogOf};
 ghost use Rattle.term_clauses.specs.Growth.{Grows};
 ghost use Rattle.term_clauses.specs.Stating.{listed_steps, Tells};
 
+use no_memory::NoMemory;
 use proof_log::{Clause, LogFault, Numbers, ProofLog, Rule, Step, StepId, StepIds};
 use spec_rules::laws::wide_steps_are_not_right;
 use std::alloc::Global;
 use term_core::{TermId, TermTable};
-use world_io::NoMemory;
 
 /// Logs a step that is right without premises, and puts its number after the others.
 pub fn state(

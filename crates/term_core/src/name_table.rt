@@ -5,9 +5,9 @@ ghost use Rattle.spec_text.specs.Bytes.{among};
 ghost use Rattle.term_core.specs.NameLists.{HaveNoTwice};
 
 use indexmap::IndexSet;
+use no_memory::NoMemory;
 use std::alloc::Global;
 use std::marker::Model;
-use world_io::NoMemory;
 
 /// Holds names in the order in which they came, no two the same.
 ///

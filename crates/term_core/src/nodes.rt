@@ -4,10 +4,10 @@ ghost use Rattle.std.specs.Prelude.{◌≡◌, IfOk};
 
 use crate::ids::{SymbolId, TermId};
 use crate::sorts::Sort;
+use no_memory::NoMemory;
 use ratio128::Ratio;
 use smallvec::SmallVec;
 use std::alloc::Global;
-use world_io::NoMemory;
 
 /// Stands before the arguments of a term.
 ///

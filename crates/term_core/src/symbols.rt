@@ -7,9 +7,9 @@ ghost use Rattle.term_core.specs.Symbols.{sort_name, IsSort, HasSortIn, HaveSort
 use crate::ids::{SortId, SymbolId};
 use crate::name_table::NameTable;
 use crate::sorts::{Rank, Sort};
+use no_memory::NoMemory;
 use std::alloc::Global;
 use std::marker::Model;
-use world_io::NoMemory;
 
 /// Holds the declared sorts and the declared symbols in the order in which they came. No name stands twice among the sorts,
 /// and none among the symbols.

@@ -18,9 +18,9 @@ use crate::sorts::Sort;
 use crate::symbols::Symbols;
 use crate::taking::{has_head, takes_arguments};
 use indexmap::IndexSet;
+use no_memory::NoMemory;
 use std::alloc::Global;
 use std::marker::Model;
-use world_io::NoMemory;
 
 /// Holds the terms that were put, each once and after its arguments, and the sorts and symbols of which they are made.
 ///

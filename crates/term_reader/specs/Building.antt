@@ -2,7 +2,7 @@
 use Rattle.std.specs.Prelude.{◌≡◌, List, All, Result, Ok, Err}
 use Rattle.spec_sorts.specs.Terms.{Sort, Truth, Number, Head, Xor, Implies, Equal, Minus, Divide, Less, AtMost, Term, pair, sort_of}
 use Rattle.spec_sorts.specs.Theory.{unequal, turned}
-use Rattle.world_io.specs.declared.bytes.NoMemory.{NoMemory}
+use Rattle.no_memory.specs.declared.NoMemory.{NoMemory}
 use Rattle.term_core.specs.declared.ids.TermId.{TermId}
 use Rattle.term_core.specs.Tables.{TableView, declared_in, term_at, IsIn, Extends}
 use Rattle.term_reader.specs.declared.building.Binary.{Binary}

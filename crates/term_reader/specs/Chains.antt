@@ -2,7 +2,7 @@
 use Rattle.std.specs.Prelude.{◌≡◌, List, map, All, Vec, Result, Ok, Err}
 use Rattle.std.specs.declared.alloc.Global.{Global}
 use Rattle.spec_sorts.specs.Terms.{Sort, Truth, Number, Term}
-use Rattle.world_io.specs.declared.bytes.NoMemory.{NoMemory}
+use Rattle.no_memory.specs.declared.NoMemory.{NoMemory}
 use Rattle.term_core.specs.declared.ids.TermId.{TermId}
 use Rattle.term_core.specs.Tables.{TableView, term_at, AreIn, clause_at}
 use Rattle.term_reader.specs.declared.building.Binary.{Binary}

@@ -7,9 +7,9 @@ ghost use Rattle.term_core.specs.Tables.{head_meant, term_at, clause_at, ShapeFi
 ghost use Rattle.term_reader.specs.Building.{Builds, IsOf, AreOfSort, TakesBoth, HasPair, binary_head, link_term};
 ghost use Rattle.term_reader.specs.declared.building.Binary.TheVariants.{Equal as equals};
 
+use no_memory::NoMemory;
 use std::alloc::Global;
 use term_core::{Head, Node, TermId, TermTable};
-use world_io::NoMemory;
 
 /// Takes two terms of one sort. Source: SMT-LIB 2.6, theories Core and Reals.
 #[derive(Clone, Copy, Debug, PartialEq, Eq)]

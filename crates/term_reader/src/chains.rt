@@ -9,9 +9,9 @@ ghost use Rattle.term_reader.specs.Building.{Builds, binary_head};
 ghost use Rattle.term_reader.specs.Chains.{AreLinked, linked_terms, PutsAll, Folds};
 
 use crate::building::{Binary, Link, conjoin, put_link, put_pair};
+use no_memory::NoMemory;
 use std::alloc::Global;
 use term_core::{TermId, TermTable};
-use world_io::NoMemory;
 
 /// Pairs each with the next.
 pub fn neighbour_pairs(alloc: Global, ids: &[TermId]) -> Result<Vec<(TermId, TermId)>, NoMemory>

@@ -15,10 +15,10 @@ use crate::building::{Binary, Link, put};
 use crate::chains::{neighbour_pairs, pairs_of_all, put_chain, put_left, put_right};
 use crate::comparing::{all_have, are_alike};
 use crate::faults::{ReadError, fault_at};
+use no_memory::NoMemory;
 use spec_text::Fault;
 use std::alloc::Global;
 use term_core::{Head, Sort, TermId, TermTable, TheoryHead};
-use world_io::NoMemory;
 
 /// How many arguments of `distinct` have at most 2^26 pairs.
 const MOST_DISTINCT: usize = 11_585;

@@ -4,10 +4,10 @@ ghost use Rattle.std.specs.Prelude.{◌≡◌, false, ◌<◌, [], ◌∷◌, �
 ghost use Rattle.spec_text.specs.Bytes.{among};
 ghost use Rattle.term_reader.specs.NameStacks.{IsLatest, MeetsName};
 
+use no_memory::NoMemory;
 use std::alloc::Global;
 use std::marker::Model;
 use term_core::NameTable;
-use world_io::NoMemory;
 
 /// Holds one name of a stack: its number among all names that were met, and where it stood last before.
 #[derive(Clone, Copy, Debug, PartialEq, Eq)]

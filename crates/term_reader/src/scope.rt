@@ -4,10 +4,10 @@ ghost use Rattle.std.specs.Prelude.{◌≡◌, ◌+◌, ◌++◌, [], ◌∷◌,
 ghost use Rattle.term_reader.specs.Scopes.{no_names, sort_under, function_under};
 
 use crate::name_stack::NameStack;
+use no_memory::NoMemory;
 use std::alloc::Global;
 use std::marker::Model;
 use term_core::{Sort, SymbolId, TermId};
-use world_io::NoMemory;
 
 /// Holds a definition of a function: what it takes and gives, and the term that it stands for.
 ///

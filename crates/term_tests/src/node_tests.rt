@@ -4,11 +4,11 @@
 //! constant, `d` where it may stand as a divisor, `z` where it is zero as a divisor.
 
 use crate::rows::terms_of;
+use no_memory::NoMemory;
 use ratio128::Ratio;
 use std::alloc::Global;
 use std::test::Fail;
 use term_core::{Head, Node, Sort, TermId, TermTable, TheoryHead};
-use world_io::NoMemory;
 
 /// Names, the sorts of their arguments, and their own.
 const SYMBOLS: &str = "p\t\tBool

@@ -1,9 +1,9 @@
 //! Tables of terms by rows: each has a head, and after a tab the numbers of its arguments. It gets the next number.
 
+use no_memory::NoMemory;
 use ratio128::Ratio;
 use std::alloc::Global;
 use term_core::{Head, Node, TermId, TermTable};
-use world_io::NoMemory;
 
 /// Reads the numbers of terms with a space between them; the empty text has none.
 pub(crate) fn terms_of(alloc: Global, words: &str) -> Result<Vec<TermId>, NoMemory> {

@@ -1,12 +1,12 @@
 //! Values of terms over constants, by their definitions, and numbers of different subterms.
 
 use crate::rows::{table_of, terms_of};
+use no_memory::NoMemory;
 use ratio128::Ratio;
 use std::alloc::Global;
 use std::test::Fail;
 use term_core::{TermId, TermTable};
 use term_walks::{Interp, Value, ValueStop, fit_in, value};
-use world_io::NoMemory;
 
 /// Terms, each with the numbers of its arguments and its value.
 const TERMS: &str = "true\t\ttrue

@@ -6,10 +6,10 @@ ghost use Rattle.term_core.specs.Tables.{AreIn, clause_at};
 ghost use Rattle.term_walks.specs.Counting.{AddsOnce};
 
 use indexmap::IndexSet;
+use no_memory::NoMemory;
 use spec_sorts::subterms::{subterms_are_counted, subterms_are_least};
 use std::alloc::Global;
 use term_core::{TermId, TermTable};
-use world_io::NoMemory;
 
 /// Tells whether terms have no more than `room` different subterms, all together.
 ///

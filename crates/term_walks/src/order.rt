@@ -4,10 +4,10 @@ ghost use Rattle.std.specs.Prelude.{◌≡◌, ◌<◌, ℕ, List, length, get_o
 ghost use Rattle.term_core.specs.Tables.{IsIn};
 ghost use Rattle.term_walks.specs.Orders.{numbers_of, In, Ascends, AddsNumbers, NamesArguments, IsOrder, StandsBefore};
 
+use no_memory::NoMemory;
 use std::alloc::Global;
 use std::collections::BTreeSet;
 use term_core::{TermId, TermTable};
-use world_io::NoMemory;
 
 /// Lists a term and all its subterms, each once, arguments before their users.
 pub fn order_of(alloc: Global, table: &TermTable, root: TermId) -> Result<Vec<u64>, NoMemory>

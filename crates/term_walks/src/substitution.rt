@@ -8,9 +8,9 @@ ghost use Rattle.term_walks.specs.FilledTerms.{IsFilled, AreFilled, refilled, Is
 ghost use Rattle.term_walks.specs.Orders.{Ascends, IsOrder, StandsBefore, HasArgumentsBefore};
 
 use crate::order::{order_of, place_among};
+use no_memory::NoMemory;
 use std::alloc::Global;
 use term_core::{Head, Node, TermId, TermTable};
-use world_io::NoMemory;
 
 /// Puts a term with arguments for its parameters, each by the parameter's number, and says its number.
 ///

@@ -13,10 +13,10 @@ ghost use Rattle.term_walks.specs.KnownValues.{known_meant, taken_meant, IsKnown
 use crate::heads::head_value;
 use crate::order::{order_of, place_among};
 use crate::values::{Interp, Value, ValueStop};
+use no_memory::NoMemory;
 use ratio128::Wide;
 use std::alloc::Global;
 use term_core::{Head, TermId, TermTable};
-use world_io::NoMemory;
 
 /// Says what is known of a term: its value, or its first operation that leaves the bound on fractions.
 #[derive(Clone, Copy)]

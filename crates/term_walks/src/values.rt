@@ -8,10 +8,10 @@ ghost use Rattle.term_core.specs.NameLists.{HaveNoTwice};
 ghost use Rattle.term_walks.specs.Valuations.{value_meant, values_meant, table_meant, IsNamed, AreNamed, AreRowsNamed};
 
 use crate::numbers::zero;
+use no_memory::NoMemory;
 use ratio128::{Ratio, Wide};
 use std::alloc::{AllocError, AllocFailed};
 use term_core::SortId;
-use world_io::NoMemory;
 
 /// Is what a term means.
 ///

@@ -5,12 +5,13 @@ ghost use Rattle.world_io.specs.Ends.{IsReadTo};
 ghost use Rattle.world_io.specs.Memory.{text_named};
 
 use crate::rows::{bytes_of, number, numbers};
+use no_memory::NoMemory;
 use std::alloc::Global;
 use std::fs;
 use std::test::Fail;
 use world_io::{
-    BufferedSink, Bytes, Failed, HostShelf, HostSink, MemShelf, MemSink, NoMemory, ReadEnd,
-    ReadStop, Shelf, Sink, read_all, write_all, write_pieces,
+    BufferedSink, Bytes, Failed, HostShelf, HostSink, MemShelf, MemSink, ReadEnd, ReadStop, Shelf,
+    Sink, read_all, write_all, write_pieces,
 };
 
 const FOLDER: &str = "made-by-reading-tests";

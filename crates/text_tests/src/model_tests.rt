@@ -1,12 +1,13 @@
 //! The texts of names and values, and where a sink takes no more of them.
 
 use model_text::{name, value};
+use no_memory::NoMemory;
 use ratio128::Ratio;
 use std::alloc::Global;
 use std::test::Fail;
 use term_core::SortId;
 use term_walks::Value;
-use world_io::{Failed, MemSink, NoMemory};
+use world_io::{Failed, MemSink};
 
 /// Values, each with the name of its sort if it is an element, and how it is written. A name is after `name`.
 const ROWS: &str = "true\t\ttrue

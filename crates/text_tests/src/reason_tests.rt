@@ -1,10 +1,11 @@
 //! The lines of reasons, and where a sink takes no more of them.
 
+use no_memory::NoMemory;
 use ratio128::{Op, Ratio, Wide};
 use reply_text::{overflow, pivots_spent, spent};
 use std::alloc::Global;
 use std::test::Fail;
-use world_io::{Failed, MemSink, NoMemory};
+use world_io::{Failed, MemSink};
 
 /// What a reason is for: conflicts or pivots with their number, or an operation on two fractions; and its line.
 const ROWS: &str = "conflicts 0 -\t(conflicts 0)

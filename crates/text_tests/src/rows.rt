@@ -1,7 +1,7 @@
 //! Rows of the tests, as text: a row a line, with a tab between its parts.
 
+use no_memory::NoMemory;
 use std::alloc::Global;
-use world_io::NoMemory;
 
 /// Gives the bytes that a part of a row means. Between backquotes stands the number of a byte, or a number, a space and what is
 /// repeated so often.

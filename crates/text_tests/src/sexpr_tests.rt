@@ -1,6 +1,7 @@
 //! Texts with the s-expressions that are in them, and what is printed of them.
 
 use crate::rows::{are, bytes_of, number};
+use no_memory::NoMemory;
 use smt_lexer::place_at;
 use smt_sexpr::{
     Item, Kind, LimitedText, NextSexpr, Place, Refused, Sexpr, Trees, is_keyword, is_reserved,
@@ -9,7 +10,7 @@ use smt_sexpr::{
 };
 use std::alloc::Global;
 use std::test::Fail;
-use world_io::{MemSink, NoMemory};
+use world_io::MemSink;
 
 /// A text, the offset to read from, how many lists are open, and what is there: an s-expression as it is printed, with the
 /// offset, line and column of its first byte and the offset after it; the end of the innermost open list with the offset after it;

@@ -6,10 +6,10 @@ ghost use Rattle.variable_order.specs.Orders.{IsEmpty, IsRemoved};
 use crate::places::Places;
 use crate::score::{Score, scale};
 use crate::sift::{sift_down, sift_up};
+use no_memory::NoMemory;
 use std::alloc::Global;
 use std::marker::Model;
 use term_core::TermId;
-use world_io::NoMemory;
 
 /// What the first bumps add.
 const FIRST_STEP: u64 = 1 << 10;

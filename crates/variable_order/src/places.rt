@@ -4,10 +4,10 @@ ghost use Rattle.std.specs.Prelude.{◌≡◌, ◌<◌, ◌++◌, ◌∷◌, [],
 ghost use Rattle.variable_order.specs.Orders.{IsEmpty, IsRemoved};
 ghost use Rattle.variable_order.specs.Rows.{nowhere, IsAt};
 
+use no_memory::NoMemory;
 use std::alloc::Global;
 use std::marker::Model;
 use term_core::TermId;
-use world_io::NoMemory;
 
 /// Holds variables in a row, each at most once, and knows the place of each.
 ///

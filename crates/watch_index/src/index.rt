@@ -4,10 +4,10 @@ ghost use Rattle.std.specs.Prelude.{◌≡◌, ◌<◌, [], OnOk, OnErr, MatchOp
 ghost use Rattle.watch_index.specs.Indexes.{code, list_of, numbers_below, IsAppended, IsTakenOut, IsMoved, IsMovedOf};
 
 use crate::lists::{code_of, drop_all_from, place_of, put_at, take_out};
+use no_memory::NoMemory;
 use std::alloc::Global;
 use std::marker::Model;
 use term_core::Lit;
-use world_io::NoMemory;
 
 /// What the term of a literal must be below, to have a list.
 const MOST: u64 = 1 << 62;

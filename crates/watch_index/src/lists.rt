@@ -4,9 +4,9 @@ ghost use Rattle.std.specs.Prelude.{◌≡◌, ◌+◌, ◌*◌, ◌<◌, ◌≤
 ghost use Rattle.clause_literals.specs.Literals.{lists};
 ghost use Rattle.watch_index.specs.Indexes.{code, numbers_below, HasGrown, IsAppended, IsTakenOut};
 
+use no_memory::NoMemory;
 use std::alloc::Global;
 use term_core::Lit;
-use world_io::NoMemory;
 
 /// Gives the place of a literal among the lists.
 pub(crate) fn code_of(lit: Lit) -> usize

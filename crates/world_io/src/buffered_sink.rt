@@ -4,7 +4,8 @@ ghost use Rattle.std.specs.Prelude.{◌≡◌, ◌<◌, ◌≤◌, [], IfOk, OnO
 
 use crate::memory::append_reserved;
 use crate::sink::write_prefix;
-use crate::{Failed, NoMemory, Sink};
+use crate::{Failed, Sink};
+use no_memory::NoMemory;
 use std::alloc::Global;
 
 /// How many bytes wait at most.

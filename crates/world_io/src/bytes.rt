@@ -1,29 +1,8 @@
-//! A list of bytes, and the answer out of memory.
+//! A list of bytes.
 
 ghost use Rattle.std.specs.Prelude.{◌≡◌, length};
 
-use std::alloc::{AllocError, AllocFailed};
 use std::marker::Model;
-use thiserror::Error;
-
-/// Says that an allocation was refused.
-///
-/// It may come at any allocation, and what was to be changed means what it meant before, unless the call says otherwise.
-#[derive(Clone, Copy, Debug, PartialEq, Eq, Error)]
-#[error("out of memory")]
-pub struct NoMemory;
-
-impl From<AllocError> for NoMemory {
-    fn from(_error: AllocError) -> NoMemory {
-        NoMemory
-    }
-}
-
-impl<T: Drop> From<AllocFailed<T>> for NoMemory {
-    fn from(_error: AllocFailed<T>) -> NoMemory {
-        NoMemory
-    }
-}
 
 /// Owns a list of bytes, which contracts see as the list.
 #[derive(Drop)]

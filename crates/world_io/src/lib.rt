@@ -14,7 +14,7 @@ mod shelf;
 mod sink;
 
 pub use buffered_sink::BufferedSink;
-pub use bytes::{Bytes, NoMemory};
+pub use bytes::Bytes;
 pub use fault::Failed;
 pub use host::{HostShelf, HostSink};
 pub use memory::{MemShelf, MemSink};

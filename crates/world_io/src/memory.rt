@@ -4,7 +4,8 @@ ghost use Rattle.std.specs.Prelude.{◌≡◌, ◌+◌, ◌-◌, ◌≤◌, ◌<
 ghost use Rattle.world_io.specs.Memory.{text_of, text_named, text_at, ShelfState, SinkState, next_number, seen_sink, BeginsText, ReadsShelf, Writes};
 
 use crate::fault::{counted, one_more};
-use crate::{Bytes, Failed, NoMemory, Shelf, Sink};
+use crate::{Bytes, Failed, Shelf, Sink};
+use no_memory::NoMemory;
 use std::alloc::Global;
 use std::marker::Model;
 
