@@ -1,4 +1,5 @@
--- When two theories agree on shared terms. Source: Nelson and Oppen, Simplification by Cooperating Decision Procedures, TOPLAS 1979.
+-- When two theories agree on shared terms. Source: Nelson and Oppen, Simplification by Cooperating Decision Procedures,
+-- TOPLAS 1979.
 use Rattle.std.specs.Prelude.{◌≡◌, ◌≢◌, ◌↔◌, ◌⊎◌, ◌<◌, ◌++◌, ℕ, List, [], length, All, Contains}
 use Rattle.std.specs.List.{AllAdjacentBelow}
 use Rattle.term_core.specs.declared.ids.TermId.{TermId}

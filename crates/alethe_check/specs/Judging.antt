@@ -1,5 +1,6 @@
 -- What judging the commands of a proof comes to, one after the other and all of them.
-use Rattle.std.specs.Prelude.{◌≡◌, ◌⊎◌, ℕ, Bool, true, false, List, [], ◌∷◌, length, Option, Some, None, Result, Ok, Err, ◌==◌, if◌then◌else◌}
+use Rattle.std.specs.Prelude.{◌≡◌, ◌⊎◌, ℕ, Bool, true, false, List, [], ◌∷◌, length, Option, Some, None, Result, Ok}
+use Rattle.std.specs.Prelude.{Err, ◌==◌, if◌then◌else◌}
 use Rattle.spec_text.specs.Readings.{is_long}
 use Rattle.spec_text.specs.Trees.{Trees}
 use Rattle.spec_commands.specs.Checks.{term_limit}
@@ -76,7 +77,8 @@ pub record AreWrong (r : Reader) (k : Known) (f : Fault) : Type 0 where
   -- they were to come
   pub read : AreRemaining r commands ending
   -- their first fault
-  pub fault : (end : ℕ) → FirstFault (Some term_limit) k end (ending_fault (is_long (text_of r)) ending) commands (Some f)
+  pub fault : (end : ℕ) → FirstFault (Some term_limit) k end (ending_fault (is_long (text_of r)) ending) commands
+      (Some f)
 
 -- the commands that were to come are right, or one of them or their ending has the first fault
 abbrev pub JudgesCommands : Reader → Known → Result (Unit {0}) CommandError → ProofState → Type 0

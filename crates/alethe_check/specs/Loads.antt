@@ -19,7 +19,8 @@ pub record IsLoaded (text : List ℕ) (k : ℕ) (x : OverTable) : Type 0 where
   -- the code's stack stands for it
   pub stands : IsStack term_limit x stack
 
--- whether there is a k-th check, at which a stack of the code has what is current; of memory that ran out nothing is said
+-- whether there is a k-th check, at which a stack of the code has what is current; of memory that ran out nothing is
+-- said
 abbrev pub Reaches : List ℕ → ℕ → Result Bool NoMemory → OverTable → Type 0
 Reaches text k (Ok true) x = IsLoaded text k x
 Reaches text k (Ok false) x = HasNoCheck term_limit text k

@@ -15,7 +15,8 @@ fault_view f = fault_at f.place.offset f.kind
 -- the verdict on a proof of the k-th check of a script, with the place of a fault in the proof; out of memory is free
 abbrev pub AnswersVerdict : List ℕ → ℕ → List ℕ → Result (Unit {0}) ProofStop → Type 0
 AnswersVerdict script k proof (Ok u) = IsVerdict script k proof None
-AnswersVerdict script k proof (Err (stops.Fault f)) = IsVerdict script k proof (Some (fault_view f)) × IsPlaceOf proof f.place
+AnswersVerdict script k proof (Err (stops.Fault f)) = IsVerdict script k proof (Some (fault_view f))
+    × IsPlaceOf proof f.place
 AnswersVerdict script k proof (Err stops.Memory) = Unit {0}
 
 -- the fault is of this kind, and is at this offset of the proof

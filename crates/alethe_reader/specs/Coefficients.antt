@@ -33,7 +33,8 @@ with_word w ts = more (atom w.at w.kind w.bytes) ts
 abbrev pub opened_number : OpenedNumber → Coefficient
 opened_number (openings.Number c) = coefficient_meant c
 opened_number (openings.Opposite t) = opposite_coefficient (coefficient_of (tree_meant t))
-opened_number (openings.Quotient t d) = quotient_coefficient (coefficient_of (tree_meant t)) (coefficient_of (tree_meant d))
+opened_number (openings.Quotient t d) =
+    quotient_coefficient (coefficient_of (tree_meant t)) (coefficient_of (tree_meant d))
 
 -- and in how many steps what is left of it is read
 abbrev pub opened_steps : OpenedNumber → ℕ
@@ -74,7 +75,8 @@ steps_here (places.Text t) = steps (tree_meant t)
 steps_here (places.Read c) = 0
 
 -- A step from a place to the next one.
-pub record Resumes (before : List Pending) (here : Coefficient) (count : ℕ) (after : List Pending) (next : Here) : Type 0 where
+pub record Resumes (before : List Pending) (here : Coefficient) (count : ℕ) (after : List Pending)
+    (next : Here) : Type 0 where
   -- the whole stays the same
   pub same : resumed after (number_here next) ≡ resumed before here
   -- and fewer steps are left

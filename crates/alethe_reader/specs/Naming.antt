@@ -22,7 +22,8 @@ abbrev pub open_left : List Cursor → ℕ
 open_left [] = 0
 open_left (c ∷ cs) = 1 + sizes (trees_meant c) + open_left cs
 
--- what an error of reading texts is in a proof, where words are the names that are given to terms in them; memory may run out besides
+-- what an error of reading texts is in a proof, where words are the names that are given to terms in them; memory may
+-- run out besides
 abbrev pub IsErrorAmong : List Word → ReadError → CommandError → Type 0
 IsErrorAmong words (reading.Fault f) (errors.Fault g) = located_view g ≡ fault_among words (located_of f)
 IsErrorAmong words reading.Memory (errors.Fault g) = ⊥

@@ -23,7 +23,14 @@ located_view f = fault_at f.offset f.kind
 
 -- a step in the words of the definitions
 abbrev pub step_view : ProofState → code_step.ProofStep → Step
-step_view h s = record { at = s.at; name = s.name.now; clause = clause_at h.table s.clause.items; rule = s.rule; premises = clauses_numbered h s.premises.items; arguments = given_view s.arguments }
+step_view h s = record {
+  at = s.at;
+  name = s.name.now;
+  clause = clause_at h.table s.clause.items;
+  rule = s.rule;
+  premises = clauses_numbered h s.premises.items;
+  arguments = given_view s.arguments;
+}
 
 -- what a command states, in the words of the definitions
 abbrev pub statement_view : ProofState → ReadCommand → Statement

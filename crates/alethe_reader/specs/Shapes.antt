@@ -15,7 +15,12 @@ use Rattle.alethe_reader.specs.declared.shapes.StepParts as code_steps
 
 -- the keywords up to here
 abbrev pub keywords_view : code_keywords.Keywords → Keywords
-keywords_view p = record { rule = option_map word_view p.rule; premises = option_map trees_meant p.premises; arguments = option_map trees_meant p.arguments; discharged = option_map trees_meant p.discharged }
+keywords_view p = record {
+  rule = option_map word_view p.rule;
+  premises = option_map trees_meant p.premises;
+  arguments = option_map trees_meant p.arguments;
+  discharged = option_map trees_meant p.discharged;
+}
 
 -- trees, where they are given
 abbrev pub given_view : Option Cursor → Trees
@@ -23,7 +28,13 @@ given_view given = or_none (option_map trees_meant given)
 
 -- a step's parts
 abbrev pub step_parts : code_steps.StepParts → StepParts
-step_parts p = record { name = word_view p.name; literals = trees_meant p.literals; rule = word_view p.rule; premises = given_view p.premises; arguments = given_view p.arguments }
+step_parts p = record {
+  name = word_view p.name;
+  literals = trees_meant p.literals;
+  rule = word_view p.rule;
+  premises = given_view p.premises;
+  arguments = given_view p.arguments;
+}
 
 -- a command by its shape
 abbrev pub shape_view : CodeShape → Shape

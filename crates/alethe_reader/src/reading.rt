@@ -1,6 +1,6 @@
 //! The command of a proof that a tree is.
 
-ghost use Rattle.std.specs.Prelude.{◌≡◌, Some};
+ghost use Rattle.std.specs.Prelude.{Some};
 ghost use Rattle.spec_commands.specs.Checks.{term_limit};
 ghost use Rattle.spec_proofs.specs.RuleNames.{rule_named};
 ghost use Rattle.spec_checking.specs.Commands.{Known, assumes, steps, defines};
@@ -103,7 +103,8 @@ fn assume<'a>(
 ) -> Result<ReadCommand<'a>, CommandError>
     requires { HasKnown state.old }
     ensures { (k : Known) → IsKnown state.old k
-        → ReadsProofCommand k (read_shape (Some term_limit) k at (assumes (word_view word.entry) (tree_meant term.entry)))
+        → ReadsProofCommand k (read_shape (Some term_limit) k at
+        (assumes (word_view word.entry) (tree_meant term.entry)))
         result state.new }
 {
     let name = fresh_name(state, word)?;

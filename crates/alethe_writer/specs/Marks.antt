@@ -33,16 +33,19 @@ pub data Reaches (Root : ℕ → Type 0) (Next : ℕ → ℕ → Type 0) : ℕ �
 
 -- the second number is that of an argument of the first one's term
 abbrev pub IsArgument : TableView → ℕ → ℕ → Type 0
-IsArgument t j k = (k < length t.terms) × Contains (arguments_of (slice_index_or t.terms j no_term)) (slice_index_or t.terms k no_term)
+IsArgument t j k = (k < length t.terms)
+    × Contains (arguments_of (slice_index_or t.terms j no_term)) (slice_index_or t.terms k no_term)
 
 -- The marks are of the terms of marked clauses.
 pub record AreOfClauses (t : TableView) (log : List Logged) (rests : List Bool) (marks : List Bool) : Type 0 where
   -- there is one for each term
   pub as_many : length marks ≡ length t.terms
   -- each term of a marked clause is marked
-  pub each : (m : ℕ) (id : TermId) → IsNumberMarked rests m → Contains (named (slice_index_or log m no_logged)) id → IsNumberMarked marks id.0
+  pub each : (m : ℕ) (id : TermId) → IsNumberMarked rests m → Contains (named (slice_index_or log m no_logged)) id
+      → IsNumberMarked marks id.0
   -- and nothing else
-  pub only : (k : ℕ) → IsNumberMarked marks k → (m : ℕ) × (id : TermId) × IsNumberMarked rests m × Contains (named (slice_index_or log m no_logged)) id × (id.0 ≡ k)
+  pub only : (k : ℕ) → IsNumberMarked marks k → (m : ℕ) × (id : TermId) × IsNumberMarked rests m
+      × Contains (named (slice_index_or log m no_logged)) id × (id.0 ≡ k)
 
 -- The marks are those of the marked terms and of all their subterms.
 pub record Closes (t : TableView) (old new : List Bool) : Type 0 where
@@ -55,4 +58,5 @@ pub record Closes (t : TableView) (old new : List Bool) : Type 0 where
 
 -- of each clause on whose antecedents the first marks are, the others are on the terms that are printed
 abbrev pub ArePrintedFor : TableView → List Logged → List Bool → List Bool → Type 0
-ArePrintedFor t log rests marks = (n : ℕ) → AreRests (derivation_in t log) n rests → ArePrinted t.terms (derivation_in t log) n marks
+ArePrintedFor t log rests marks = (n : ℕ) → AreRests (derivation_in t log) n rests
+    → ArePrinted t.terms (derivation_in t log) n marks

@@ -4,8 +4,10 @@ use Rattle.spec_text.specs.Printed.{printed, printed_symbol}
 use Rattle.spec_numbers.specs.Fractions.{Fraction}
 use Rattle.spec_sorts.specs.Terms.{Term}
 use Rattle.spec_sorts.specs.HeadNames.{head_name}
-use Rattle.spec_proof_texts.specs.Lines.{Argument, argument_tree, Reference, assumed, stepped, reference_name, assumes, steps, line_text}
-use Rattle.spec_proof_texts.specs.Plans.{Plan, number_or_zero, argument_for, reference_for, definition_by, definition_lines, inference_by, inference_lines}
+use Rattle.spec_proof_texts.specs.Lines.{Argument, argument_tree, Reference, assumed, stepped, reference_name, assumes}
+use Rattle.spec_proof_texts.specs.Lines.{steps, line_text}
+use Rattle.spec_proof_texts.specs.Plans.{Plan, number_or_zero, argument_for, reference_for, definition_by}
+use Rattle.spec_proof_texts.specs.Plans.{definition_lines, inference_by, inference_lines}
 use Rattle.spec_models.specs.Values.{fraction_tree}
 use Rattle.rule_bool.specs.Arguments.{texts_of}
 use Rattle.term_core.specs.declared.ids.TermId.{TermId}
@@ -109,11 +111,19 @@ assume_text t plan id number = line_text (assumes number (name_by t plan (term_a
 -- the line of a step by its number
 abbrev pub step_text : TableView → List Logged → Plan → Step → ℕ → List ℕ
 step_text t log plan step number =
-    line_text (steps (record { number = number; literals = map (name_by t plan) (clause_at t step.clause); rule = step.rule; premises = map (logged_reference log plan.inferences) step.premises; arguments = texts_of step.arguments }))
+    line_text (steps (record {
+      number = number;
+      literals = map (name_by t plan) (clause_at t step.clause);
+      rule = step.rule;
+      premises = map (logged_reference log plan.inferences) step.premises;
+      arguments =
+          texts_of step.arguments;
+    }))
 
 -- the line of a clause of a log, where it has a number
 abbrev pub clause_text : TableView → List Logged → Plan → StepId → Option ℕ → List ℕ
-clause_text t log plan id number = flat_map line_text (inference_by (name_by t plan) (refer_by t log plan) number (inference_of t (logged_at log id)))
+clause_text t log plan id number =
+    flat_map line_text (inference_by (name_by t plan) (refer_by t log plan) number (inference_of t (logged_at log id)))
 
 -- all definitions
 abbrev pub definitions_text : TableView → Plan → List ℕ
@@ -121,4 +131,5 @@ definitions_text t plan = flat_map line_text (definition_lines (name_by t plan) 
 
 -- all lines of clauses
 abbrev pub clauses_text : TableView → List Logged → Plan → List ℕ
-clauses_text t log plan = flat_map line_text (inference_lines (name_by t plan) (refer_by t log plan) (derivation_in t log) plan.inferences)
+clauses_text t log plan = flat_map line_text (inference_lines (name_by t plan) (refer_by t log plan)
+    (derivation_in t log) plan.inferences)

@@ -1,4 +1,5 @@
--- The definitions that contracts cite: what a stack of the code holds, the stack of the definitions that it stands for in a table, and what commands make of it.
+-- The definitions that contracts cite: what a stack of the code holds, the stack of the definitions that it stands for
+-- in a table, and what commands make of it.
 pub mod Views
 pub mod Assertions
 pub mod Printing

@@ -4,7 +4,8 @@ use Rattle.spec_text.specs.Places.{IsPlaceOf}
 use Rattle.spec_text.specs.Answers.{Answer}
 use Rattle.spec_text.specs.Bytes.{Name, among}
 use Rattle.spec_sorts.specs.Signatures.{symbols_in, sort_as}
-use Rattle.spec_commands.specs.Stack.{Options, Stack, Effect, done, unsupported, check, say, leave, Taken, signature_of, assertions_of, terms_asserted}
+use Rattle.spec_commands.specs.Stack.{Options, Stack, Effect, done, unsupported, check, say, leave, Taken, signature_of}
+use Rattle.spec_commands.specs.Stack.{assertions_of, terms_asserted}
 use Rattle.smt_lexer.specs.declared.Refused.{Refused}
 use Rattle.smt_lexer.specs.declared.Refused.TheVariants as refusals
 use Rattle.smt_sexpr.specs.declared.sexpr.Sexpr.{Sexpr}
@@ -24,7 +25,12 @@ use Rattle.assertion_stack.specs.Views.{Fails}
 
 -- the options in the words of the definitions
 abbrev pub options_meant : CodeOptions → Options
-options_meant o = record { print_success = o.print_success; models = o.models; proofs = o.proofs; assertions = o.assertions }
+options_meant o = record {
+  print_success = o.print_success;
+  models = o.models;
+  proofs = o.proofs;
+  assertions = o.assertions;
+}
 
 -- what a command answers in the words of the definitions
 abbrev pub effect_meant : CodeEffect → Effect
@@ -98,7 +104,8 @@ abbrev pub Performs : ℕ → Answer Taken → OverTable → Result CodeEffect R
 Performs limit left new (Ok e) = (d : Taken) × (left ≡ Ok d) × (effect_meant e ≡ d.effect) × IsStack limit new d.stack
 Performs limit left new (Err stop) = Fails stop left
 
--- what the command of an s-expression answers and leaves, or its first fault with its place in the text, unless memory ran out
+-- what the command of an s-expression answers and leaves, or its first fault with its place in the text, unless memory
+-- ran out
 abbrev pub Steps : ℕ → Answer Taken → Sexpr → OverTable → Result CodeEffect Refused → Type 0
 Steps limit left x new (Ok e) = (d : Taken) × (left ≡ Ok d) × (effect_meant e ≡ d.effect) × IsStack limit new d.stack
 Steps limit left x new (Err (refusals.Fault r)) =

@@ -8,7 +8,8 @@ use Rattle.spec_commands.specs.Checks.{Check}
 use Rattle.spec_derivations.specs.Derivations.{Derivation}
 use Rattle.spec_proof_texts.specs.Lines.{proof_text}
 use Rattle.spec_proof_texts.specs.Plans.{Plan, IsPlan, lines_of}
-use Rattle.spec_sessions.specs.Evidence.{Limits, Kept, Found, model, proof, spent, overflowed, out_of_pivots, Checked, Justifies}
+use Rattle.spec_sessions.specs.Evidence.{Limits, Kept, Found, model, proof, spent, overflowed, out_of_pivots, Checked}
+use Rattle.spec_sessions.specs.Evidence.{Justifies}
 use Rattle.spec_sessions.specs.Meaning.{IsKeptCheck}
 use Rattle.term_core.specs.Tables.{TableView, literal_at}
 use Rattle.term_walks.specs.declared.values.Interp.{Interp}
@@ -81,7 +82,8 @@ IsEvidence t budget (found.Reason (reasons.Pivots n)) f = (d : Derivation) × (f
 abbrev pub IsSomeEvidence : TableView → Evidence → Type 0
 IsSomeEvidence t e = (budget : BudgetView) × (f : Found) × IsEvidence t budget e f
 
--- what was found is that of an outcome: its model, the proof that is printed of its log, the clauses that it learned, the operation that
+-- what was found is that of an outcome: its model, the proof that is printed of its log, the clauses that it learned,
+-- the operation that
 -- leaves the bound, or the number of exchanges
 abbrev pub IsFoundBy : TableView → Outcome → Found → Type 0
 IsFoundBy t o (model i) = (interp : Interp) × (o.answer ≡ Sat interp) × HasSymbolTables t interp i

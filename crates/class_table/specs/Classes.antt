@@ -1,5 +1,6 @@
 -- Classes of terms as contracts see them: for each term, by its number, the number of its class.
-use Rattle.std.specs.Prelude.{◌≡◌, ◌<◌, ◌-◌, ◌++◌, ◌==◌, ◌↔◌, ℕ, List, Contains, length, map, nat_le, slice_index, if◌then◌else◌}
+use Rattle.std.specs.Prelude.{◌≡◌, ◌<◌, ◌-◌, ◌++◌, ◌==◌, ◌↔◌, ℕ, List, Contains, length, map, nat_le, slice_index}
+use Rattle.std.specs.Prelude.{if◌then◌else◌}
 use Rattle.std.specs.List.{count_by, range_with_len}
 use Rattle.term_core.specs.declared.ids.TermId.{TermId}
 

@@ -33,4 +33,5 @@ pub record AreMergeMarks (marks : List MergeMark) (terms : ℕ) (merges : List M
   -- and none has more than there is now
   pub fit : (k : ℕ) → k < length marks → IsUpTo (mark_at marks k) (record { terms = terms; merges = length merges })
   -- its merges were all of its terms
-  pub joins : (k : ℕ) → k < length marks → AreJoins (alone (mark_at marks k).terms) (take (mark_at marks k).merges merges)
+  pub joins : (k : ℕ) → k < length marks
+      → AreJoins (alone (mark_at marks k).terms) (take (mark_at marks k).merges merges)

@@ -1,5 +1,6 @@
 -- The members of each class in a ring, the sizes of classes, and what a merge makes of them.
-use Rattle.std.specs.Prelude.{◌≡◌, ◌≢◌, ◌+◌, ◌<◌, ◌≤◌, ◌==◌, ◌&&◌, nat_lt, ℕ, Bool, zero, suc, List, [], ◌∷◌, length, replicate, fold, slice_index, slice_set, if◌then◌else◌, vec_capacity, ⊤}
+use Rattle.std.specs.Prelude.{◌≡◌, ◌≢◌, ◌+◌, ◌<◌, ◌≤◌, ◌==◌, ◌&&◌, nat_lt, ℕ, Bool, zero, suc, List, [], ◌∷◌, length}
+use Rattle.std.specs.Prelude.{replicate, fold, slice_index, slice_set, if◌then◌else◌, vec_capacity, ⊤}
 use Rattle.std.specs.List.{range_with_len}
 use Rattle.class_table.specs.declared.rings.Merge.{Merge}
 use Rattle.class_table.specs.declared.rings.Rings.TheInside.{Inside}

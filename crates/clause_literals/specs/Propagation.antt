@@ -1,5 +1,6 @@
 -- How unit propagation goes on, from premise to premise and from literal to literal.
-use Rattle.std.specs.Prelude.{◌≡◌, ◌⊎◌, ◌+◌, ◌<◌, ◌≤◌, ◌==◌, ℕ, zero, suc, Bool, true, false, if◌then◌else◌, List, [], ◌∷◌, ◌++◌, length, get_or, Contains}
+use Rattle.std.specs.Prelude.{◌≡◌, ◌⊎◌, ◌+◌, ◌<◌, ◌≤◌, ◌==◌, ℕ, zero, suc, Bool, true, false, if◌then◌else◌, List, []}
+use Rattle.std.specs.Prelude.{◌∷◌, ◌++◌, length, get_or, Contains}
 use Rattle.std.specs.List.{list_any}
 use Rattle.spec_proofs.specs.Resolution.{Derives, Conflicts, IsWithin}
 use Rattle.term_core.specs.declared.ids.Lit.{Lit}
@@ -12,7 +13,8 @@ IsDerived premises start held = (l : Lit) → Contains held l → Derives lit_co
 
 -- what is held leads to a conflict
 abbrev pub LeadsToConflict : List (List Lit) → List Lit → Type 0
-LeadsToConflict premises held = (start : List Lit) → IsDerived premises start held → Conflicts lit_complement premises start
+LeadsToConflict premises held = (start : List Lit) → IsDerived premises start held
+    → Conflicts lit_complement premises start
 
 -- no conflict follows from anything that is held
 abbrev pub IsUnrefuted : List (List Lit) → List Lit → Type 0
@@ -58,12 +60,14 @@ IsTracked seen held more clause left = IsSatisfied held clause ⊎ ((2 ≤ left)
 
 -- the first n clauses are tracked, where those of some numbers have still to lose a literal
 abbrev pub AreTracked : ℕ → List Lit → List ℕ → List (List Lit) → List Lit → List ℕ → Type 0
-AreTracked n seen losing premises held left = (k : ℕ) → k < n → IsTracked seen held (times k losing) (get_or premises k []) (get_or left k 0)
+AreTracked n seen losing premises held left = (k : ℕ) → k < n
+    → IsTracked seen held (times k losing) (get_or premises k []) (get_or left k 0)
 
 -- a premise goes from bounded to tracked
 pub record TakesUp (clause old new : List Lit) (before after : ℕ) : Type 0 where
   pub follows : GivesUnit clause old new
-  pub tracked : (seen : List Lit) (more : ℕ) → IsWithin seen old → IsBounded seen old more clause before → IsTracked seen new more clause after
+  pub tracked : (seen : List Lit) (more : ℕ) → IsWithin seen old → IsBounded seen old more clause before
+      → IsTracked seen new more clause after
 
 -- each premise was taken up once
 pub record BeginsPropagation (premises : List (List Lit)) (old new : List Lit) (left : List ℕ) : Type 0 where
@@ -72,9 +76,11 @@ pub record BeginsPropagation (premises : List (List Lit)) (old new : List Lit) (
   pub tracked : AreTracked (length premises) [] [] premises new left
 
 -- those premises that lost a literal were taken up
-pub record Loses (premises : List (List Lit)) (losing : List ℕ) (old new : List Lit) (before after : List ℕ) : Type 0 where
+pub record Loses (premises : List (List Lit)) (losing : List ℕ) (old new : List Lit) (before after : List ℕ) : Type
+    0 where
   pub advances : Advances premises old new
-  pub tracked : (seen : List Lit) → IsWithin seen old → AreTracked (length premises) seen losing premises old before → AreTracked (length premises) seen [] premises new after
+  pub tracked : (seen : List Lit) → IsWithin seen old → AreTracked (length premises) seen losing premises old before
+      → AreTracked (length premises) seen [] premises new after
 
 -- nothing more follows
 pub record HasPropagatedAll (premises : List (List Lit)) (old new : List Lit) : Type 0 where

@@ -2,7 +2,8 @@
 use Rattle.std.specs.Prelude.{◌≡◌, ◌<◌, List, ◌∷◌, [], ◌++◌, length, Contains}
 use Rattle.term_core.specs.declared.ids.Lit.{Lit}
 use Rattle.clause_literals.specs.declared.status.ClauseStatus.{ClauseStatus}
-use Rattle.clause_literals.specs.declared.status.ClauseStatus.TheVariants.{Falsified, Unit as Single, Unresolved, Satisfied}
+use Rattle.clause_literals.specs.declared.status.ClauseStatus.TheVariants.{Falsified, Unit as Single, Unresolved}
+use Rattle.clause_literals.specs.declared.status.ClauseStatus.TheVariants.{Satisfied}
 use Rattle.clause_literals.specs.declared.scan.Pass.{Pass}
 use Rattle.clause_literals.specs.declared.scan.Pass.TheVariants.{Conflict, Added, Same}
 use Rattle.clause_literals.specs.Statuses.{IsFalsified, IsUnit, IsUnresolved, IsSatisfied, PropagatesNothing}

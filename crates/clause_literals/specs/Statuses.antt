@@ -2,7 +2,8 @@
 use Rattle.std.specs.Prelude.{◌≢◌, ◌⊎◌, List, Contains}
 use Rattle.term_core.specs.declared.ids.Lit.{Lit}
 use Rattle.clause_literals.specs.declared.status.ClauseStatus.{ClauseStatus}
-use Rattle.clause_literals.specs.declared.status.ClauseStatus.TheVariants.{Falsified, Unit as Single, Unresolved, Satisfied}
+use Rattle.clause_literals.specs.declared.status.ClauseStatus.TheVariants.{Falsified, Unit as Single, Unresolved}
+use Rattle.clause_literals.specs.declared.status.ClauseStatus.TheVariants.{Satisfied}
 use Rattle.clause_literals.specs.Literals.{lit_complement}
 
 -- each literal of the clause is false

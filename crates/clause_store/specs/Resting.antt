@@ -40,7 +40,8 @@ pub record AreAttached (clauses : List (List Lit)) (pairs : List Pair) (count : 
   -- those of one literal are in the list
   pub listed : (n : ℕ) → n < count → (get_or pairs n no_pair).first ≡ (get_or pairs n no_pair).second → Contains short n
   -- and no others
-  pub only : (n : ℕ) → Contains short n → (n < count) × ((get_or pairs n no_pair).first ≡ (get_or pairs n no_pair).second)
+  pub only : (n : ℕ) → Contains short n → (n < count)
+      × ((get_or pairs n no_pair).first ≡ (get_or pairs n no_pair).second)
 
 -- the last length, or 0 where there is none
 abbrev pub last_of : List ℕ → ℕ
@@ -81,12 +82,14 @@ pub record WorksOn (old new : StoreParts) (before after : TrailView) : Type 0 wh
   -- so is what was seen
   pub seen : new.seen.items ≡ old.seen.items
   -- where the clauses that were looked at rested by what holds, they rest
-  pub prefixes : (F : List Lit) → AreLiteralsAmong F before.literals → AreResting old.attached old.watched.pairs.items F before.literals
+  pub prefixes : (F : List Lit) → AreLiteralsAmong F before.literals
+      → AreResting old.attached old.watched.pairs.items F before.literals
       → AreResting new.attached new.watched.pairs.items F after.literals
 
 -- what a look at the next clause comes to: it is false, or it was looked at
 abbrev pub AttachesOne : StoreParts → StoreParts → List Lit → Bool → Type 0
-AttachesOne old new held true = (new.attached ≡ old.attached) × IsFalseOf (clauses_of new.watched.entries.items) held new.attached
+AttachesOne old new held true = (new.attached ≡ old.attached)
+    × IsFalseOf (clauses_of new.watched.entries.items) held new.attached
 AttachesOne old new held false = new.attached ≡ old.attached + 1
 
 -- The trail is as it was, but for what is marked.

@@ -1,5 +1,6 @@
 -- Stores of clauses as contracts see them.
-use Rattle.std.specs.Prelude.{◌≡◌, ◌≢◌, ◌+◌, ◌<◌, ◌≤◌, ◌==◌, ◌⊎◌, if◌then◌else◌, ℕ, List, [], ◌∷◌, ◌++◌, length, map, take, get_or, All, Contains}
+use Rattle.std.specs.Prelude.{◌≡◌, ◌≢◌, ◌+◌, ◌<◌, ◌≤◌, ◌==◌, ◌⊎◌, if◌then◌else◌, ℕ, List, [], ◌∷◌, ◌++◌, length, map}
+use Rattle.std.specs.Prelude.{take, get_or, All, Contains}
 use Rattle.std.specs.List.{sum_by}
 use Rattle.term_core.specs.declared.ids.Lit.{Lit}
 use Rattle.term_core.specs.Tables.{TableView, clause_at}
@@ -57,7 +58,8 @@ pub record IsWatchedTwice (clause : List Lit) (p : Pair) : Type 0 where
 -- The list has the numbers of the clauses that a literal watches, each once.
 pub record AreWatchedBy (s : StoreView) (l : Lit) (list : List ℕ) : Type 0 where
   -- a number is that of a clause which the literal watches
-  pub there : (n : ℕ) → Contains list n → (n < length s.clauses) × IsWatchedTwice (get_or s.clauses n []) (get_or s.pairs n no_pair)
+  pub there : (n : ℕ) → Contains list n → (n < length s.clauses)
+      × IsWatchedTwice (get_or s.clauses n []) (get_or s.pairs n no_pair)
       × (((get_or s.pairs n no_pair).first ≡ l) ⊎ ((get_or s.pairs n no_pair).second ≡ l))
   -- the number of each such clause stands once
   pub once : (n : ℕ) → n < length s.clauses → (get_or s.pairs n no_pair).first ≢ (get_or s.pairs n no_pair).second

@@ -1,5 +1,6 @@
 -- Two literals of each clause are watched.
-use Rattle.std.specs.Prelude.{◌≡◌, ◌≢◌, ◌<◌, ◌≤◌, ◌⊎◌, ⊤, ℕ, List, [], ◌∷◌, ◌++◌, length, take, set, get_or, slice_index_or, Contains, All}
+use Rattle.std.specs.Prelude.{◌≡◌, ◌≢◌, ◌<◌, ◌≤◌, ◌⊎◌, ⊤, ℕ, List, [], ◌∷◌, ◌++◌, length, take, set, get_or}
+use Rattle.std.specs.Prelude.{slice_index_or, Contains, All}
 use Rattle.std.specs.List.{swap_remove}
 use Rattle.term_core.specs.declared.ids.Lit.{Lit}
 use Rattle.clause_literals.specs.Literals.{lit_complement}
@@ -109,12 +110,14 @@ AreFalseBut held clause other = (m : Lit) → Contains clause m → m ≢ other 
 
 -- those between two places but the other are false
 abbrev pub AreFalseBetween : List Lit → List Lit → ℕ → ℕ → Lit → Type 0
-AreFalseBetween held clause from to other = (k : ℕ) (m : Lit) → from ≤ k → k < to → slice_index_or clause k m ≡ m → m ≢ other
+AreFalseBetween held clause from to other = (k : ℕ) (m : Lit) → from ≤ k → k < to → slice_index_or clause k m ≡ m
+    → m ≢ other
     → Contains held (lit_complement m)
 
 -- at a place stands a literal that is not false, and not the other
 abbrev pub IsOpenAt : List Lit → List Lit → Lit → ℕ → Type 0
-IsOpenAt held clause other k = (k < length clause) × ((d : Lit) → IsOpenBut held clause other (slice_index_or clause k d))
+IsOpenAt held clause other k = (k < length clause)
+    × ((d : Lit) → IsOpenBut held clause other (slice_index_or clause k d))
 
 -- a literal of the clause, and not the other
 pub record IsAnother (clause : List Lit) (other l : Lit) : Type 0 where
@@ -145,11 +148,13 @@ pub record Passes (held : List Lit) (f : Lit) (p : Pair) : Type 0 where
 
 -- each of the first entries has passed
 abbrev pub HavePassed : List Pair → List ℕ → ℕ → List Lit → Lit → Type 0
-HavePassed pairs list at held f = (j : ℕ) → j < at → j < length list → Passes held f (get_or pairs (get_or list j 0) no_pair)
+HavePassed pairs list at held f = (j : ℕ) → j < at → j < length list
+    → Passes held f (get_or pairs (get_or list j 0) no_pair)
 
 -- each pair of two has passed
 abbrev pub HaveAllPassed : List Pair → List Lit → Lit → Type 0
-HaveAllPassed pairs held f = (n : ℕ) → n < length pairs → (get_or pairs n no_pair).first ≢ (get_or pairs n no_pair).second
+HaveAllPassed pairs held f = (n : ℕ) → n < length pairs → (get_or pairs n no_pair).first
+    ≢ (get_or pairs n no_pair).second
     → Passes held f (get_or pairs n no_pair)
 
 -- one list's literals are among the other's
@@ -166,7 +171,8 @@ pub record IsFalseOf (clauses : List (List Lit)) (held : List Lit) (n : ℕ) : T
 -- Pairs of one literal are as they were, and pairs of two are of two.
 pub record HaveSameShapes (old new : List Pair) : Type 0 where
   -- those of one
-  pub one : (n : ℕ) → (get_or old n no_pair).first ≡ (get_or old n no_pair).second → get_or new n no_pair ≡ get_or old n no_pair
+  pub one : (n : ℕ) → (get_or old n no_pair).first ≡ (get_or old n no_pair).second → get_or new n no_pair
+      ≡ get_or old n no_pair
   -- those of two
   pub two : (n : ℕ) → (get_or old n no_pair).first ≢ (get_or old n no_pair).second
       → (get_or new n no_pair).first ≢ (get_or new n no_pair).second
@@ -180,7 +186,8 @@ pub record PropagatesPart (s : StoreView) (count : ℕ) (old new : List Pair) (b
   -- of one literal or of two
   pub shapes : HaveSameShapes old new
   -- where the pairs rested, at whatever prefix of the literals, they rest
-  pub prefixes : (F G : List Lit) → AreLiteralsAmong F before.literals → AreLiteralsAmong G before.literals → AreResting count old F G → AreResting count new F G
+  pub prefixes : (F G : List Lit) → AreLiteralsAmong F before.literals → AreLiteralsAmong G before.literals
+      → AreResting count old F G → AreResting count new F G
 
 -- A clause by its number, and the place at which it is in the list of a literal that came to be false.
 pub record Visit : Type 0 where
@@ -208,7 +215,8 @@ pub record IsExchanged (v : Visit) (old new : List Pair) (index new_index : List
 
 -- what a look at a clause comes to
 abbrev pub VisitsClause : Visit → Watched → Watched → List Lit → WatchOutcome → Type 0
-VisitsClause v old new held steps.Stays = (new.pairs.items ≡ old.pairs.items) × (new.index ≡ old.index) × Passes held v.literal (get_or old.pairs.items v.number no_pair)
+VisitsClause v old new held steps.Stays = (new.pairs.items ≡ old.pairs.items) × (new.index ≡ old.index)
+    × Passes held v.literal (get_or old.pairs.items v.number no_pair)
 VisitsClause v old new held steps.Moved = IsExchanged v old.pairs.items new.pairs.items old.index new.index
 VisitsClause v old new held steps.Clash = IsFalseOf (clauses_of old.entries.items) held v.number
 
@@ -221,7 +229,8 @@ pub record IsRepaired (n : ℕ) (old new : List Pair) : Type 0 where
   -- it is of one literal or of two, as it was
   pub shapes : HaveSameShapes old new
 
--- A clause, looked at for the first time, rests: it has a literal, and is safe where its false one is none of the prefix.
+-- A clause, looked at for the first time, rests: it has a literal, and is safe where its false one is none of the
+-- prefix.
 pub record IsFresh (clause held : List Lit) (p : Pair) (Safe : ℕ → Type 0) : Type 0 where
   -- it has a literal
   pub there : Contains clause p.first

@@ -7,7 +7,8 @@ use Rattle.term_core.specs.Tables.{TableView}
 use Rattle.proof_log.specs.declared.premises.StepId.{StepId}
 use Rattle.proof_log.specs.Logs.{Logged, stated}
 
--- The numbers are those of the clauses that a search of a problem begins with and of no others, and are as many: those of any search, and
+-- The numbers are those of the clauses that a search of a problem begins with and of no others, and are as many: those
+-- of any search, and
 -- those of the orders of equalities of numbers. Where clauses repeat, which of them have how many numbers is left open.
 pub record HasClauses (t : TableView) (log : List Logged) (p : Problem) (steps : List StepId) : Type 0 where
   -- each is a number of the log

@@ -1,4 +1,5 @@
--- Equalities of numbers in a table, the orders of their sides, and numbers of the terms that a search of both speaks of.
+-- Equalities of numbers in a table, the orders of their sides, and numbers of the terms that a search of both speaks
+-- of.
 use Rattle.std.specs.Prelude.{◌≡◌, List, [], ◌∷◌}
 use Rattle.spec_numbers.specs.Fractions.{one_fraction}
 use Rattle.spec_sorts.specs.Terms.{Number, Equal, AtMost, Term, pair, negated, sort_of}
@@ -44,7 +45,8 @@ order_clause t id a b = negated (term_at t id) ∷ order_at t a b ∷ []
 abbrev pub arguments_by : Ratio → List Coefficient
 arguments_by w = given (fraction w) ∷ given one_fraction ∷ []
 
--- The numbers are those of formulas: the terms of which a search of a problem over linear arithmetic speaks with their subterms.
+-- The numbers are those of formulas: the terms of which a search of a problem over linear arithmetic speaks with their
+-- subterms.
 pub record AreOrdered (t : TableView) (p : Problem) (ids : List TermId) : Type 0 where
   -- each is the number of a formula
   pub formulas : AreFormulasIn t ids

@@ -1,5 +1,6 @@
 -- What comes up in the analysis of a conflict, how it is sorted, and how far the analysis has come.
-use Rattle.std.specs.Prelude.{◌≡◌, ◌≢◌, ◌⊎◌, ◌<◌, ◌≤◌, ◌&&◌, nat_eq, if◌then◌else◌, ℕ, zero, suc, Bool, true, false, List, length, get_or, Contains, Some, None}
+use Rattle.std.specs.Prelude.{◌≡◌, ◌≢◌, ◌⊎◌, ◌<◌, ◌≤◌, ◌&&◌, nat_eq, if◌then◌else◌, ℕ, zero, suc, Bool, true, false}
+use Rattle.std.specs.Prelude.{List, length, get_or, Contains, Some, None}
 use Rattle.spec_sorts.specs.WellSorted.{IsFormulaOver}
 use Rattle.spec_sorts.specs.Literals.{Literal, literal_of, literals_of}
 use Rattle.term_core.specs.declared.ids.TermId.{TermId}
@@ -43,16 +44,19 @@ pub record MarksVariables (t : TableView) (ls : List Literal) (old new : List Bo
   -- each literal's variable is marked
   pub added : (x : Literal) → Contains ls x → IsMarkedFor t new x
   -- and no other
-  pub only : (n : ℕ) → IsVariableMarked new n → IsVariableMarked old n ⊎ ((m : Lit) × IsIn t m.term × Contains ls (literal_at t m) × (m.term.0 ≡ n))
+  pub only : (n : ℕ) → IsVariableMarked new n → IsVariableMarked old n
+      ⊎ ((m : Lit) × IsIn t m.term × Contains ls (literal_at t m) × (m.term.0 ≡ n))
 
 -- a false literal came up before, or a place before one makes it false
 abbrev pub IsBefore : TrailView → ℕ → List Bool → Lit → Type 0
-IsBefore v k marks m = IsVariableMarked marks m.term.0 ⊎ ((q : ℕ) × (q < k) × (get_or v.literals q no_lit ≡ lit_complement m))
+IsBefore v k marks m = IsVariableMarked marks m.term.0
+    ⊎ ((q : ℕ) × (q < k) × (get_or v.literals q no_lit ≡ lit_complement m))
 
 -- how many marked literals of a level are before a place
 abbrev pub count_before : TrailView → List Bool → ℕ → ℕ → ℕ
 count_before v marks n zero = 0
-count_before v marks n (suc k) = if get_or marks (get_or v.literals k no_lit).term.0 false && nat_eq (get_or v.levels k 0) n then suc (count_before v marks n k) else count_before v marks n k
+count_before v marks n (suc k) = if get_or marks (get_or v.literals k no_lit).term.0 false
+    && nat_eq (get_or v.levels k 0) n then suc (count_before v marks n k) else count_before v marks n k
 
 -- The literal of a place is marked, and not of the level.
 pub record IsLower (v : TrailView) (n : ℕ) (marks : List Bool) (p : ℕ) : Type 0 where
@@ -77,14 +81,17 @@ pub record Sorting : Type 0 where
 abbrev pub sorting_of : Seen → Sorting
 sorting_of a = record { marks = a.marks.items; many = a.many; lower = a.lower.items; back = a.back; fixed = a.fixed }
 
--- What came up is sorted: counted, where it is of the level and is before a place, and else listed, where it is above level 0.
+-- What came up is sorted: counted, where it is of the level and is before a place, and else listed, where it is above
+-- level 0.
 pub record Sorts (v : TrailView) (n k : ℕ) (a : Sorting) : Type 0 where
   pub within : k ≤ length v.literals
   pub counted : a.many ≡ count_before v a.marks n k
   -- the list has each complement once
   pub once : VariablesAreApart a.lower
-  pub all : (p : ℕ) → IsLower v n a.marks p → 0 < get_or v.levels p 0 → Contains a.lower (lit_complement (get_or v.literals p no_lit))
-  pub only : (m : Lit) → Contains a.lower m → (p : ℕ) × IsLower v n a.marks p × (0 < get_or v.levels p 0) × (get_or v.literals p no_lit ≡ lit_complement m)
+  pub all : (p : ℕ) → IsLower v n a.marks p → 0 < get_or v.levels p 0
+      → Contains a.lower (lit_complement (get_or v.literals p no_lit))
+  pub only : (m : Lit) → Contains a.lower m → (p : ℕ) × IsLower v n a.marks p × (0 < get_or v.levels p 0)
+      × (get_or v.literals p no_lit ≡ lit_complement m)
   -- the greatest level of these is known
   pub bounded : (p : ℕ) → IsLower v n a.marks p → get_or v.levels p 0 ≤ a.back
   pub reached : (a.back ≡ 0) ⊎ ((p : ℕ) × IsLower v n a.marks p × (get_or v.levels p 0 ≡ a.back))
@@ -99,7 +106,8 @@ AreSorted v n k a = Sorts v n k (sorting_of a)
 abbrev pub IsPassed : Conflict → ℕ → StepId → Type 0
 IsPassed c k s = (s ≡ c.clash) ⊎ IsResolved c k s
 
--- What is marked is what was met where literals from a place on were replaced, and the premises are the steps that were passed.
+-- What is marked is what was met where literals from a place on were replaced, and the premises are the steps that were
+-- passed.
 pub record HasMet (c : Conflict) (k : ℕ) (marks : List Bool) (premises : List StepId) : Type 0 where
   -- what is marked was met
   pub marked : (p : ℕ) → p < length c.trail.literals → IsMarkedAt c.trail marks p → IsMet c k p
@@ -145,11 +153,14 @@ pub record AreDropped (c : Conflict) (from k : ℕ) (marks : List Bool) (premise
   -- what is left of level 0 is marked
   pub begun : (p : ℕ) → p < from → IsMet c from p → level_at c p ≡ 0 → IsMarkedAt c.trail marks p
   -- what is marked of level 0 is dropped
-  pub marked : (p : ℕ) → p < length c.trail.literals → IsMarkedAt c.trail marks p → level_at c p ≡ 0 → IsDropped c from p
+  pub marked : (p : ℕ) → p < length c.trail.literals → IsMarkedAt c.trail marks p → level_at c p ≡ 0
+      → IsDropped c from p
   -- of what is marked from the place on the reason is among the premises
-  pub has_reason : (p r : ℕ) → k ≤ p → p < length c.trail.literals → IsMarkedAt c.trail marks p → level_at c p ≡ 0 → get_or c.trail.reasons p None ≡ Some r → Contains premises (step_of r)
+  pub has_reason : (p r : ℕ) → k ≤ p → p < length c.trail.literals → IsMarkedAt c.trail marks p → level_at c p ≡ 0
+      → get_or c.trail.reasons p None ≡ Some r → Contains premises (step_of r)
   -- and its literals are marked
-  pub reason_marked : (p r q : ℕ) → k ≤ p → p < length c.trail.literals → IsMarkedAt c.trail marks p → level_at c p ≡ 0 → get_or c.trail.reasons p None ≡ Some r
+  pub reason_marked : (p r q : ℕ) → k ≤ p → p < length c.trail.literals → IsMarkedAt c.trail marks p → level_at c p ≡ 0
+      → get_or c.trail.reasons p None ≡ Some r
       → Falsifies c q (step_of r) → IsMarkedAt c.trail marks q
 
 -- The greatest level of a clause's literals that are not of a level, or 0 where there are none.

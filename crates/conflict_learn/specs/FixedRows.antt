@@ -1,5 +1,8 @@
--- Another conflict by hand, with literals of level 0: of g, -g e, -a b, -b c, -b d and -c -d -e the last is false where g and e follow, a is decided, and b, c and d follow. The first unique implication point is b; e is dropped, with the reasons of e and g.
-use Rattle.std.specs.Prelude.{◌≡◌, ◌≢◌, ◌<◌, ◌≤◌, ℕ, zero, suc, Bool, true, false, List, [], ◌∷◌, get_or, Contains, Some, None, refl}
+-- Another conflict by hand, with literals of level 0: of g, -g e, -a b, -b c, -b d and -c -d -e the last is false where
+-- g and e follow, a is decided, and b, c and d follow. The first unique implication point is b; e is dropped, with the
+-- reasons of e and g.
+use Rattle.std.specs.Prelude.{◌≡◌, ◌≢◌, ◌<◌, ◌≤◌, ℕ, zero, suc, Bool, true, false, List, [], ◌∷◌, get_or, Contains}
+use Rattle.std.specs.Prelude.{Some, None, refl}
 use Rattle.std.proofs.lemmas.Bool.{cases_lt}
 use Rattle.std.proofs.Common.{◌+◌, inl, inr, sym, ap, subst, arith}
 use Rattle.spec_sorts.specs.Terms.{negated}
@@ -12,15 +15,31 @@ use Rattle.proof_log.specs.declared.premises.StepId.{StepId}
 use Rattle.proof_log.specs.Logs.{assumed, stepped}
 use Rattle.proof_log.specs.Clashes.{literals_in}
 use Rattle.conflict_learn.specs.Conflicts.{Conflict, step_of}
-use Rattle.conflict_learn.specs.Points.{held_at, level_at, Falsifies, IsMet, of_clash, of_reason, HasTwo, IsDropped, of_point, of_dropped, IsUsed, IsUip}
+use Rattle.conflict_learn.specs.Points.{held_at, level_at, Falsifies, IsMet, of_clash, of_reason, HasTwo, IsDropped}
+use Rattle.conflict_learn.specs.Points.{of_point, of_dropped, IsUsed, IsUip}
 use Rattle.conflict_learn.specs.Rows.{variable, id, plus, negative_lit, two, number, same_number}
 
 -- the conflict; g, e, a, b, c and d are the variables from 0 on
 abbrev fixed_row : Conflict
 fixed_row = record {
-  table = record { sorts = []; symbols = []; terms = variable 0 ∷ variable 1 ∷ variable 2 ∷ variable 3 ∷ variable 4 ∷ variable 5 ∷ negated (variable 0) ∷ negated (variable 1) ∷ negated (variable 2) ∷ negated (variable 3) ∷ negated (variable 4) ∷ negated (variable 5) ∷ [] };
-  log = assumed (id 0) ∷ two 6 1 ∷ two 8 3 ∷ two 9 4 ∷ two 9 5 ∷ stepped Resolution [] [] (id 10 ∷ id 11 ∷ id 7 ∷ []) ∷ [];
-  trail = record { literals = plus 0 ∷ plus 1 ∷ plus 2 ∷ plus 3 ∷ plus 4 ∷ plus 5 ∷ []; levels = 0 ∷ 0 ∷ 1 ∷ 1 ∷ 1 ∷ 1 ∷ []; reasons = Some 0 ∷ Some 1 ∷ None ∷ Some 2 ∷ Some 3 ∷ Some 4 ∷ []; vars = 6; level = 1; propagated = 0 };
+  table = record {
+    sorts = [];
+    symbols = [];
+    terms = variable 0 ∷ variable 1 ∷ variable 2 ∷ variable 3 ∷ variable 4
+        ∷ variable 5 ∷ negated (variable 0) ∷ negated (variable 1) ∷ negated (variable 2) ∷ negated (variable 3)
+        ∷ negated (variable 4) ∷ negated (variable 5) ∷ [];
+  };
+  log = assumed (id 0) ∷ two 6 1 ∷ two 8 3 ∷ two 9 4 ∷ two 9 5 ∷ stepped Resolution [] [] (id 10 ∷ id 11 ∷ id 7 ∷ [])
+      ∷ [];
+  trail = record {
+    literals = plus 0 ∷ plus 1 ∷ plus 2 ∷ plus 3 ∷ plus 4 ∷ plus 5 ∷ [];
+    levels = 0 ∷ 0 ∷ 1 ∷ 1 ∷ 1 ∷ 1
+        ∷ [];
+    reasons = Some 0 ∷ Some 1 ∷ None ∷ Some 2 ∷ Some 3 ∷ Some 4 ∷ [];
+    vars = 6;
+    level = 1;
+    propagated = 0;
+  };
   clash = step_of 5;
 }
 
@@ -69,28 +88,55 @@ goes_on (suc zero) lt le = absurd (omega (arith, lt))
 goes_on (suc (suc zero)) lt le = absurd (omega (arith, lt))
 goes_on (suc (suc (suc zero))) lt le = absurd (omega (arith, lt))
 goes_on (suc (suc (suc (suc zero)))) lt le = absurd (omega (arith, lt))
-goes_on (suc (suc (suc (suc (suc zero))))) lt le = record { one = 3; other = 4; apart = omega arith; before = omega arith; one_met = b_met 5 (omega arith); other_met = of_clash 4 c_false; one_level = refl; other_level = refl }
-goes_on (suc (suc (suc (suc (suc (suc zero)))))) lt le = record { one = 4; other = 5; apart = omega arith; before = omega arith; one_met = of_clash 4 c_false; other_met = of_clash 5 d_false; one_level = refl; other_level = refl }
+goes_on (suc (suc (suc (suc (suc zero))))) lt le = record {
+  one = 3;
+  other = 4;
+  apart = omega arith;
+  before = omega arith;
+  one_met = b_met 5 (omega arith);
+  other_met = of_clash 4 c_false;
+  one_level = refl;
+  other_level = refl;
+}
+goes_on (suc (suc (suc (suc (suc (suc zero)))))) lt le = record {
+  one = 4;
+  other = 5;
+  apart = omega arith;
+  before = omega arith;
+  one_met = of_clash 4 c_false;
+  other_met = of_clash 5 d_false;
+  one_level = refl;
+  other_level =
+      refl;
+}
 goes_on (suc (suc (suc (suc (suc (suc (suc k))))))) lt le = absurd (omega (arith, le))
 
 -- from the fourth step on none has a, which is the variable 2
 not_eight : (n : ℕ) → (n ≡ 8 → ⊥) → n ≢ 8
 not_eight n h = h
 
-without_a : (s : ℕ) → 3 ≤ s → s < 6 → (x : Literal) → Contains (literals_in fixed_row.table fixed_row.log (step_of s)) x → name x ≢ 8
+without_a : (s : ℕ) → 3 ≤ s → s < 6 → (x : Literal) → Contains (literals_in fixed_row.table fixed_row.log (step_of s)) x
+    → name x ≢ 8
 unfolding literal_of
 without_a zero le lt x i = absurd (omega (arith, le))
 without_a (suc zero) le lt x i = absurd (omega (arith, le))
 without_a (suc (suc zero)) le lt x i = absurd (omega (arith, le))
-without_a (suc (suc (suc zero))) le lt x (zero, small, e) = subst (λ (y : Literal). name y ≢ 8) e (not_eight 9 (λ h. absurd (omega (arith, h))))
-without_a (suc (suc (suc zero))) le lt x (suc zero, small, e) = subst (λ (y : Literal). name y ≢ 8) e (not_eight 4 (λ h. absurd (omega (arith, h))))
+without_a (suc (suc (suc zero))) le lt x (zero, small, e) =
+    subst (λ (y : Literal). name y ≢ 8) e (not_eight 9 (λ h. absurd (omega (arith, h))))
+without_a (suc (suc (suc zero))) le lt x (suc zero, small, e) =
+    subst (λ (y : Literal). name y ≢ 8) e (not_eight 4 (λ h. absurd (omega (arith, h))))
 without_a (suc (suc (suc zero))) le lt x (suc (suc i), small, e) = absurd (omega (arith, small))
-without_a (suc (suc (suc (suc zero)))) le lt x (zero, small, e) = subst (λ (y : Literal). name y ≢ 8) e (not_eight 9 (λ h. absurd (omega (arith, h))))
-without_a (suc (suc (suc (suc zero)))) le lt x (suc zero, small, e) = subst (λ (y : Literal). name y ≢ 8) e (not_eight 5 (λ h. absurd (omega (arith, h))))
+without_a (suc (suc (suc (suc zero)))) le lt x (zero, small, e) =
+    subst (λ (y : Literal). name y ≢ 8) e (not_eight 9 (λ h. absurd (omega (arith, h))))
+without_a (suc (suc (suc (suc zero)))) le lt x (suc zero, small, e) =
+    subst (λ (y : Literal). name y ≢ 8) e (not_eight 5 (λ h. absurd (omega (arith, h))))
 without_a (suc (suc (suc (suc zero)))) le lt x (suc (suc i), small, e) = absurd (omega (arith, small))
-without_a (suc (suc (suc (suc (suc zero))))) le lt x (zero, small, e) = subst (λ (y : Literal). name y ≢ 8) e (not_eight 10 (λ h. absurd (omega (arith, h))))
-without_a (suc (suc (suc (suc (suc zero))))) le lt x (suc zero, small, e) = subst (λ (y : Literal). name y ≢ 8) e (not_eight 11 (λ h. absurd (omega (arith, h))))
-without_a (suc (suc (suc (suc (suc zero))))) le lt x (suc (suc zero), small, e) = subst (λ (y : Literal). name y ≢ 8) e (not_eight 7 (λ h. absurd (omega (arith, h))))
+without_a (suc (suc (suc (suc (suc zero))))) le lt x (zero, small, e) =
+    subst (λ (y : Literal). name y ≢ 8) e (not_eight 10 (λ h. absurd (omega (arith, h))))
+without_a (suc (suc (suc (suc (suc zero))))) le lt x (suc zero, small, e) =
+    subst (λ (y : Literal). name y ≢ 8) e (not_eight 11 (λ h. absurd (omega (arith, h))))
+without_a (suc (suc (suc (suc (suc zero))))) le lt x (suc (suc zero), small, e) =
+    subst (λ (y : Literal). name y ≢ 8) e (not_eight 7 (λ h. absurd (omega (arith, h))))
 without_a (suc (suc (suc (suc (suc zero))))) le lt x (suc (suc (suc i)), small, e) = absurd (omega (arith, small))
 without_a (suc (suc (suc (suc (suc (suc s)))))) le lt x i = absurd (omega (arith, lt))
 
@@ -121,11 +167,14 @@ met_small k _ (of_reason q r p le m e f) = f.0
 
 -- so a is not met
 met_other : (p : ℕ) → IsMet fixed_row 4 p → p ≢ 2
-met_other _ (of_clash p f) is = without_a 5 (omega arith) (omega arith) (literal_at fixed_row.table (lit_complement (held_at fixed_row p))) f.1.there (omega (arith, is, name_of p f.0))
+met_other _ (of_clash p f) is =
+    without_a 5 (omega arith) (omega arith) (literal_at fixed_row.table (lit_complement (held_at fixed_row p)))
+    f.1.there (omega (arith, is, name_of p f.0))
 met_other _ (of_reason q r p le m e f) is =
     let small = met_small 4 q m in
     let next = late_reason q r le small e in
-    without_a r (omega (arith, next, le)) (omega (arith, next, small)) (literal_at fixed_row.table (lit_complement (held_at fixed_row p))) f.1.there (omega (arith, is, name_of p f.0))
+    without_a r (omega (arith, next, le)) (omega (arith, next, small))
+    (literal_at fixed_row.table (lit_complement (held_at fixed_row p))) f.1.there (omega (arith, is, name_of p f.0))
 
 -- levels by place
 level_high : (p : ℕ) → 2 ≤ p → p < 6 → level_at fixed_row p ≡ 1
@@ -160,7 +209,8 @@ below : (n : ℕ) → n < 7 → n < 7
 below n h = h
 
 -- of whose literals the numbers are low
-low_names : (s : ℕ) → s < 2 → (x : Literal) → Contains (literals_in fixed_row.table fixed_row.log (step_of s)) x → name x < 7
+low_names : (s : ℕ) → s < 2 → (x : Literal) → Contains (literals_in fixed_row.table fixed_row.log (step_of s)) x
+    → name x < 7
 unfolding literal_of
 low_names zero lt x (zero, small, e) = subst (λ (y : Literal). name y < 7) e (below 0 (omega arith))
 low_names zero lt x (suc i, small, e) = absurd (omega (arith, small))
@@ -174,7 +224,8 @@ dropped_low : (p : ℕ) → IsDropped fixed_row 4 p → p < 2
 dropped_low _ (of_point p lt m e) = of_zero p (met_small 4 p m) e
 dropped_low _ (of_dropped q r p d e f) =
     let small = dropped_low q d in
-    let n = low_names r (omega (arith, small, early_reason q r small e)) (literal_at fixed_row.table (lit_complement (held_at fixed_row p))) f.1.there in
+    let n = low_names r (omega (arith, small, early_reason q r small e))
+    (literal_at fixed_row.table (lit_complement (held_at fixed_row p))) f.1.there in
     omega (arith, n, name_of p f.0)
 
 -- the premises are the conflict, the reasons of d and c, and those of e and g
@@ -188,10 +239,27 @@ e_dropped = of_point 1 (omega arith) (of_clash 1 e_false) refl
 -- each is used
 is_used : (s : StepId) → Contains steps s → IsUsed fixed_row 4 s
 is_used s (zero, lt, e) = inl (sym e)
-is_used s (suc zero, lt, e) = inr (inl (record { place = 5; replaced = omega arith; met = of_clash 5 d_false; reason = ap (λ (x : StepId). Some x.0) e }))
-is_used s (suc (suc zero), lt, e) = inr (inl (record { place = 4; replaced = omega arith; met = of_clash 4 c_false; reason = ap (λ (x : StepId). Some x.0) e }))
-is_used s (suc (suc (suc zero)), lt, e) = inr (inr (record { place = 1; dropped = e_dropped; reason = ap (λ (x : StepId). Some x.0) e }))
-is_used s (suc (suc (suc (suc zero))), lt, e) = inr (inr (record { place = 0; dropped = of_dropped 1 1 0 e_dropped refl g_false; reason = ap (λ (x : StepId). Some x.0) e }))
+is_used s (suc zero, lt, e) = inr (inl (record {
+  place = 5;
+  replaced = omega arith;
+  met = of_clash 5 d_false;
+  reason = ap (λ (x : StepId). Some x.0) e;
+}))
+is_used s (suc (suc zero), lt, e) =
+    inr (inl (record {
+      place = 4;
+      replaced = omega arith;
+      met = of_clash 4 c_false;
+      reason = ap (λ (x : StepId). Some x.0) e;
+    }))
+is_used s (suc (suc (suc zero)), lt, e) =
+    inr (inr (record { place = 1; dropped = e_dropped; reason = ap (λ (x : StepId). Some x.0) e }))
+is_used s (suc (suc (suc (suc zero))), lt, e) =
+    inr (inr (record {
+      place = 0;
+      dropped = of_dropped 1 1 0 e_dropped refl g_false;
+      reason = ap (λ (x : StepId). Some x.0) e;
+    }))
 is_used s (suc (suc (suc (suc (suc i)))), lt, e) = absurd (omega (arith, lt))
 
 -- and no other is
@@ -240,6 +308,7 @@ b_is_learned = record {
         let second = left_is h.other h.before h.other_met (omega (arith, h.other_level)) in
         omega (arith, h.apart, first, second)
 
-    only : (m : Lit) → Contains (negative_lit 3 ∷ []) m → (p : ℕ) × (p < 4) × IsMet fixed_row 4 p × (0 < level_at fixed_row p) × (held_at fixed_row p ≡ lit_complement m)
+    only : (m : Lit) → Contains (negative_lit 3 ∷ []) m → (p : ℕ) × (p < 4) × IsMet fixed_row 4 p
+        × (0 < level_at fixed_row p) × (held_at fixed_row p ≡ lit_complement m)
     only m (zero, lt, e) = (3, omega arith, b_met 4 (omega arith), omega arith, ap lit_complement e)
     only m (suc i, lt, e) = absurd (omega (arith, lt))

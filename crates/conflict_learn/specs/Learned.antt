@@ -13,7 +13,8 @@ use Rattle.conflict_learn.specs.Conflicts.{Conflict, IsFalseAt, IsConflictLevel,
 use Rattle.conflict_learn.specs.Points.{IsUip}
 use Rattle.conflict_learn.specs.declared.learned.Learned.{Learned}
 
--- A step by resolution that states a clause is the log's last; its premises are the conflict and reasons of literals on which that rests.
+-- A step by resolution that states a clause is the log's last; its premises are the conflict and reasons of literals on
+-- which that rests.
 pub record IsLogged (c : Conflict) (t : TableView) (new : List Logged) (clause : List Lit) (id : StepId) : Type 0 where
   -- its number is the next
   pub number : id.0 ≡ length c.log
@@ -30,7 +31,8 @@ pub record IsLogged (c : Conflict) (t : TableView) (new : List Logged) (clause :
   -- it has no other premises
   pub no_others : (s : StepId) → Contains premises s → IsPremise c s
 
--- A clause has a literal of a level, and all others are of levels from 1 on below it, of which the second number is the greatest, or 0.
+-- A clause has a literal of a level, and all others are of levels from 1 on below it, of which the second number is the
+-- greatest, or 0.
 pub record HasOneAt (v : TrailView) (clause : List Lit) (n level : ℕ) : Type 0 where
   -- the literal
   pub one : Lit

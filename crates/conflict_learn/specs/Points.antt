@@ -1,4 +1,5 @@
--- The first unique implication point of a conflict, and the clause that is learned there. Source: Zhang, Madigan, Moskewicz and Malik, ICCAD 2001.
+-- The first unique implication point of a conflict, and the clause that is learned there. Source: Zhang, Madigan,
+-- Moskewicz and Malik, ICCAD 2001.
 use Rattle.std.specs.Prelude.{◌≡◌, ◌⊎◌, ◌↔◌, ◌<◌, ◌≤◌, ℕ, List, length, get_or, Contains, Some, None}
 use Rattle.term_core.specs.declared.ids.Lit.{Lit}
 use Rattle.clause_literals.specs.Literals.{lit_complement}
@@ -19,10 +20,13 @@ level_at c p = get_or c.trail.levels p 0
 abbrev pub Falsifies : Conflict → ℕ → StepId → Type 0
 Falsifies c p s = (p < length c.trail.literals) × HasLit c.table c.log s (lit_complement (held_at c p))
 
--- A literal of the trail, by its place, makes one false of those that come up where one begins with the conflict's, and replaces each that is false by a place from one on by the others of the reason there. Of a reason these are the false ones.
+-- A literal of the trail, by its place, makes one false of those that come up where one begins with the conflict's, and
+-- replaces each that is false by a place from one on by the others of the reason there. Of a reason these are the false
+-- ones.
 pub data IsMet (c : Conflict) (from : ℕ) : ℕ → Type 0 where
   of_clash : (p : ℕ) → Falsifies c p c.clash → IsMet c from p
-  of_reason : (q r p : ℕ) → from ≤ q → IsMet c from q → get_or c.trail.reasons q None ≡ Some r → Falsifies c p (step_of r) → IsMet c from p
+  of_reason : (q r p : ℕ) → from ≤ q → IsMet c from q → get_or c.trail.reasons q None ≡ Some r
+      → Falsifies c p (step_of r) → IsMet c from p
 
 -- Of the literals that are left where all false from a place on were replaced, two or more are of a level.
 pub record HasTwo (c : Conflict) (n from : ℕ) : Type 0 where
@@ -38,7 +42,8 @@ pub record HasTwo (c : Conflict) (n from : ℕ) : Type 0 where
   pub one_level : level_at c one ≡ n
   pub other_level : level_at c other ≡ n
 
--- While two or more are of the level, the one that was assigned last is replaced: so it goes down to this place, and no further.
+-- While two or more are of the level, the one that was assigned last is replaced: so it goes down to this place, and no
+-- further.
 pub record IsPoint (c : Conflict) (n from : ℕ) : Type 0 where
   -- it is one of the trail's, or the end
   pub within : from ≤ length c.trail.literals
@@ -54,12 +59,14 @@ pub record IsLeft (c : Conflict) (from : ℕ) (clause : List Lit) : Type 0 where
   -- each that is left is there
   pub all : (p : ℕ) → p < from → IsMet c from p → 0 < level_at c p → Contains clause (lit_complement (held_at c p))
   -- and no other
-  pub only : (m : Lit) → Contains clause m → (p : ℕ) × (p < from) × IsMet c from p × (0 < level_at c p) × (held_at c p ≡ lit_complement m)
+  pub only : (m : Lit) → Contains clause m → (p : ℕ) × (p < from) × IsMet c from p × (0 < level_at c p)
+      × (held_at c p ≡ lit_complement m)
 
 -- A literal of level 0 is dropped: it makes one that is left false, or one of the reason of a dropped literal.
 pub data IsDropped (c : Conflict) (from : ℕ) : ℕ → Type 0 where
   of_point : (p : ℕ) → p < from → IsMet c from p → level_at c p ≡ 0 → IsDropped c from p
-  of_dropped : (q r p : ℕ) → IsDropped c from q → get_or c.trail.reasons q None ≡ Some r → Falsifies c p (step_of r) → IsDropped c from p
+  of_dropped : (q r p : ℕ) → IsDropped c from q → get_or c.trail.reasons q None ≡ Some r → Falsifies c p (step_of r)
+      → IsDropped c from p
 
 -- The step is the reason of a literal on the way to the point.
 pub record IsResolved (c : Conflict) (from : ℕ) (s : StepId) : Type 0 where
@@ -82,7 +89,8 @@ pub record IsOfDropped (c : Conflict) (from : ℕ) (s : StepId) : Type 0 where
 abbrev pub IsUsed : Conflict → ℕ → StepId → Type 0
 IsUsed c from s = (s ≡ c.clash) ⊎ (IsResolved c from s ⊎ IsOfDropped c from s)
 
--- A clause is the one of the first unique implication point of a conflict of a level, and follows from exactly these steps.
+-- A clause is the one of the first unique implication point of a conflict of a level, and follows from exactly these
+-- steps.
 pub record IsUip (c : Conflict) (n : ℕ) (clause : List Lit) (premises : List StepId) : Type 0 where
   -- from which place on literals were replaced
   pub from : ℕ

@@ -1,5 +1,7 @@
--- A conflict by hand: of the clauses -a b, -b c, -b d and -c -d the last is false where a is decided, and b, c and d follow. The first unique implication point is b.
-use Rattle.std.specs.Prelude.{◌≡◌, ◌<◌, ◌≤◌, ℕ, zero, suc, true, false, List, [], ◌∷◌, get_or, Contains, Some, None, refl}
+-- A conflict by hand: of the clauses -a b, -b c, -b d and -c -d the last is false where a is decided, and b, c and d
+-- follow. The first unique implication point is b.
+use Rattle.std.specs.Prelude.{◌≡◌, ◌<◌, ◌≤◌, ℕ, zero, suc, true, false, List, [], ◌∷◌, get_or, Contains, Some, None}
+use Rattle.std.specs.Prelude.{refl}
 use Rattle.std.proofs.Common.{◌+◌, inl, inr, sym, ap, subst, arith}
 use Rattle.spec_sorts.specs.Terms.{Truth, Parameter, Term, app, nil, negated}
 use Rattle.spec_sorts.specs.Literals.{Literal, literal_of}
@@ -12,7 +14,8 @@ use Rattle.proof_log.specs.declared.premises.StepId.{StepId}
 use Rattle.proof_log.specs.Logs.{Logged, stepped}
 use Rattle.proof_log.specs.Clashes.{literals_in}
 use Rattle.conflict_learn.specs.Conflicts.{Conflict, step_of}
-use Rattle.conflict_learn.specs.Points.{held_at, level_at, Falsifies, IsMet, of_clash, of_reason, HasTwo, IsDropped, of_point, of_dropped, IsUsed, IsUip}
+use Rattle.conflict_learn.specs.Points.{held_at, level_at, Falsifies, IsMet, of_clash, of_reason, HasTwo, IsDropped}
+use Rattle.conflict_learn.specs.Points.{of_point, of_dropped, IsUsed, IsUip}
 
 -- the n-th variable
 abbrev pub variable : ℕ → Term
@@ -37,9 +40,21 @@ two m n = stepped Resolution [] [] (id m ∷ id n ∷ [])
 -- the conflict
 abbrev row : Conflict
 row = record {
-  table = record { sorts = []; symbols = []; terms = variable 0 ∷ variable 1 ∷ variable 2 ∷ variable 3 ∷ negated (variable 0) ∷ negated (variable 1) ∷ negated (variable 2) ∷ negated (variable 3) ∷ [] };
+  table = record {
+    sorts = [];
+    symbols = [];
+    terms = variable 0 ∷ variable 1 ∷ variable 2 ∷ variable 3
+        ∷ negated (variable 0) ∷ negated (variable 1) ∷ negated (variable 2) ∷ negated (variable 3) ∷ [];
+  };
   log = two 4 1 ∷ two 5 2 ∷ two 5 3 ∷ two 6 7 ∷ [];
-  trail = record { literals = plus 0 ∷ plus 1 ∷ plus 2 ∷ plus 3 ∷ []; levels = 1 ∷ 1 ∷ 1 ∷ 1 ∷ []; reasons = None ∷ Some 0 ∷ Some 1 ∷ Some 2 ∷ []; vars = 4; level = 1; propagated = 0 };
+  trail = record {
+    literals = plus 0 ∷ plus 1 ∷ plus 2 ∷ plus 3 ∷ [];
+    levels = 1 ∷ 1 ∷ 1 ∷ 1 ∷ [];
+    reasons = None ∷ Some 0 ∷ Some 1 ∷ Some 2 ∷ [];
+    vars = 4;
+    level = 1;
+    propagated = 0;
+  };
   clash = step_of 3;
 }
 
@@ -76,8 +91,26 @@ goes_on : (k : ℕ) → 2 < k → k ≤ 4 → HasTwo row 1 k
 goes_on zero lt le = absurd (omega (arith, lt))
 goes_on (suc zero) lt le = absurd (omega (arith, lt))
 goes_on (suc (suc zero)) lt le = absurd (omega (arith, lt))
-goes_on (suc (suc (suc zero))) lt le = record { one = 1; other = 2; apart = omega arith; before = omega arith; one_met = b_met 3 (omega arith); other_met = of_clash 2 c_in_clash; one_level = refl; other_level = refl }
-goes_on (suc (suc (suc (suc zero)))) lt le = record { one = 2; other = 3; apart = omega arith; before = omega arith; one_met = of_clash 2 c_in_clash; other_met = of_clash 3 d_in_clash; one_level = refl; other_level = refl }
+goes_on (suc (suc (suc zero))) lt le = record {
+  one = 1;
+  other = 2;
+  apart = omega arith;
+  before = omega arith;
+  one_met = b_met 3 (omega arith);
+  other_met = of_clash 2 c_in_clash;
+  one_level = refl;
+  other_level = refl;
+}
+goes_on (suc (suc (suc (suc zero)))) lt le = record {
+  one = 2;
+  other = 3;
+  apart = omega arith;
+  before = omega arith;
+  one_met = of_clash 2 c_in_clash;
+  other_met = of_clash 3 d_in_clash;
+  one_level = refl;
+  other_level = refl;
+}
 goes_on (suc (suc (suc (suc (suc k))))) lt le = absurd (omega (arith, le))
 
 -- a number more is above 0
@@ -85,7 +118,8 @@ more : (n : ℕ) → 0 < suc n
 more n = omega arith
 
 -- but for the first step none has a
-without_a : (s : ℕ) → 0 < s → s < 4 → (x : Literal) → Contains (literals_in row.table row.log (step_of s)) x → 0 < which x
+without_a : (s : ℕ) → 0 < s → s < 4 → (x : Literal) → Contains (literals_in row.table row.log (step_of s)) x
+    → 0 < which x
 unfolding literal_of
 without_a zero up lt x i = absurd (omega (arith, up))
 without_a (suc zero) up lt x (zero, small, e) = subst (λ (y : Literal). 0 < which y) e (more 0)
@@ -123,11 +157,13 @@ met_small k _ (of_reason q r p le m e f) = f.0
 
 -- nor by the others
 met_later : (p : ℕ) → IsMet row 2 p → 0 < p
-met_later _ (of_clash p f) = not_a p (without_a 3 (omega arith) (omega arith) (literal_at row.table (lit_complement (held_at row p))) f.1.there)
+met_later _ (of_clash p f) = not_a p (without_a 3 (omega arith) (omega arith)
+    (literal_at row.table (lit_complement (held_at row p))) f.1.there)
 met_later _ (of_reason q r p le m e f) =
     let small = met_small 2 q m in
     let is = late_reason q r le small e in
-    not_a p (without_a r (omega (arith, is, le)) (omega (arith, is, small)) (literal_at row.table (lit_complement (held_at row p))) f.1.there)
+    not_a p (without_a r (omega (arith, is, le)) (omega (arith, is, small))
+    (literal_at row.table (lit_complement (held_at row p))) f.1.there)
 
 -- and nothing is dropped
 level_one : (p : ℕ) → p < 4 → level_at row p ≡ 1
@@ -149,8 +185,19 @@ steps = step_of 3 ∷ step_of 2 ∷ step_of 1 ∷ []
 -- each is used
 is_used : (s : StepId) → Contains steps s → IsUsed row 2 s
 is_used s (zero, lt, e) = inl (sym e)
-is_used s (suc zero, lt, e) = inr (inl (record { place = 3; replaced = omega arith; met = of_clash 3 d_in_clash; reason = ap (λ (x : StepId). Some x.0) e }))
-is_used s (suc (suc zero), lt, e) = inr (inl (record { place = 2; replaced = omega arith; met = of_clash 2 c_in_clash; reason = ap (λ (x : StepId). Some x.0) e }))
+is_used s (suc zero, lt, e) = inr (inl (record {
+  place = 3;
+  replaced = omega arith;
+  met = of_clash 3 d_in_clash;
+  reason = ap (λ (x : StepId). Some x.0) e;
+}))
+is_used s (suc (suc zero), lt, e) =
+    inr (inl (record {
+      place = 2;
+      replaced = omega arith;
+      met = of_clash 2 c_in_clash;
+      reason = ap (λ (x : StepId). Some x.0) e;
+    }))
 is_used s (suc (suc (suc i)), lt, e) = absurd (omega (arith, lt))
 
 -- and no other is
@@ -177,12 +224,14 @@ b_is_learned = record {
   };
   left = record {
     once = λ i j d lt small. absurd (omega (arith, lt, small));
-    all = λ p lt m up. let is : 1 ≡ p = omega (arith, lt, met_later p m) in (0, omega arith, ap (λ (q : ℕ). lit_complement (held_at row q)) is);
+    all = λ p lt m up. let is : 1 ≡ p =
+        omega (arith, lt, met_later p m) in (0, omega arith, ap (λ (q : ℕ). lit_complement (held_at row q)) is);
     only = only;
   };
   used = λ s. (is_used s, is_step s);
 }
   where
-    only : (m : Lit) → Contains (negative_lit 1 ∷ []) m → (p : ℕ) × (p < 2) × IsMet row 2 p × (0 < level_at row p) × (held_at row p ≡ lit_complement m)
+    only : (m : Lit) → Contains (negative_lit 1 ∷ []) m → (p : ℕ) × (p < 2) × IsMet row 2 p × (0 < level_at row p)
+        × (held_at row p ≡ lit_complement m)
     only m (zero, lt, e) = (1, omega arith, b_met 2 (omega arith), omega arith, ap lit_complement e)
     only m (suc i, lt, e) = absurd (omega (arith, lt))

@@ -33,7 +33,8 @@ fn meet(trail: &SatTrail, level: u64, m: Lit, seen: &mut Seen) -> Result<(), NoM
     ensures size { length seen.new.marks.items ≡ trail.now.vars }
     ensures bound { seen.new.many ≤ seen.old.many + 1 }
     ensures marks { OnOk result ((t : TableView) (ls : List Literal) (first : List Bool) → IsIn t m.term
-        → MarksVariables t ls first seen.old.marks.items → MarksVariables t (ls ++ literal_at t m ∷ []) first seen.new.marks.items) }
+        → MarksVariables t ls first seen.old.marks.items
+        → MarksVariables t (ls ++ literal_at t m ∷ []) first seen.new.marks.items) }
     ensures sorts { OnOk result ((k : ℕ) → IsBefore trail.now k seen.old.marks.items m
         → AreSorted trail.now level k seen.old → AreSorted trail.now level k seen.new) }
 {
@@ -75,7 +76,8 @@ pub(crate) fn meet_all(
     requires fits { seen.old.many + length clause.now < 2 ^ 64 }
     ensures size { length seen.new.marks.items ≡ trail.now.vars }
     ensures marks { OnOk result
-        (MarksVariables table.now (literals_of (clause_at table.now clause.now)) seen.old.marks.items seen.new.marks.items) }
+        (MarksVariables table.now (literals_of (clause_at table.now clause.now)) seen.old.marks.items
+        seen.new.marks.items) }
     ensures sorts { OnOk result ((k : ℕ) → ((m : Lit) → IsIn table.now m.term
         → Contains (literals_of (clause_at table.now clause.now)) (literal_at table.now m)
         → IsBefore trail.now k seen.old.marks.items m)

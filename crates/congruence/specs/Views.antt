@@ -12,7 +12,11 @@ mark_of s = record { held = length s.facts.held; watched = length s.facts.listed
 
 -- the literals that it holds, and the terms that it lists
 abbrev pub theory_of : ClosureView → TheoryView
-theory_of v = record { held = v.now.facts.held; watched = map (λ x. x.term) v.now.facts.listed; marks = map mark_of v.marks }
+theory_of v = record {
+  held = v.now.facts.held;
+  watched = map (λ x. x.term) v.now.facts.listed;
+  marks = map mark_of v.marks;
+}
 
 -- two terms of a table are equal by the literals that a theory holds
 abbrev pub AreEqualBy : TableView → TheoryView → TermId → TermId → Type 0

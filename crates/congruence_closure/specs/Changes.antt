@@ -1,5 +1,6 @@
 -- What calls do to the parts of a closure.
-use Rattle.std.specs.Prelude.{◌≡◌, ℕ, ◌+◌, ◌-◌, ◌<◌, ◌≤◌, ◌⊎◌, List, [], ◌∷◌, ◌++◌, Option, Some, None, length, get_or, take, Contains}
+use Rattle.std.specs.Prelude.{◌≡◌, ℕ, ◌+◌, ◌-◌, ◌<◌, ◌≤◌, ◌⊎◌, List, [], ◌∷◌, ◌++◌, Option, Some, None, length, get_or}
+use Rattle.std.specs.Prelude.{take, Contains}
 use Rattle.term_core.specs.declared.ids.TermId.{TermId}
 use Rattle.term_core.specs.declared.ids.Lit.{Lit}
 use Rattle.class_table.specs.Classes.{ClassesView, class_at, members_count, with_terms, AreSame}
@@ -67,7 +68,8 @@ parts_back p n e pending = record {
 
 -- there are no more terms than in the forest, and than now
 abbrev pub TermsFit : PartsView → ℕ → Type 0
-TermsFit p n = (length (numbers_back p n) ≤ (forest_back p n).terms) × (length (numbers_back p n) ≤ length p.now.numbers)
+TermsFit p n = (length (numbers_back p n) ≤ (forest_back p n).terms)
+    × (length (numbers_back p n) ≤ length p.now.numbers)
 
 -- What a call does that settles: facts and marks stay, and older keys do.
 pub record KeepsFacts (old new : PartsView) : Type 0 where
@@ -92,7 +94,8 @@ IsWhy f es None a b = Meet f es a b
 
 -- the places have all terms with an argument in a term's class
 abbrev pub AreClassUsers : List Application → List ℕ → TermId → List ℕ → Type 0
-AreClassUsers listed numbers t places = (i : ℕ) (a : TermId) → i < length listed → Contains (nth listed i).shape.arguments a
+AreClassUsers listed numbers t places = (i : ℕ) (a : TermId) → i < length listed
+    → Contains (nth listed i).shape.arguments a
     → a.0 < length numbers → AreSame numbers a t → Contains places i
 
 -- places were put last
@@ -113,7 +116,8 @@ IsAgainst s i = IsConflict s.facts s.edges (Sides (nth s.facts.listed i).term)
 
 -- what came of looking at a listed term
 abbrev pub HasLooked : PartsView → ℕ → PartsView → Turn → Type 0
-HasLooked old i new turns.Quiet = (new.now.left ≡ old.now.left) × (new.now.edges ≡ old.now.edges) × HasKey new.now i × IsApart new.now i
+HasLooked old i new turns.Quiet = (new.now.left ≡ old.now.left) × (new.now.edges ≡ old.now.edges) × HasKey new.now i
+    × IsApart new.now i
 HasLooked old i new turns.Joined = IsLonger old new
 HasLooked old i new (turns.Against c) = IsConflict new.now.facts new.now.edges c
 HasLooked old i new turns.Done = ⊥

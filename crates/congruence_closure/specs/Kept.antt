@@ -15,7 +15,12 @@ state_of p = record {
 
 -- what contracts see of them
 abbrev pub closure_view : Inside → PartsView
-closure_view p = record { now = state_of p; terms = p.forest.now.terms; numbers_marks = p.classes.marks; edges_marks = p.forest.marks }
+closure_view p = record {
+  now = state_of p;
+  terms = p.forest.now.terms;
+  numbers_marks = p.classes.marks;
+  edges_marks = p.forest.marks;
+}
 
 -- What the fields keep.
 pub record AreParts (p : Inside) : Type 0 where

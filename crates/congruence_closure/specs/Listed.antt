@@ -28,7 +28,8 @@ held_at held j = get_or held j no_lit
 
 -- no term is listed twice
 abbrev pub AreListedOnce : List Application → Type 0
-AreListedOnce listed = (i j : ℕ) → i < length listed → j < length listed → (nth listed i).term ≡ (nth listed j).term → i ≡ j
+AreListedOnce listed = (i j : ℕ) → i < length listed → j < length listed → (nth listed i).term ≡ (nth listed j).term
+    → i ≡ j
 
 -- a term has a place
 abbrev pub HasPlace : List Application → TermId → ℕ → Type 0

@@ -1,5 +1,6 @@
 -- What the parts of a closure keep.
-use Rattle.std.specs.Prelude.{◌≡◌, ℕ, ◌<◌, ◌≤◌, ◌⊎◌, ◌↔◌, List, [], ◌∷◌, ◌++◌, length, take, slice_index_or, All, Contains}
+use Rattle.std.specs.Prelude.{◌≡◌, ℕ, ◌<◌, ◌≤◌, ◌⊎◌, ◌↔◌, List, [], ◌∷◌, ◌++◌, length, take, slice_index_or, All}
+use Rattle.std.specs.Prelude.{Contains}
 use Rattle.term_core.specs.declared.ids.TermId.{TermId}
 use Rattle.term_core.specs.declared.ids.Lit.{Lit}
 use Rattle.class_table.specs.Classes.{class_at, AreSame}
@@ -79,7 +80,8 @@ pub record ArePresent (s : PartsState) : Type 0 where
   -- holders are listed
   pub holders : (k : ℕ) → k < length s.keys.shapes → holder_at s.keys k < length s.facts.listed
   -- arguments are below the count of terms
-  pub low : (k : ℕ) → k < length s.keys.shapes → All (λ (a : TermId). a.0 < length s.numbers) (key_at s.keys k).arguments
+  pub low : (k : ℕ) → k < length s.keys.shapes
+      → All (λ (a : TermId). a.0 < length s.numbers) (key_at s.keys k).arguments
   -- it is the present key
   pub present : (k : ℕ) → k < length s.keys.shapes → All (IsLive s.numbers) (key_at s.keys k).arguments
       → key_at s.keys k ≡ key_of s.numbers (nth s.facts.listed (holder_at s.keys k)).shape
@@ -121,7 +123,8 @@ pub record PartsFit (s : PartsState) : Type 0 where
   -- each listed term is to be looked at, or its key is there, and its sides are apart
   pub ready : (i : ℕ) → i < length s.facts.listed → IsPending s.left i ⊎ (HasKey s i × IsApart s i)
   -- what given literals state is in one class
-  pub stated : (j : ℕ) (a b : TermId) → j < s.left.given → StatesEqual s.facts (held_at s.facts.held j) a b → AreSame s.numbers a b
+  pub stated : (j : ℕ) (a b : TermId) → j < s.left.given → StatesEqual s.facts (held_at s.facts.held j) a b
+      → AreSame s.numbers a b
 
 -- Nothing is left to do, and the truth values are not linked.
 pub record IsSaturated (s : PartsState) : Type 0 where

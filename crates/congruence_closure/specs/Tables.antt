@@ -1,5 +1,6 @@
 -- Lists by the numbers of terms, which find places.
-use Rattle.std.specs.Prelude.{◌≡◌, ℕ, ◌*◌, ◌<◌, ◌≤◌, false, List, [], length, map, get_or, set, if◌then◌else◌, All, Contains, Vec}
+use Rattle.std.specs.Prelude.{◌≡◌, ℕ, ◌*◌, ◌<◌, ◌≤◌, false, List, [], length, map, get_or, set, if◌then◌else◌, All}
+use Rattle.std.specs.Prelude.{Contains, Vec}
 use Rattle.std.specs.declared.alloc.Global.{Global}
 use Rattle.term_core.specs.declared.ids.TermId.{TermId}
 use Rattle.term_core.specs.declared.ids.Lit.{Lit}
@@ -38,7 +39,8 @@ pub record IsIndexed (listed : List Application) (entries : List ℕ) (all : Lis
   -- which is its place
   pub places : (i : ℕ) → i < length listed → get_or entries (nth listed i).term.0 0 ≡ i
   -- the lists of its arguments have its place
-  pub users : (i : ℕ) (t : TermId) → i < length listed → Contains (nth listed i).shape.arguments t → Contains (get_or all t.0 []) i
+  pub users : (i : ℕ) (t : TermId) → i < length listed → Contains (nth listed i).shape.arguments t
+      → Contains (get_or all t.0 []) i
 
 -- the entries, of which that of a denied term is a place
 abbrev pub noted : List ℕ → Lit → ℕ → List ℕ
@@ -58,6 +60,7 @@ pub record AreDenials (held : List Lit) (denials : List ℕ) (capacity : ℕ) : 
   -- each is held once
   pub once : (i j : ℕ) → i < j → j < length held → held_at held i ≡ held_at held j → ⊥
   -- a denial has its place as its term's entry
-  pub places : (j : ℕ) → j < length held → (held_at held j).positive ≡ false → get_or denials (held_at held j).term.0 0 ≡ j
+  pub places : (j : ℕ) → j < length held → (held_at held j).positive ≡ false → get_or denials (held_at held j).term.0 0
+      ≡ j
   -- there is room for two literals of each term
   pub room : 2 * length denials ≤ capacity

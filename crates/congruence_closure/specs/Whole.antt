@@ -56,4 +56,5 @@ pub record ClosureFits (p : PartsView) (saturated : Bool) (marks : List ClosureM
   -- there was no more at an older mark
   pub ordered : (i j : ℕ) → i ≤ j → j < length marks → IsUpTo (extent_at marks i) (extent_at marks j)
   -- nor were there more terms
-  pub grown : (i j : ℕ) → i ≤ j → j < length marks → length (get_or p.numbers_marks i []) ≤ length (get_or p.numbers_marks j [])
+  pub grown : (i j : ℕ) → i ≤ j → j < length marks → length (get_or p.numbers_marks i [])
+      ≤ length (get_or p.numbers_marks j [])

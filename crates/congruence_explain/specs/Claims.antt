@@ -83,11 +83,13 @@ pub record IsOneEquality (t : TableView) (clause : List SignedClaim) (x y : Term
   -- its formula
   pub formula : term_claimed t one.claim ≡ equal_terms (term_at t x) (term_at t y)
 
--- What an edge between two terms says by its label, in either direction. By arguments it says that its terms are equality_claim. A held literal says
+-- What an edge between two terms says by its label, in either direction. By arguments it says that its terms are
+-- equality_claim. A held literal says
 -- so of its term and its truth value, where the edge is between these; else it says itself.
 abbrev pub says : Truths → Label → TermId → TermId → Claim
 says ts (Arguments x y) a b = Equality x y
-says ts (Held l) a b = if joins a b l.term (truth_of ts l.positive) then Equality l.term (truth_of ts l.positive) else Atom l.term
+says ts (Held l) a b = if joins a b l.term (truth_of ts l.positive) then Equality l.term (truth_of ts l.positive) else
+    Atom l.term
 
 -- what an edge says
 abbrev pub edge_says : Truths → Edge → Claim

@@ -1,5 +1,6 @@
 -- What the steps of an explanation derive.
-use Rattle.std.specs.Prelude.{◌≡◌, ℕ, ◌+◌, ◌<◌, ◌≤◌, ◌⊎◌, Bool, true, false, not, List, [], ◌∷◌, ◌++◌, map, length, drop, All, Contains, slice_index_or, slice_set}
+use Rattle.std.specs.Prelude.{◌≡◌, ℕ, ◌+◌, ◌<◌, ◌≤◌, ◌⊎◌, Bool, true, false, not, List, [], ◌∷◌, ◌++◌, map, length}
+use Rattle.std.specs.Prelude.{drop, All, Contains, slice_index_or, slice_set}
 use Rattle.spec_sorts.specs.Terms.{Term}
 use Rattle.spec_sorts.specs.Literals.{Literal, literals_of, complement}
 use Rattle.spec_proofs.specs.Resolution.{Derives as Propagates, IsWithin}
@@ -21,7 +22,8 @@ use Rattle.proof_log.specs.Clashes.{literals_in}
 use Rattle.proof_log.specs.Theories.{Derived, DerivesLemmas}
 use Rattle.congruence_explain.specs.declared.claims.Claim.TheVariants.{Equality}
 use Rattle.congruence_explain.specs.declared.claims.SignedClaim.{SignedClaim}
-use Rattle.congruence_explain.specs.Claims.{claim_as_literal, literal_claimed, equality_claim, unequal, denied, value_claim, edge_says, all_unequal}
+use Rattle.congruence_explain.specs.Claims.{claim_as_literal, literal_claimed, equality_claim, unequal, denied}
+use Rattle.congruence_explain.specs.Claims.{value_claim, edge_says, all_unequal}
 
 -- a table with a log
 abbrev pub derived : TableView → List Logged → Derived
@@ -65,7 +67,8 @@ pub record HasPut (start : Start) (old new : Derived) (clause : List Literal) (i
   -- which is the only one that came
   pub last : steps_since start new ≡ steps_since start old ++ clause ∷ []
 
--- What does not change during an explanation: the terms as they were, the terms of the truth values, and the edges, newest first.
+-- What does not change during an explanation: the terms as they were, the terms of the truth values, and the edges,
+-- newest first.
 pub record ExplanationSetting : Type 0 where
   -- the table
   pub table : TableView
@@ -78,7 +81,8 @@ pub record ExplanationSetting : Type 0 where
 abbrev pub setting : TableView → Truths → ForestState → ExplanationSetting
 setting t ts v = record { table = t; truths = ts; edges = v.edges }
 
--- What is done of an explanation: which edges are needed, the clauses that were logged, and the literals of the last clause.
+-- What is done of an explanation: which edges are needed, the clauses that were logged, and the literals of the last
+-- clause.
 pub record Notes : Type 0 where
   -- for each edge by its number whether it is needed
   pub needed : List Bool
@@ -103,10 +107,13 @@ IsNeeded needed k = slice_index_or needed k false ≡ true
 abbrev pub all_denied : TableView → List SignedClaim → List Literal
 all_denied t stated = map complement (map (claim_as_literal t) stated)
 
--- A literal is derived once what the needed ones of the k oldest edges say is, from all steps that are logged, where the last clause is denied.
+-- A literal is derived once what the needed ones of the k oldest edges say is, from all steps that are logged, where
+-- the last clause is denied.
 abbrev pub ShowsLiteral : ExplanationSetting → ℕ → Notes → Literal → Type 0
-ShowsLiteral s k n goal = (steps : List (List Literal)) (assumed : List Literal) → IsWithin n.steps steps → IsWithin (all_denied s.table n.stated) assumed
-    → ((i : ℕ) → i < k → IsNeeded n.needed i → Propagates complement steps assumed (edge_literal s i)) → Propagates complement steps assumed goal
+ShowsLiteral s k n goal = (steps : List (List Literal)) (assumed : List Literal) → IsWithin n.steps steps
+    → IsWithin (all_denied s.table n.stated) assumed
+    → ((i : ℕ) → i < k → IsNeeded n.needed i → Propagates complement steps assumed (edge_literal s i))
+    → Propagates complement steps assumed goal
 
 -- More of the k oldest edges is needed, and more is logged and stated.
 pub record NotesGrow (k : ℕ) (old new : Notes) : Type 0 where
@@ -139,9 +146,11 @@ TellsPair s old new x y = (k : ℕ) → k ≤ length s.edges → Linked (older s
 abbrev pub ShowsDenied : ExplanationSetting → ℕ → Notes → List SignedClaim → Type 0
 ShowsDenied s k n clause = All (λ m. ShowsLiteral s k n (complement (claim_as_literal s.table m))) clause
 
--- what a clause denies of terms that are linked to others, one by one, is shown, whichever of the oldest edges link them
+-- what a clause denies of terms that are linked to others, one by one, is shown, whichever of the oldest edges link
+-- them
 abbrev pub TellsClause : ExplanationSetting → Notes → Notes → List TermId → List TermId → List SignedClaim → Type 0
-TellsClause s old new xs ys clause = (k : ℕ) → k ≤ length s.edges → roots (older s.edges k) xs ≡ roots (older s.edges k) ys → NotesGrow k old new × ShowsDenied s k new clause
+TellsClause s old new xs ys clause = (k : ℕ) → k ≤ length s.edges → roots (older s.edges k) xs
+    ≡ roots (older s.edges k) ys → NotesGrow k old new × ShowsDenied s k new clause
 
 -- so it is of all that differ
 abbrev pub TellsPairs : ExplanationSetting → Notes → Notes → List TermId → List TermId → Type 0
@@ -155,13 +164,15 @@ TellsEdge s k old new = NotesGrow k old new × ShowsLiteral s k new (edge_litera
 abbrev pub decision : TableView → Truths → Lit → List (List Literal)
 decision t ts l =
     (claim_as_literal t (value_claim (truth_of ts l.positive) l.positive) ∷ [])
-    ∷ (claim_as_literal t (equality_claim l.term (truth_of ts l.positive)) ∷ claim_as_literal t (denied l) ∷ claim_as_literal t (value_claim (truth_of ts l.positive) (not l.positive)) ∷ [])
+    ∷ (claim_as_literal t (equality_claim l.term (truth_of ts l.positive)) ∷ claim_as_literal t (denied l)
+    ∷ claim_as_literal t (value_claim (truth_of ts l.positive) (not l.positive)) ∷ [])
     ∷ []
 
 -- the clauses by which `true` and `false` are not equality_claim
 abbrev pub apart : TableView → Truths → List (List Literal)
 apart t ts =
-    (claim_as_literal t (unequal ts.true_term ts.false_term) ∷ claim_as_literal t (value_claim ts.true_term false) ∷ claim_as_literal t (value_claim ts.false_term true) ∷ [])
+    (claim_as_literal t (unequal ts.true_term ts.false_term) ∷ claim_as_literal t (value_claim ts.true_term false)
+    ∷ claim_as_literal t (value_claim ts.false_term true) ∷ [])
     ∷ (claim_as_literal t (value_claim ts.true_term true) ∷ [])
     ∷ (claim_as_literal t (value_claim ts.false_term false) ∷ [])
     ∷ []
@@ -186,7 +197,8 @@ abbrev pub GoesOn : ExplanationSetting → ℕ → Notes → Notes → Type 0
 GoesOn s k old new = (goal : Literal) → Going s (k + 1) goal old → Going s k goal new
 
 -- That two terms are equality_claim is derived, where the last clause is denied, which denies held literals alone.
-pub record IsCollected (s : ExplanationSetting) (steps : List (List Literal)) (x y : TermId) (stated : List SignedClaim) : Type 0 where
+pub record IsCollected (s : ExplanationSetting) (steps : List (List Literal)) (x y : TermId)
+    (stated : List SignedClaim) : Type 0 where
   -- it is derived
   pub shown : Propagates complement steps (all_denied s.table stated) (literal_claimed s.table (Equality x y))
   -- from what is held

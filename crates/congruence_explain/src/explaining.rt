@@ -142,7 +142,8 @@ fn explained(
     requires log { IsLogOf table.old log.old }
     requires basis { IsBasis table.old truths forest.now.now facts }
     requires conflict { IsConflict facts forest.now.now.edges conflict }
-    ensures derives { DerivesLemmas (terms_listed table.old facts) (derived table.old log.old) (derived table.new log.new) }
+    ensures derives { DerivesLemmas (terms_listed table.old facts) (derived table.old log.old)
+        (derived table.new log.new) }
     ensures step { IfOk result (IsExplained (setting table.old truths forest.now.now) (derived table.new log.new)
         (others_of conflict)) }
 {

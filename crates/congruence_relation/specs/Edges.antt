@@ -30,7 +30,8 @@ pub record Meet (f : Facts) (es : List Edge) (a b : TermId) : Type 0 where
   -- and linked arguments
   pub arguments : roots es one.shape.arguments ≡ roots es other.shape.arguments
 
--- an edge's label tells why its terms are equal, where older edges stand: a held literal states it, in either direction; or they are listed terms with one head and linked arguments
+-- an edge's label tells why its terms are equal, where older edges stand: a held literal states it, in either
+-- direction; or they are listed terms with one head and linked arguments
 abbrev pub IsEdgeReason : Facts → List Edge → Edge → Label → Type 0
 IsEdgeReason f es e (Held l) = Contains f.held l × (StatesEqual f l e.a e.b ⊎ StatesEqual f l e.b e.a)
 IsEdgeReason f es e (Arguments a b) = (a ≡ e.a) × (b ≡ e.b) × Meet f es e.a e.b

@@ -1,4 +1,5 @@
--- The congruence of held literals by the numbers of terms. Source: Nelson and Oppen, Fast decision procedures based on congruence closure, JACM 1980.
+-- The congruence of held literals by the numbers of terms. Source: Nelson and Oppen, Fast decision procedures based on
+-- congruence closure, JACM 1980.
 use Rattle.std.specs.Prelude.{◌≡◌, ◌⊎◌, Bool, true, false, List, [], ◌∷◌, map, All, Contains}
 use Rattle.spec_sorts.specs.Terms.{True, False, Term, of}
 use Rattle.term_core.specs.declared.ids.TermId.{TermId}
@@ -48,7 +49,8 @@ pub record IsEquality (listed : List Application) (e a b : TermId) : Type 0 wher
   -- which says that they are equal
   pub shape : at.shape ≡ record { head = heads.Equal; arguments = a ∷ b ∷ [] }
 
--- A held literal states that two terms are equal: its term and its truth value are, and so are the sides of an equality that is held as it is.
+-- A held literal states that two terms are equal: its term and its truth value are, and so are the sides of an equality
+-- that is held as it is.
 pub data StatesEqual (f : Facts) (l : Lit) : TermId → TermId → Type 0 where
   -- its term, and its truth value
   decides : StatesEqual f l l.term (truth_of f.truths l.positive)
@@ -75,7 +77,8 @@ mutual
     -- none, and none
     none : AreCongruentIn f [] []
     -- a pair, and the rest
-    more : (a b : TermId) (xs ys : List TermId) → IsCongruentIn f a b → AreCongruentIn f xs ys → AreCongruentIn f (a ∷ xs) (b ∷ ys)
+    more : (a b : TermId) (xs ys : List TermId) → IsCongruentIn f a b → AreCongruentIn f xs ys
+        → AreCongruentIn f (a ∷ xs) (b ∷ ys)
 
 -- A held literal denies that two terms are equal.
 pub record IsDenied (f : Facts) (a b : TermId) : Type 0 where

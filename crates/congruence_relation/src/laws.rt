@@ -43,7 +43,8 @@ pub fn more_facts_keep_reasons()
 /// States that facts of a table are facts of each table that extends it, and mean the same terms and literals there.
 pub fn facts_stay_over_more_terms()
     ensures of { (t u : TableView) (f : Facts) → Extends t u → AreFactsOf t f → AreFactsOf u f }
-    ensures listed { (t u : TableView) (f : Facts) → Extends t u → AreFactsOf t f → terms_listed u f ≡ terms_listed t f }
+    ensures listed { (t u : TableView) (f : Facts) → Extends t u → AreFactsOf t f → terms_listed u f
+        ≡ terms_listed t f }
     ensures held { (t u : TableView) (f : Facts) → Extends t u → AreFactsOf t f
         → map (literal_at u) f.held ≡ map (literal_at t) f.held }
 {}

@@ -18,7 +18,8 @@ pub record ForestView : Type 0 where
   -- as it was at each mark, oldest mark first
   pub marks : List ForestState
 
--- The term that stands for all that are linked to a term. Each edge puts the root of its first term under that of its second.
+-- The term that stands for all that are linked to a term. Each edge puts the root of its first term under that of its
+-- second.
 abbrev pub root : List Edge → ℕ → ℕ
 root [] t = t
 root (e ∷ es) t = if root es t == root es e.a.0 then root es e.b.0 else root es t
@@ -27,7 +28,8 @@ root (e ∷ es) t = if root es t == root es e.a.0 then root es e.b.0 else root e
 abbrev pub Linked : List Edge → ℕ → ℕ → Type 0
 Linked es x y = root es x ≡ root es y
 
--- An edge is between two terms. Older ones link the first to its first end and its second end to the second, or the other way.
+-- An edge is between two terms. Older ones link the first to its first end and its second end to the second, or the
+-- other way.
 abbrev pub IsBetween : List Edge → Edge → ℕ → ℕ → Type 0
 IsBetween es e x y = (Linked es x e.a.0 × Linked es e.b.0 y) ⊎ (Linked es x e.b.0 × Linked es e.a.0 y)
 

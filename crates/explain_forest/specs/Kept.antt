@@ -1,5 +1,6 @@
 -- What the arrays of a forest keep of its edges.
-use Rattle.std.specs.Prelude.{◌≡◌, ◌≢◌, ℕ, suc, ◌+◌, ◌-◌, ◌<◌, ◌≤◌, ◌==◌, nat_lt, ◌&&◌, ◌⊎◌, Bool, true, false, List, [], ◌∷◌, length, reverse, take, replicate, slice_index, slice_set, All, if◌then◌else◌}
+use Rattle.std.specs.Prelude.{◌≡◌, ◌≢◌, ℕ, suc, ◌+◌, ◌-◌, ◌<◌, ◌≤◌, ◌==◌, nat_lt, ◌&&◌, ◌⊎◌, Bool, true, false, List}
+use Rattle.std.specs.Prelude.{[], ◌∷◌, length, reverse, take, replicate, slice_index, slice_set, All, if◌then◌else◌}
 use Rattle.std.specs.List.{range_with_len}
 use Rattle.explain_forest.specs.declared.types.Edge.{Edge}
 use Rattle.explain_forest.specs.declared.types.EdgeMark.{EdgeMark}

@@ -45,6 +45,8 @@ pub record AreHeldMarks (held : List Lit) (watched : List TermId) (marks : List 
   -- later marks have no fewer literals
   pub held_order : (i j : ℕ) → i ≤ j → j < length marks → (get_or marks i no_mark).held ≤ (get_or marks j no_mark).held
   -- later marks have no fewer terms
-  pub watched_order : (i j : ℕ) → i ≤ j → j < length marks → (get_or marks i no_mark).watched ≤ (get_or marks j no_mark).watched
+  pub watched_order : (i j : ℕ) → i ≤ j → j < length marks → (get_or marks i no_mark).watched
+      ≤ (get_or marks j no_mark).watched
   -- at a mark the literals were over the terms
-  pub over : (k : ℕ) → k < length marks → AreOverWatched (take (get_or marks k no_mark).held held) (take (get_or marks k no_mark).watched watched)
+  pub over : (k : ℕ) → k < length marks
+      → AreOverWatched (take (get_or marks k no_mark).held held) (take (get_or marks k no_mark).watched watched)

@@ -25,7 +25,8 @@ abbrev pub pairs_meant : TableView → List (Negation × Coeff) → List (sums.N
 pairs_meant t ps = map (pair_meant t) ps
 
 -- the same, where there are pairs
-abbrev pub pairs_option : TableView → Option (Vec (Negation × Coeff) Global) → Option (List (sums.Negation × sums.Coefficient))
+abbrev pub pairs_option : TableView → Option (Vec (Negation × Coeff) Global)
+    → Option (List (sums.Negation × sums.Coefficient))
 pairs_option t None = None
 pairs_option t (Some v) = Some (pairs_meant t v.items)
 
@@ -76,7 +77,8 @@ option_front xs None = None
 option_front xs (Some ys) = Some (xs ++ ys)
 
 -- a number is put after those that are there, or the result is its overflow; out of memory says nothing
-abbrev pub PushesBy : Negation → Coeff → Result (Unit {0}) FormStop → List (Negation × Ratio) → List (Negation × Ratio) → Type 0
+abbrev pub PushesBy : Negation → Coeff → Result (Unit {0}) FormStop → List (Negation × Ratio) → List (Negation × Ratio)
+    → Type 0
 PushesBy n (coeffs.Number k) (Ok u) old new = new ≡ old ++ (n, k) ∷ []
 PushesBy n (coeffs.Wide w) (Err (stops.Wide v)) old new = w ≡ v
 PushesBy n coeffs.Shape (Ok u) old new = new ≡ old
@@ -84,7 +86,8 @@ PushesBy n c (Err stops.Memory) old new = Unit {0}
 PushesBy n c r old new = ⊥
 
 -- the same of a pair
-abbrev pub Pushes : Negation × Coeff → Result (Unit {0}) FormStop → List (Negation × Ratio) → List (Negation × Ratio) → Type 0
+abbrev pub Pushes : Negation × Coeff → Result (Unit {0}) FormStop → List (Negation × Ratio) → List (Negation × Ratio)
+    → Type 0
 Pushes p r old new = PushesBy p.0 p.1 r old new
 
 -- the clause by its negations with their numbers

@@ -18,7 +18,12 @@ relation_meant relations.AtMostZero = sums.is_at_most
 
 -- what a negation says of the terms of a table
 abbrev pub one_meant : TableView → Negation → sums.Negation
-one_meant t n = record { relation = relation_meant n.relation; atom = term_at t n.atom; left = term_at t n.left; right = term_at t n.right }
+one_meant t n = record {
+  relation = relation_meant n.relation;
+  atom = term_at t n.atom;
+  left = term_at t n.left;
+  right = term_at t n.right;
+}
 
 -- the same, where there is one
 abbrev pub negation_meant : TableView → Option Negation → Option sums.Negation

@@ -3,7 +3,8 @@ use Rattle.std.specs.Prelude.{◌≡◌, Bool, true, List, map, All, Result, Ok,
 use Rattle.spec_text.specs.Answers.{◌>>=◌}
 use Rattle.spec_arithmetic.specs.Forms.{Answer, Form, adding, combined, scaled, difference}
 use Rattle.spec_arithmetic.specs.Contradictions as sums
-use Rattle.spec_arithmetic.specs.Contradictions.{Failure, shape, no_contradiction, wide, weight_by, without_term, sum_of, as_failure, judged_last}
+use Rattle.spec_arithmetic.specs.Contradictions.{Failure, shape, no_contradiction, wide, weight_by, without_term}
+use Rattle.spec_arithmetic.specs.Contradictions.{sum_of, as_failure, judged_last}
 use Rattle.ratio128.specs.Meant.{fraction, overflow}
 use Rattle.term_core.specs.Tables.{TableView, term_at}
 use Rattle.linear_form.specs.declared.arith_fault.ArithFault.{ArithFault}

@@ -1,5 +1,6 @@
 -- The order of a walk over the terms of which a term's form is made, and what it knows.
-use Rattle.std.specs.Prelude.{◌≡◌, ℕ, suc, ◌<◌, ◌≤◌, ◌++◌, ◌∷◌, [], List, map, length, get_or, All, Option, Some, None, Result, Ok, Err, if◌then◌else◌}
+use Rattle.std.specs.Prelude.{◌≡◌, ℕ, suc, ◌<◌, ◌≤◌, ◌++◌, ◌∷◌, [], List, map, length, get_or, All, Option, Some, None}
+use Rattle.std.specs.Prelude.{Result, Ok, Err, if◌then◌else◌}
 use Rattle.std.specs.List.{flat_map}
 use Rattle.spec_text.specs.Answers.{◌>>=◌}
 use Rattle.spec_sorts.specs.Terms.{Minus, Plus, Times, Divide, Term, app, list_of, same_term}
@@ -108,7 +109,8 @@ SlotHolds t slots j k = HeldBy t k (get_or slots j None)
 
 -- what is still used is at its place
 abbrev pub HoldsUsed : TableView → (order last : List ℕ) → List (Option KnownForm) → ℕ → Type 0
-HoldsUsed t order last slots tick = (j : ℕ) → j < length slots → tick ≤ get_or last j 0 → SlotHolds t slots j (get_or order j 0)
+HoldsUsed t order last slots tick = (j : ℕ) → j < length slots → tick ≤ get_or last j 0
+    → SlotHolds t slots j (get_or order j 0)
 
 -- all forms, or the first fault
 abbrev pub gathered : List (Result Form Fault) → Result (List Form) Fault

@@ -52,7 +52,8 @@ fn multiply(alloc: Global, left: &Form, right: &Form) -> Result<Option<Form>, Fo
 /// Multiplies forms from the left; where two of them have variables, the term itself is a variable.
 fn multiply_all(alloc: Global, id: TermId, first: Form, others: &[Form]) -> Result<Form, FormStop>
     ensures comes { (t : TableView)
-        → ReturnsMade (all_multiplied (term_at t id) (form_meant t first) (forms_meant t others.now)) result (form_meant t) }
+        → ReturnsMade (all_multiplied (term_at t id) (form_meant t first) (forms_meant t others.now)) result
+        (form_meant t) }
     ensures there { IfOk result (λ f. (t : TableView) → IsIn t id → AreVariablesOf t first → HaveVariables t others.now
         → AreVariablesOf t f) }
 {
@@ -69,7 +70,8 @@ fn multiply_all(alloc: Global, id: TermId, first: Form, others: &[Form]) -> Resu
 /// Divides a form by one that is a number other than 0; else the term itself is a variable.
 fn divide(alloc: Global, id: TermId, left: &Form, right: &Form) -> Result<Form, FormStop>
     ensures comes { (t : TableView)
-        → ReturnsMade (quotient_form (term_at t id) (form_meant t left.now) (form_meant t right.now)) result (form_meant t) }
+        → ReturnsMade (quotient_form (term_at t id) (form_meant t left.now) (form_meant t right.now)) result
+        (form_meant t) }
     ensures there { IfOk result (λ f. (t : TableView) → IsIn t id → AreVariablesOf t left.now → AreVariablesOf t f) }
 {
     if !right.is_constant() {
@@ -133,7 +135,8 @@ fn by_first(
 /// Negates a form, or subtracts one other from it.
 fn by_minus(alloc: Global, id: TermId, mut first: Form, others: &[Form]) -> Result<Form, FormStop>
     ensures comes { (t : TableView) → AreDifferent t.terms → AreVariablesOf t first → HaveVariables t others.now
-        → ReturnsMade (form_by (term_at t id) Minus (form_meant t first ∷ forms_meant t others.now)) result (form_meant t) }
+        → ReturnsMade (form_by (term_at t id) Minus (form_meant t first ∷ forms_meant t others.now)) result
+        (form_meant t) }
     ensures there { IfOk result (λ f. (t : TableView) → IsIn t id → AreVariablesOf t first → HaveVariables t others.now
         → AreVariablesOf t f) }
 {
@@ -150,7 +153,8 @@ fn by_minus(alloc: Global, id: TermId, mut first: Form, others: &[Form]) -> Resu
 /// Divides a form by one other.
 fn by_divide(alloc: Global, id: TermId, first: Form, others: &[Form]) -> Result<Form, FormStop>
     ensures comes { (t : TableView) → AreDifferent t.terms → AreVariablesOf t first → HaveVariables t others.now
-        → ReturnsMade (form_by (term_at t id) Divide (form_meant t first ∷ forms_meant t others.now)) result (form_meant t) }
+        → ReturnsMade (form_by (term_at t id) Divide (form_meant t first ∷ forms_meant t others.now)) result
+        (form_meant t) }
     ensures there { IfOk result (λ f. (t : TableView) → IsIn t id → AreVariablesOf t first → HaveVariables t others.now
         → AreVariablesOf t f) }
 {

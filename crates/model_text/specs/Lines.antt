@@ -33,7 +33,8 @@ equalities_listed k (v ∷ vs) = (32 ∷ printed (equality_tree k v)) ++ equalit
 
 -- a row up to where the next one begins
 abbrev pub row_front : TableRow → List ℕ
-row_front r = codes "(ite " ++ printed (condition_tree r.arguments) ++ codes " " ++ printed (value_tree r.value) ++ codes " "
+row_front r = codes "(ite " ++ printed (condition_tree r.arguments) ++ codes " " ++ printed (value_tree r.value)
+    ++ codes " "
 
 -- a body: the rows, the default, and what closes the rows
 abbrev pub body_text : Table → List ℕ

@@ -9,7 +9,8 @@ use Rattle.term_core.specs.Tables.{TableView}
 use Rattle.proof_log.specs.declared.premises.StepId.{StepId}
 use Rattle.proof_log.specs.declared.log_fault.LogFault.{LogFault}
 use Rattle.proof_log.specs.declared.log_fault.LogFault.TheVariants.{RuleFails, Wide, Memory}
-use Rattle.proof_log.specs.Logs.{Logged, assumed, AreStepsOf, clauses_in, inference_of, derivation_in, IsFormulaIn, IsLogOf}
+use Rattle.proof_log.specs.Logs.{Logged, assumed, AreStepsOf, clauses_in, inference_of, derivation_in, IsFormulaIn}
+use Rattle.proof_log.specs.Logs.{IsLogOf}
 
 -- A term is assumed last, under the next number.
 pub record IsAssumedLast (old : List Logged) (t : TermId) (id : StepId) (new : List Logged) : Type 0 where
@@ -39,7 +40,8 @@ pub record IsAdded (t : TableView) (old : List Logged) (l : Logged) (id : StepId
 -- whether the step follows from those before it cannot be told within the bound on numbers
 abbrev pub IsWideFrom : Derivation → Inference → Type 0
 IsWideFrom earlier («assumption» t) = ⊥
-IsWideFrom earlier (by_rule r ps arguments c) = All (λ n. n < length earlier) ps × IsWide r (map (conclusion_at earlier) ps) arguments c
+IsWideFrom earlier (by_rule r ps arguments c) = All (λ n. n < length earlier) ps
+    × IsWide r (map (conclusion_at earlier) ps) arguments c
 
 -- what a fault says of a clause: it neither follows nor is wide; it is wide; out of memory tells nothing
 abbrev pub Faults : Derivation → Inference → LogFault → Type 0

@@ -1,10 +1,12 @@
--- Logs of clauses, and what they say over a table of terms. Source: Alethe specification, proofs as lists of commands; to number them is own.
+-- Logs of clauses, and what they say over a table of terms. Source: Alethe specification, proofs as lists of commands;
+-- to number them is own.
 use Rattle.std.specs.Prelude.{ℕ, ◌<◌, List, [], ◌∷◌, length, map, All, slice_index_or}
 use Rattle.spec_numbers.specs.Fractions.{Fraction}
 use Rattle.spec_sorts.specs.WellSorted.{IsFormulaOver}
 use Rattle.spec_sorts.specs.Literals.{Clause}
 use Rattle.spec_proofs.specs.declared.Rule.{Rule}
-use Rattle.spec_derivations.specs.Derivations.{Inference, «assumption», by_rule, Derivation, IsDerivation, conclusion_at}
+use Rattle.spec_derivations.specs.Derivations.{Inference, «assumption», by_rule, Derivation, IsDerivation}
+use Rattle.spec_derivations.specs.Derivations.{conclusion_at}
 use Rattle.term_core.specs.declared.ids.TermId.{TermId}
 use Rattle.term_core.specs.Tables.{TableView, term_at, IsIn, clause_at}
 use Rattle.rule_bool.specs.Arguments.{texts_of}

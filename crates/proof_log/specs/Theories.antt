@@ -1,5 +1,6 @@
 -- What a theory holds and watches, and what its calls come to.
-use Rattle.std.specs.Prelude.{◌≡◌, ℕ, zero, suc, ◌-◌, List, [], ◌∷◌, ◌++◌, length, take, map, get_or, All, Result, Ok, Err}
+use Rattle.std.specs.Prelude.{◌≡◌, ℕ, zero, suc, ◌-◌, List, [], ◌∷◌, ◌++◌, length, take, map, get_or, All, Result, Ok}
+use Rattle.std.specs.Prelude.{Err}
 use Rattle.spec_sorts.specs.Terms.{Term}
 use Rattle.spec_sorts.specs.Literals.{Literal, literal_of}
 use Rattle.spec_sorts.specs.WellSorted.{IsWellSorted}
@@ -7,7 +8,8 @@ use Rattle.spec_sorts.specs.Subsets.{IsClosed}
 use Rattle.spec_derivations.specs.Lemmas.{IsLemma}
 use Rattle.term_core.specs.declared.ids.TermId.{TermId}
 use Rattle.term_core.specs.declared.ids.Lit.{Lit}
-use Rattle.term_core.specs.Tables.{TableView, term_at, IsIn, clause_at, literal_at, positive_literal, declared_in, Extends}
+use Rattle.term_core.specs.Tables.{TableView, term_at, IsIn, clause_at, literal_at, positive_literal, declared_in}
+use Rattle.term_core.specs.Tables.{Extends}
 use Rattle.sat_budget.specs.declared.limits.Stop.{Stop}
 use Rattle.sat_budget.specs.declared.limits.Stop.TheVariants.{Strained, Pivots}
 use Rattle.sat_budget.specs.declared.limits.Stop.TheVariants as stops
@@ -23,7 +25,8 @@ pub record Mark : Type 0 where
   -- the terms that it watched
   pub watched : ℕ
 
--- What a theory means: the literals that it holds and the terms that it watches, oldest first, and what these were at each mark, oldest mark first.
+-- What a theory means: the literals that it holds and the terms that it watches, oldest first, and what these were at
+-- each mark, oldest mark first.
 pub record TheoryView : Type 0 where
   -- the literals
   pub held : List Lit
@@ -79,7 +82,8 @@ terms_watched t v = clause_at t v.watched
 abbrev pub literals_held : TableView → TheoryView → List Literal
 literals_held t v = map (literal_at t) v.held
 
--- What a theory watches are terms over the table's symbols, with each its arguments, and what it holds are literals of atoms.
+-- What a theory watches are terms over the table's symbols, with each its arguments, and what it holds are literals of
+-- atoms.
 pub record IsTheoryOver (t : TableView) (v : TheoryView) : Type 0 where
   -- the watched terms
   pub terms : All (IsTermIn t) v.watched
@@ -95,7 +99,8 @@ pub record Derived : Type 0 where
   -- the log
   pub log : List Logged
 
--- Terms and steps came, and each step is right. They are lemmas: they rest on each other alone, and speak of terms made of these.
+-- Terms and steps came, and each step is right. They are lemmas: they rest on each other alone, and speak of terms made
+-- of these.
 pub record DerivesLemmas (ts : List Term) (old new : Derived) : Type 0 where
   -- the table has all that it had
   pub table : Extends old.table new.table
@@ -110,16 +115,20 @@ pub record DerivesLemmas (ts : List Term) (old new : Derived) : Type 0 where
   -- what came are lemmas
   pub lemmas : All (λ l. IsLemma ts (length old.log) (inference_of new.table l)) more
 
--- what a check answers of what is held and watched: that nothing is wrong with the literals, with what it changes; or a step whose
+-- what a check answers of what is held and watched: that nothing is wrong with the literals, with what it changes; or a
+-- step whose
 -- clause is false under them, and that something is; where it is stopped nothing is changed
 abbrev pub Checks : Type 0 → Type 0 → TheoryView → Derived → Result Verdict Stop → Derived → Type 0
 Checks agrees refuses v old (Ok Fine) new = agrees × DerivesLemmas (terms_watched old.table v) old new
-Checks agrees refuses v old (Ok (Clash step)) new = refuses × DerivesLemmas (terms_watched old.table v) old new × IsClash new.table new.log v.held step
+Checks agrees refuses v old (Ok (Clash step)) new = refuses × DerivesLemmas (terms_watched old.table v) old new
+    × IsClash new.table new.log v.held step
 Checks agrees refuses v old (Err stop) new = new ≡ old
 
--- what a call of a theory came to: by what it gives; where an overflow stopped it; and where the budget of exchanges did; where memory
+-- what a call of a theory came to: by what it gives; where an overflow stopped it; and where the budget of exchanges
+-- did; where memory
 -- runs out nothing is said
-abbrev pub CameTo : {A : Type 0} → Result A Stop → (came : A → Type 0) → (overflowed : Type 0) → (spent : Type 0) → Type 0
+abbrev pub CameTo : {A : Type 0} → Result A Stop → (came : A → Type 0) → (overflowed : Type 0) → (spent : Type 0)
+    → Type 0
 CameTo (Ok x) came overflowed spent = came x
 CameTo (Err (Strained s)) came overflowed spent = overflowed
 CameTo (Err (Pivots n)) came overflowed spent = spent

@@ -109,7 +109,8 @@ impl ProofLog {
     pub fn add(&mut self, table: &TermTable, step: Step) -> Result<StepId, LogFault>
         requires log { IsLogOf table.now self.old }
         requires clause { AreFormulasIn table.now step.clause }
-        ensures { AddsClause table.now self.old (stepped step.rule step.premises step.arguments step.clause) result self.new }
+        ensures { AddsClause table.now self.old (stepped step.rule step.premises step.arguments step.clause) result
+            self.new }
     {
         self.follows(table, &step)?;
         let id = StepId(self.len());

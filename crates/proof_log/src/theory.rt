@@ -115,7 +115,8 @@ pub trait Theory {
             (λ verdict. came_by self.new table.new ts (paid_after verdict n) budget.new.exchanges)
             (stopped_by self.new table.new ts n budget.new.exchanges)
             (came_by self.new table.new ts (suc n) budget.new.exchanges) }
-        ensures stops { IfErr result (StopsBy (may_overflow self.new table.new (terms_watched table.old (view self.old)))
+        ensures stops { IfErr result (StopsBy
+            (may_overflow self.new table.new (terms_watched table.old (view self.old)))
             (AreSpent (needs_more self.new table.new (terms_watched table.old (view self.old))) budget.new)) };
 
     /// Marks what it holds and watches.

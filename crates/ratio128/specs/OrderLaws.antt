@@ -1,7 +1,8 @@
 -- The laws of the order of the code's fractions.
 use Rattle.std.proofs.Common.{◌≡◌, true, ◌&&◌, ◌==◌, pos, ◌*ℤ◌, refl, sym, ◌∙◌, ap, Equal}
 use Rattle.std.specs.Ordering.{on, as_partial_cmp, int_eq, eq_by_cmp}
-use Rattle.std.specs.Cmp.{IsTotalOrder, IsPartialOrder, Agrees, both_ways, Equal-is, tied_itself, partial_order_from_agreeing_total}
+use Rattle.std.specs.Cmp.{IsTotalOrder, IsPartialOrder, Agrees, both_ways, Equal-is, tied_itself}
+use Rattle.std.specs.Cmp.{partial_order_from_agreeing_total}
 use Rattle.std.proofs.lemmas.Cmp.{int_cmp_total}
 use Rattle.std.proofs.lemmas.Bool.Decides.{Decides-int_eq, Decides-eqb, Decides-and}
 use Rattle.spec_numbers.specs.Fractions.{Fraction, IsReduced, compare}
@@ -16,8 +17,10 @@ reduced a = record { positive = a.parts.positive; coprime = a.parts.coprime }
 pub ratio_total : IsTotalOrder (on fraction compare)
 ratio_total = record {
   antisymm = λ a b. compare-reversed (fraction a) (fraction b);
-  trans = λ a b c. compare-trans (fraction a) (fraction b) (fraction c) a.parts.positive b.parts.positive c.parts.positive;
-  congr = λ a b c e. ap (λ x. compare x (fraction c)) (compare-equal (fraction a) (fraction b) (reduced a) (reduced b) e);
+  trans = λ a b c. compare-trans (fraction a) (fraction b) (fraction c) a.parts.positive b.parts.positive
+      c.parts.positive;
+  congr = λ a b c e. ap (λ x. compare x (fraction c)) (compare-equal (fraction a) (fraction b) (reduced a)
+      (reduced b) e);
 }
 
 -- both traits compare alike
@@ -43,8 +46,10 @@ ratio_ties a b = both_ways _ _ to from
     from : eq_by_cmp (on fraction compare) a b ≡ true → (int_eq a.num b.num && (a.den == b.den)) ≡ true
     from e =
         let s = compare-equal (fraction a) (fraction b) (reduced a) (reduced b) ((Equal-is _).0 e) in
-        (Decides-and _ _ (Decides-int_eq a.num b.num) (Decides-eqb a.den b.den)).1 (ap (λ (x : Fraction). x.num) s, ap (λ (x : Fraction). x.den) s)
+        (Decides-and _ _ (Decides-int_eq a.num b.num) (Decides-eqb a.den b.den)).1
+        (ap (λ (x : Fraction). x.num) s, ap (λ (x : Fraction). x.den) s)
 
 -- the order is a partial one up to `==`
-pub ratio_partial : IsPartialOrder (λ a b. int_eq a.num b.num && (a.den == b.den)) (as_partial_cmp (on fraction compare))
+pub ratio_partial : IsPartialOrder (λ a b. int_eq a.num b.num && (a.den == b.den))
+    (as_partial_cmp (on fraction compare))
 ratio_partial = partial_order_from_agreeing_total (on fraction compare) ratio_total ratio_agrees ratio_ties

@@ -7,7 +7,8 @@ use Rattle.term_core.specs.declared.ids.TermId.{TermId}
 use Rattle.term_core.specs.Tables.{TableView, AreIn, clause_at}
 
 -- There is one premise, whose one literal is a disjunction of these terms.
-pub record IsDisjunctionAlone (table : TableView) (premises : List (List TermId)) (arguments : List TermId) : Type 0 where
+pub record IsDisjunctionAlone (table : TableView) (premises : List (List TermId)) (arguments : List TermId) : Type
+    0 where
   -- the premises say so
   pub same : map (clause_at table) premises ≡ (of Or (clause_at table arguments) ∷ []) ∷ []
   -- the terms are the table's

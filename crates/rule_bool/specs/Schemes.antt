@@ -77,21 +77,26 @@ IsExact P result = MatchResult result (λ _. P) (λ _. P → ⊥)
 
 -- a step of the rule, by the table's numbers, is right
 abbrev pub IsRightIn : TableView → Rule → List (List TermId) → Trees → List TermId → Type 0
-IsRightIn table rule premises arguments clause = IsRight rule (map (clause_at table) premises) arguments (clause_at table clause)
+IsRightIn table rule premises arguments clause =
+    IsRight rule (map (clause_at table) premises) arguments (clause_at table clause)
 
 -- whether it is cannot be told within the bound on numbers
 abbrev pub IsWideIn : TableView → Rule → List (List TermId) → Trees → List TermId → Type 0
-IsWideIn table rule premises arguments clause = IsWide rule (map (clause_at table) premises) arguments (clause_at table clause)
+IsWideIn table rule premises arguments clause =
+    IsWide rule (map (clause_at table) premises) arguments (clause_at table clause)
 
 -- a success exactly where the step is right, whatever its arguments are
 abbrev pub JudgesRule : TableView → Rule → List (List TermId) → List TermId → Result (Unit {0}) RuleFails → Type 0
-JudgesRule table rule premises clause result = (arguments : Trees) → IsExact (IsRightIn table rule premises arguments clause) result
+JudgesRule table rule premises clause result = (arguments : Trees)
+    → IsExact (IsRightIn table rule premises arguments clause) result
 
 -- a success only where the step is right; it fails where it is not, and is wide where this cannot be told
-abbrev pub JudgesOrStops : TableView → Rule → List (List TermId) → Trees → List TermId → Result (Unit {0}) RuleStop → Type 0
+abbrev pub JudgesOrStops : TableView → Rule → List (List TermId) → Trees → List TermId → Result (Unit {0}) RuleStop
+    → Type 0
 JudgesOrStops table rule premises arguments clause result =
     MatchResult result (λ _. IsRightIn table rule premises arguments clause)
-    (λ stop. StopsRule stop (IsRightIn table rule premises arguments clause) (IsWideIn table rule premises arguments clause))
+    (λ stop. StopsRule stop (IsRightIn table rule premises arguments clause)
+    (IsWideIn table rule premises arguments clause))
 
 -- the rules of that kind state no scheme's clauses
 abbrev pub states_nothing : Kind → Type 0

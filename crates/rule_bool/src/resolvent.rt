@@ -51,7 +51,8 @@ pub fn resolution(
     requires clause { AreIn table.now clause.now }
     ensures { MatchResult result
         (λ _. IsResolvent (map (clause_at table.now) premises.now) (clause_at table.now clause.now))
-        (λ stop. StopsRule stop (IsResolvent (map (clause_at table.now) premises.now) (clause_at table.now clause.now)) ⊥) }
+        (λ stop. StopsRule stop (IsResolvent (map (clause_at table.now) premises.now) (clause_at table.now clause.now))
+        ⊥) }
 {
     let found = premises_of(alloc, table, premises)?;
     let wanted = literals_of(alloc, table, clause)?;

@@ -16,8 +16,10 @@ abbrev pub IsExactly : Type 0 → Result (Unit {0}) RuleFails → Type 0
 IsExactly P result = MatchResult result (λ _. P) (λ _. P → ⊥)
 
 -- a success exactly where the step is right
-abbrev pub JudgesEquality : TableView → EqualityRule → List (List TermId) → List TermId → Result (Unit {0}) RuleFails → Type 0
-JudgesEquality table rule premises clause result = IsExactly (IsEquating rule (map (clause_at table) premises) (clause_at table clause)) result
+abbrev pub JudgesEquality : TableView → EqualityRule → List (List TermId) → List TermId → Result (Unit {0}) RuleFails
+    → Type 0
+JudgesEquality table rule premises clause result =
+    IsExactly (IsEquating rule (map (clause_at table) premises) (clause_at table clause)) result
 
 -- The clause ends in an equality of two terms, with literals before it, by numbers.
 pub record IsEqualEnding (table : TableView) (clause : Clause) (e : Ending) : Type 0 where
@@ -39,11 +41,13 @@ pub record IsDeniedEnding (table : TableView) (clause : Clause) (e : Ending) : T
 
 -- the two last terms of an ending have one head and arguments that its literals join
 abbrev pub IsLike : TableView → Ending → Type 0
-IsLike table e = HaveJoinedArguments (map denied (clause_at table e.literals.now)) (term_at table e.one) (term_at table e.other)
+IsLike table e = HaveJoinedArguments (map denied (clause_at table e.literals.now)) (term_at table e.one)
+    (term_at table e.other)
 
 -- a clause ends in an equality of formulas that its literals make congruent
 abbrev pub EndsInFormulas : Clause → Type 0
-EndsInFormulas clause = (e : EndsEqual clause) × (sort_of e.one ≡ Truth) × HaveJoinedArguments (map denied e.literals) e.one e.other
+EndsInFormulas clause = (e : EndsEqual clause) × (sort_of e.one ≡ Truth)
+    × HaveJoinedArguments (map denied e.literals) e.one e.other
 
 -- a clause ends in a negated term and one that its literals make congruent
 abbrev pub EndsInDenied : Clause → Type 0
@@ -61,6 +65,7 @@ pub record IsIteEquality (table : TableView) (e : Term) (x : IteEquality) : Type
   pub second_there : IsIn table x.second
   pub side_there : IsIn table x.side
   -- the term is so
-  pub same : e ≡ equal (of Ite (term_at table x.condition ∷ term_at table x.first ∷ term_at table x.second ∷ [])) (term_at table x.side)
+  pub same : e ≡ equal (of Ite (term_at table x.condition ∷ term_at table x.first ∷ term_at table x.second ∷ []))
+      (term_at table x.side)
   -- it is no formula
   pub sort : sort_of (term_at table x.side) ≢ Truth

@@ -13,7 +13,8 @@ use Rattle.sat_budget.specs.declared.limits.BudgetStop.TheVariants.{Spent, Memor
 abbrev pub lists : {T : Type 0} → List (Vec T Global) → List (List T)
 lists vs = map (λ v. v.items) vs
 
--- The limits of a search on conflicts and on exchanges, the clauses that it has learned, and the exchanges that it has made.
+-- The limits of a search on conflicts and on exchanges, the clauses that it has learned, and the exchanges that it has
+-- made.
 pub record BudgetView : Type 0 where
   -- how many clauses may be learned
   pub limit : ℕ
@@ -28,13 +29,16 @@ pub record BudgetView : Type 0 where
 abbrev pub no_exchange : ℕ × ℕ
 no_exchange = (0, 0)
 
--- a clause is learned last where there is room for it; it is refused where there is none, with the limit; where memory runs out, nothing changes
+-- a clause is learned last where there is room for it; it is refused where there is none, with the limit; where memory
+-- runs out, nothing changes
 abbrev pub Learns : BudgetView → List Lit → Result (Unit {0}) BudgetStop → BudgetView → Type 0
-Learns old clause (Ok _) new = (length old.learned < old.limit) × (new ≡ record old { learned = old.learned ++ clause ∷ [] })
+Learns old clause (Ok _) new = (length old.learned < old.limit)
+    × (new ≡ record old { learned = old.learned ++ clause ∷ [] })
 Learns old clause (Err (Spent n)) new = (length old.learned ≡ old.limit) × (n ≡ old.limit) × (new ≡ old)
 Learns old clause (Err Memory) new = (length old.learned < old.limit) × (new ≡ old)
 
--- an exchange is made last where there is room for it; it is refused where there is none, with the limit; where memory runs out, nothing changes
+-- an exchange is made last where there is room for it; it is refused where there is none, with the limit; where memory
+-- runs out, nothing changes
 abbrev pub Exchanges : BudgetView → ℕ × ℕ → Result (Unit {0}) BudgetStop → BudgetView → Type 0
 Exchanges old pair (Ok _) new =
     (length old.exchanges < old.pivots) × (new ≡ record old { exchanges = old.exchanges ++ pair ∷ [] })
@@ -45,7 +49,8 @@ Exchanges old pair (Err Memory) new = (length old.exchanges < old.pivots) × (ne
 abbrev pub Spends : BudgetView → BudgetView → Type 0
 Spends old new = (more : List (ℕ × ℕ)) × (new ≡ record old { exchanges = old.exchanges ++ more })
 
--- what shows a stop of a theory's call: what is to be shown of an overflow, and of the number of exchanges that is their limit; memory may run
+-- what shows a stop of a theory's call: what is to be shown of an overflow, and of the number of exchanges that is
+-- their limit; memory may run
 -- out anywhere
 abbrev pub StopsBy : (may_overflow : Strain → Type 0) → (spent : ℕ → Type 0) → Stop → Type 0
 StopsBy may_overflow spent (Strained s) = may_overflow s

@@ -40,7 +40,8 @@ pub record AreLevels (starts levels : List ℕ) (reasons : List (Option ℕ)) : 
   -- where a level starts there is no reason
   pub decided : (k : ℕ) → k < length starts → get_or reasons (get_or starts k 0) None ≡ None
   -- and nowhere else
-  pub only : (p : ℕ) → p < length reasons → get_or reasons p None ≡ None → (k : ℕ) × (k < length starts) × (get_or starts k 0 ≡ p)
+  pub only : (p : ℕ) → p < length reasons → get_or reasons p None ≡ None → (k : ℕ) × (k < length starts)
+      × (get_or starts k 0 ≡ p)
 
 -- The fields fit, and there is room for one literal and one level of each variable.
 pub record TrailFits (t : Inside) : Type 0 where
@@ -56,6 +57,7 @@ pub record TrailFits (t : Inside) : Type 0 where
   -- the levels start at literals
   pub starts_by : AreStarts t.starts.items (length t.literals.items)
   -- and the levels are as these say
-  pub leveled : AreLevels t.starts.items (by_variable t.levels.items 0 t.literals.items) (by_variable t.reasons.items None t.literals.items)
+  pub leveled : AreLevels t.starts.items (by_variable t.levels.items 0 t.literals.items)
+      (by_variable t.reasons.items None t.literals.items)
   -- no more are marked than there are
   pub marked : t.propagated ≤ length t.literals.items

@@ -1,5 +1,6 @@
 -- Trails as contracts see them, and what comes of each call.
-use Rattle.std.specs.Prelude.{◌≡◌, ◌+◌, ◌<◌, ◌≤◌, min, ℕ, Bool, true, false, List, [], ◌∷◌, ◌++◌, length, take, get_or, Contains, Option, Some, None}
+use Rattle.std.specs.Prelude.{◌≡◌, ◌+◌, ◌<◌, ◌≤◌, min, ℕ, Bool, true, false, List, [], ◌∷◌, ◌++◌, length, take, get_or}
+use Rattle.std.specs.Prelude.{Contains, Option, Some, None}
 use Rattle.std.specs.List.{AllPairs}
 use Rattle.term_core.specs.declared.ids.Lit.{Lit}
 use Rattle.clause_literals.specs.Literals.{lit_complement}
@@ -103,9 +104,11 @@ pub record IsLeveled (v : TrailView) : Type 0 where
   -- what is decided is above level 0
   pub decided : (q : ℕ) → q < length v.literals → get_or v.reasons q None ≡ None → 0 < get_or v.levels q 0
   -- and above all that is earlier
-  pub decided_above : (p q : ℕ) → p < q → q < length v.literals → get_or v.reasons q None ≡ None → get_or v.levels p 0 < get_or v.levels q 0
+  pub decided_above : (p q : ℕ) → p < q → q < length v.literals → get_or v.reasons q None ≡ None → get_or v.levels p 0
+      < get_or v.levels q 0
   -- each level above 0 has a decision
-  pub begun : (n : ℕ) → n < v.level → (p : ℕ) × (p < length v.literals) × (get_or v.reasons p None ≡ None) × (get_or v.levels p 0 ≡ n + 1)
+  pub begun : (n : ℕ) → n < v.level → (p : ℕ) × (p < length v.literals) × (get_or v.reasons p None ≡ None)
+      × (get_or v.levels p 0 ≡ n + 1)
 
 -- An earlier trail is the beginning of a later one, whose further literals are all of higher levels.
 pub record IsAbove (before after : TrailView) : Type 0 where

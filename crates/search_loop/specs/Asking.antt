@@ -1,4 +1,5 @@
--- How a theory keeps up with a search, and what a search shows that rests. Source: Nieuwenhuis, Oliveras and Tinelli, Solving SAT and SAT modulo theories, JACM 2006.
+-- How a theory keeps up with a search, and what a search shows that rests. Source: Nieuwenhuis, Oliveras and Tinelli,
+-- Solving SAT and SAT modulo theories, JACM 2006.
 use Rattle.std.specs.Prelude.{◌≡◌, ◌+◌, ◌<◌, ◌≤◌, ℕ, suc, length, take, get_or, All, Option, Some, None}
 use Rattle.term_core.specs.Tables.{TableView}
 use Rattle.sat_budget.specs.declared.limits.Stop.{Stop}
@@ -26,7 +27,8 @@ pub record KeepsUp (v : TheoryView) (trail : TrailView) : Type 0 where
   -- there is a mark for each level above 0
   pub marked : length v.marks ≡ trail.level
   -- where the level's decision stands, all before it was held
-  pub starts : (k p : ℕ) → p < length trail.literals → get_or trail.reasons p None ≡ None → get_or trail.levels p 0 ≡ k + 1 → (get_or v.marks k no_mark).held ≡ p
+  pub starts : (k p : ℕ) → p < length trail.literals → get_or trail.reasons p None ≡ None → get_or trail.levels p 0
+      ≡ k + 1 → (get_or v.marks k no_mark).held ≡ p
   -- and is
   pub reached : (p : ℕ) → p < length trail.literals → get_or trail.reasons p None ≡ None → p ≤ length v.held
   -- nothing is watched since
@@ -34,7 +36,9 @@ pub record KeepsUp (v : TheoryView) (trail : TrailView) : Type 0 where
 
 -- no mark of a theory was set at more than a later one
 abbrev pub MarksRise : TheoryView → Type 0
-MarksRise v = (j : ℕ) → suc j < length v.marks → ((get_or v.marks j no_mark).held ≤ (get_or v.marks (suc j) no_mark).held) × ((get_or v.marks j no_mark).watched ≤ (get_or v.marks (suc j) no_mark).watched)
+MarksRise v = (j : ℕ) → suc j < length v.marks
+    → ((get_or v.marks j no_mark).held ≤ (get_or v.marks (suc j) no_mark).held)
+    × ((get_or v.marks j no_mark).watched ≤ (get_or v.marks (suc j) no_mark).watched)
 
 -- A theory is asked by a search: it keeps up with its trail, and watches its terms.
 pub record IsAsked (v : TheoryView) (x : Search) : Type 0 where
@@ -86,15 +90,20 @@ pub record HasLooked (old new : SearchState) (v : TheoryView) : Type 0 where
 
 -- what a look finds: nothing follows, and the theory holds all that holds and agrees; or the clause of a step is false
 abbrev pub LookFinds : (old new : SearchState) → TheoryView → (agrees : Type 0) → Verdict → Type 0
-LookFinds old new v agrees Fine = HasLooked old new v × IsPropagated new.search.store.clauses new.search.trail.literals × (v.held ≡ new.search.trail.literals) × agrees
-LookFinds old new v agrees (Clash step) = HasLooked old new v × IsClash new.table new.search.log new.search.trail.literals step
+LookFinds old new v agrees Fine = HasLooked old new v × IsPropagated new.search.store.clauses new.search.trail.literals
+    × (v.held ≡ new.search.trail.literals) × agrees
+LookFinds old new v agrees (Clash step) = HasLooked old new v
+    × IsClash new.table new.search.log new.search.trail.literals step
 
--- what comes of a conflict: an answer is shown; or a clause is learned, for which the budget had room, and the theory keeps up
+-- what comes of a conflict: an answer is shown; or a clause is learned, for which the budget had room, and the theory
+-- keeps up
 abbrev pub ResolvesConflict : (old new : SearchState) → TheoryView → Option End → Type 0
 ResolvesConflict old new v (Some Saturated) = ⊥
 ResolvesConflict old new v (Some (Refuted step)) = ShowsAnswer old.table new.table old.search new.search (Unsat step)
-ResolvesConflict old new v (Some (Stopped reason)) = ShowsAnswer old.table new.table old.search new.search (Unknown reason)
-ResolvesConflict old new v None = HasLearned old.table new.table old.search new.search × IsAsked v new.search × (length old.search.budget.learned < old.search.budget.limit)
+ResolvesConflict old new v (Some (Stopped reason)) =
+    ShowsAnswer old.table new.table old.search new.search (Unknown reason)
+ResolvesConflict old new v None = HasLearned old.table new.table old.search new.search × IsAsked v new.search
+    × (length old.search.budget.learned < old.search.budget.limit)
 
 -- A search stopped in a theory's check: it is for the same terms, and what it has derived stands.
 pub record HasStopped (old new : SearchState) (v : TheoryView) : Type 0 where
@@ -113,4 +122,5 @@ OnStop P stop = StopsBy (λ s. P) (λ n. P) stop
 abbrev pub EndsSearch : (old new : SearchState) → (search_saturated : Type 0) → End → Type 0
 EndsSearch old new search_saturated Saturated = search_saturated × Continues old.table new.table old.search new.search
 EndsSearch old new search_saturated (Refuted step) = ShowsAnswer old.table new.table old.search new.search (Unsat step)
-EndsSearch old new search_saturated (Stopped reason) = ShowsAnswer old.table new.table old.search new.search (Unknown reason)
+EndsSearch old new search_saturated (Stopped reason) =
+    ShowsAnswer old.table new.table old.search new.search (Unknown reason)

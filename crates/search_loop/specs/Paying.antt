@@ -1,4 +1,5 @@
--- How a search pays for runs of exchanges: one for each atom of linear arithmetic that is watched, one for each that is held,
+-- How a search pays for runs of exchanges: one for each atom of linear arithmetic that is watched, one for each that is
+-- held,
 -- and for each learned clause one more than there are atoms.
 use Rattle.std.specs.Prelude.{◌≡◌, ◌+◌, ◌*◌, ◌≤◌, ℕ, List, length, map}
 use Rattle.spec_causes.specs.Counts.{arithmetic_in, most_runs}

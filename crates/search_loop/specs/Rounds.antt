@@ -6,7 +6,8 @@ use Rattle.spec_proofs.specs.declared.Rule.TheVariants.{Resolution}
 use Rattle.spec_sorts.specs.Terms.{Term}
 use Rattle.spec_derivations.specs.Problems.{Problem, terms_of_problem, known_terms}
 use Rattle.search_loop.specs.Answered.{AreAnswered}
-use Rattle.spec_derivations.specs.Derivations.{Inference, «assumption», by_rule, Derivation, inference_at, conclusion, conclusion_at, AssumesAmong, IsDerivedFrom}
+use Rattle.spec_derivations.specs.Derivations.{Inference, «assumption», by_rule, Derivation, inference_at, conclusion}
+use Rattle.spec_derivations.specs.Derivations.{conclusion_at, AssumesAmong, IsDerivedFrom}
 use Rattle.spec_derivations.specs.Base.{base_clauses}
 use Rattle.spec_derivations.specs.Orders.{whole_terms, whole_clauses}
 use Rattle.spec_derivations.specs.Lemmas.{IsLemma}
@@ -38,17 +39,21 @@ abbrev pub IsByResolution : Inference → Type 0
 IsByResolution («assumption» u) = ⊥
 IsByResolution (by_rule r ps arguments c) = r ≡ Resolution
 
--- Inferences after the first so many, and the clauses that were learned in them, oldest first. The others are lemmas of a theory, over
+-- Inferences after the first so many, and the clauses that were learned in them, oldest first. The others are lemmas of
+-- a theory, over
 -- some terms, each batch of which rests on itself alone.
 pub data AreSteps (ts : List Term) (n : ℕ) : Derivation → List (List Literal) → Type 0 where
   -- none yet
   nothing : AreSteps ts n [] []
   -- lemmas come
-  lemmas : (xs ys : Derivation) (cs : List (List Literal)) → AreSteps ts n xs cs → All (IsLemma ts (n + length xs)) ys → AreSteps ts n (xs ++ ys) cs
+  lemmas : (xs ys : Derivation) (cs : List (List Literal)) → AreSteps ts n xs cs → All (IsLemma ts (n + length xs)) ys
+      → AreSteps ts n (xs ++ ys) cs
   -- a clause is learned, by resolution
-  learning : (xs : Derivation) (x : Inference) (cs : List (List Literal)) → AreSteps ts n xs cs → IsByResolution x → AreSteps ts n (xs ++ x ∷ []) (cs ++ literals_of (conclusion x) ∷ [])
+  learning : (xs : Derivation) (x : Inference) (cs : List (List Literal)) → AreSteps ts n xs cs → IsByResolution x
+      → AreSteps ts n (xs ++ x ∷ []) (cs ++ literals_of (conclusion x) ∷ [])
 
--- The derivation states the clauses that a search of a problem begins with, all of them and no others, in as many inferences; and
+-- The derivation states the clauses that a search of a problem begins with, all of them and no others, in as many
+-- inferences; and
 -- after them each of these clauses, in order, by resolution, with lemmas of a theory in between.
 pub record HasSteps (p : Problem) (d : Derivation) (clauses : List (List Literal)) : Type 0 where
   -- the inferences of the first clauses, and those after them
@@ -141,29 +146,38 @@ pub record BeginsSearch (t : TableView) (p : Problem) (limits : Limits) (x : Sea
   -- no exchange was made
   pub unspent : x.budget.exchanges ≡ []
 
--- the clauses that a search adds to a log: those that it learned, and after them at unsat the answer's, which has no literals
+-- the clauses that a search adds to a log: those that it learned, and after them at unsat the answer's, which has no
+-- literals
 abbrev pub added_by : Answer → List (List Literal) → List (List Literal)
 added_by (Unsat step) learned = learned ++ [] ∷ []
 added_by (Sat interp) learned = learned
 added_by (Unknown reason) learned = learned
 
--- what an answer shows of a problem: tables under which its terms are true; a clause without literals that is derived from them; that an
--- operation leaves the bound on fractions; that the budget is spent at a further conflict, or where a further exchange is needed
+-- what an answer shows of a problem: tables under which its terms are true; a clause without literals that is derived
+-- from them; that an
+-- operation leaves the bound on fractions; that the budget is spent at a further conflict, or where a further exchange
+-- is needed
 abbrev pub HasEvidence : TableView → Problem → List Logged → BudgetView → Answer → Type 0
 HasEvidence t p log budget (Sat interp) = IsModel t (terms_of_problem p) interp
-HasEvidence t p log budget (Unsat step) = (stated t log step ≡ []) × IsDerivedFrom (terms_of_problem p) (derivation_in t log) step.0
+HasEvidence t p log budget (Unsat step) = (stated t log step ≡ [])
+    × IsDerivedFrom (terms_of_problem p) (derivation_in t log) step.0
 HasEvidence t p log budget (Unknown (Overflow s)) = IsOverflowed p (length budget.learned) budget.exchanges s
 HasEvidence t p log budget (Unknown (Pivots n)) = ArePivotsSpent p budget n
-HasEvidence t p log budget (Unknown (Conflicts n)) = IsConflictBudgetSpent p (derivation_in t log) budget.limit n (map (map (literal_at t)) budget.learned) × IsConflict p (derivation_in t log) (map (map (literal_at t)) budget.learned)
+HasEvidence t p log budget (Unknown (Conflicts n)) =
+    IsConflictBudgetSpent p (derivation_in t log) budget.limit n (map (map (literal_at t)) budget.learned)
+    × IsConflict p (derivation_in t log) (map (map (literal_at t)) budget.learned)
 
--- what came into a log: the clauses that a search begins with, and after them those that it added; nothing where an operation left the
+-- what came into a log: the clauses that a search begins with, and after them those that it added; nothing where an
+-- operation left the
 -- bound before it began
 abbrev pub HasLogged : Problem → Derivation → Answer → List (List Literal) → Type 0
 HasLogged p d (Unknown (Overflow s)) learned = HasSteps p d learned ⊎ ((d ≡ []) × (learned ≡ []))
 HasLogged p d a learned = HasSteps p d (added_by a learned)
 
--- What is beside each answer: the log assumes the problem's terms alone, what was learned may be, and is what the search added to the log.
-pub record IsLearning (t : TableView) (p : Problem) (log : List Logged) (a : Answer) (learned : List (List Lit)) : Type 0 where
+-- What is beside each answer: the log assumes the problem's terms alone, what was learned may be, and is what the
+-- search added to the log.
+pub record IsLearning (t : TableView) (p : Problem) (log : List Logged) (a : Answer) (learned : List (List Lit)) : Type
+    0 where
   -- the log assumes the problem's terms alone
   pub assumes : All (λ l. AssumesAmong (terms_of_problem p) (inference_of t l)) log
   -- the clauses may be learned

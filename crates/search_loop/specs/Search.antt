@@ -37,7 +37,8 @@ pub record DerivesClauses (t : TableView) (log : List Logged) (s : StoreView) : 
   -- each is one of the log's
   pub there : (k : ℕ) → k < length s.clauses → (get_or s.steps k no_step).0 < length log
   -- its clause has these literals
-  pub same : (k : ℕ) → k < length s.clauses → LiteralsMean t (get_or s.clauses k []) (clause_at t (named (logged_at log (get_or s.steps k no_step))))
+  pub same : (k : ℕ) → k < length s.clauses
+      → LiteralsMean t (get_or s.clauses k []) (clause_at t (named (logged_at log (get_or s.steps k no_step))))
 
 -- The store has the clauses of these steps.
 pub record IsStoreOf (t : TableView) (log : List Logged) (steps : List StepId) (s : StoreView) : Type 0 where
@@ -58,9 +59,11 @@ pub record IsBegun (t : TableView) (v : TrailView) : Type 0 where
 -- Where a literal was decided, propagation was quiet, and it is one of an atom.
 pub record AreDecided (atoms : List TermId) (clauses : List (List Lit)) (v : TrailView) : Type 0 where
   -- nothing followed from the clauses before it
-  pub quiet : (p : ℕ) → p < length v.literals → get_or v.reasons p None ≡ None → IsPropagated clauses (take p v.literals)
+  pub quiet : (p : ℕ) → p < length v.literals → get_or v.reasons p None ≡ None
+      → IsPropagated clauses (take p v.literals)
   -- its term is one of the atoms
-  pub of_atoms : (p : ℕ) → p < length v.literals → get_or v.reasons p None ≡ None → Contains atoms (get_or v.literals p no_lit).term
+  pub of_atoms : (p : ℕ) → p < length v.literals → get_or v.reasons p None ≡ None
+      → Contains atoms (get_or v.literals p no_lit).term
 
 -- Of some terms the atoms: those of sort Bool that are no negations.
 pub record AreAtomsAmong (t : TableView) (terms atoms : List TermId) : Type 0 where

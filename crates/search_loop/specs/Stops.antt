@@ -18,13 +18,16 @@ use Rattle.simplex_atoms.specs.TermTableauViews.{IsBasisAt}
 abbrev pub IsNoBasis : Basis → Type 0
 IsNoBasis b = (b.variables.items ≡ []) × (b.values.items ≡ [])
 
--- An operation of a search of the problem, which learned l clauses and kept these exchanges, leaves the bound, as the strain tells,
+-- An operation of a search of the problem, which learned l clauses and kept these exchanges, leaves the bound, as the
+-- strain tells,
 -- which comes with the basis and the values where it was asked for.
 pub data IsOverflowed (p : Problem) (l : ℕ) (es : List (ℕ × ℕ)) (s : Strain) : Type 0 where
   -- the form of an atom, before it begins
-  forming : l ≡ 0 → es ≡ [] → OverflowsForm (subterms_in p) (overflow s.wide) → IsNoBasis s.basis → IsOverflowed p l es s
+  forming : l ≡ 0 → es ≡ [] → OverflowsForm (subterms_in p) (overflow s.wide) → IsNoBasis s.basis
+      → IsOverflowed p l es s
   -- a clause of the orders of an equality, before there is a basis
-  ordering : l ≡ 0 → es ≡ [] → IsOverflowAmong (whole_terms p) (overflow s.wide) → IsNoBasis s.basis → IsOverflowed p l es s
+  ordering : l ≡ 0 → es ≡ [] → IsOverflowAmong (whole_terms p) (overflow s.wide) → IsNoBasis s.basis
+      → IsOverflowed p l es s
   -- an operation of simplex, where it is stopped after these exchanges, in few runs
   reckoning : (x : TermTableau) (runs : ℕ) → IsStoppedAt (whole_terms p) runs es x → AreFewRuns (whole_terms p) l runs
       → OverflowsAt (whole_terms p) x (overflow s.wide) → IsBasisAt x s.basis → IsOverflowed p l es s

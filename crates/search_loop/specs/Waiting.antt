@@ -37,7 +37,8 @@ IsDecision held v (Some l) = (l.term ≡ v) × IsUnassigned held l
 abbrev pub AreAssigned : List TermId → List Lit → Type 0
 AreAssigned atoms held = (v : TermId) → Contains atoms v → IsAssigned held v
 
--- which variables wait where a literal of an atom was chosen, and will hold; there is none where each of the atoms has a value
+-- which variables wait where a literal of an atom was chosen, and will hold; there is none where each of the atoms has
+-- a value
 abbrev pub Chooses : List TermId → List Lit → List Bool → Option Lit → Type 0
 Chooses atoms held waiting None = AreAssigned atoms held × AreWaiting atoms held waiting
 Chooses atoms held waiting (Some l) = Contains atoms l.term × AreWaiting atoms (held ++ l ∷ []) waiting

@@ -65,8 +65,10 @@ impl Search {
             (atoms_of table.old self.old) self.old.budget.exchanges
             → CameTo result (λ end. end ≡ Saturated → IsPaid
             (λ n. T.came_by theory.new table.new ts n self.new.budget.exchanges) (most table.old self.old self.new))
-            (IsPaid (λ n. T.stopped_by theory.new table.new ts n self.new.budget.exchanges) (most table.old self.old self.new))
-            (IsPaid (λ n. T.came_by theory.new table.new ts n self.new.budget.exchanges) (most table.old self.old self.new)) }
+            (IsPaid (λ n. T.stopped_by theory.new table.new ts n self.new.budget.exchanges)
+            (most table.old self.old self.new))
+            (IsPaid (λ n. T.came_by theory.new table.new ts n self.new.budget.exchanges)
+            (most table.old self.old self.new)) }
         ensures stops { IfErr result (StopsBy
             (T.may_overflow theory.new table.new (terms_watched table.new (T.view theory.new)))
             (AreSpent (T.needs_more theory.new table.new (terms_watched table.new (T.view theory.new)))

@@ -36,11 +36,13 @@ impl Search {
         ensures declared { declared_in table.new ≡ declared_in table.old }
         ensures with { IfOk result (λ _. T.goes_with theory.new table.new) }
         ensures looks { IfOk result (LookFinds (state table.old self.old) (state table.new self.new) (T.view theory.new)
-            (T.agrees theory.new (terms_watched table.new (T.view theory.new)) (literals_held table.new (T.view theory.new)))) }
+            (T.agrees theory.new (terms_watched table.new (T.view theory.new))
+            (literals_held table.new (T.view theory.new)))) }
         ensures learned { self.new.budget.learned ≡ self.old.budget.learned }
         ensures came { (ts : List Term) (n : ℕ) → T.came_by theory.old table.old ts n self.old.budget.exchanges
             → Looked (state table.old self.old) (T.view theory.old).held (T.view theory.new).held n (λ m. CameTo result
-            (λ verdict. IsPaid (λ k. T.came_by theory.new table.new ts k self.new.budget.exchanges) (paid_after verdict m))
+            (λ verdict. IsPaid (λ k. T.came_by theory.new table.new ts k self.new.budget.exchanges)
+            (paid_after verdict m))
             (T.stopped_by theory.new table.new ts m self.new.budget.exchanges)
             (T.came_by theory.new table.new ts (suc m) self.new.budget.exchanges)) }
         ensures stops { IfErr result (StopsBy

@@ -1,5 +1,6 @@
 -- How the model of a search is made: values by the numbers of terms, and tables, term after term.
-use Rattle.std.specs.Prelude.{◌≡◌, ◌≢◌, ◌<◌, ◌++◌, ◌∷◌, ℕ, false, List, [], length, get_or, map, slice_set, All, Option, Some, None}
+use Rattle.std.specs.Prelude.{◌≡◌, ◌≢◌, ◌<◌, ◌++◌, ◌∷◌, ℕ, false, List, [], length, get_or, map, slice_set, All, Option}
+use Rattle.std.specs.Prelude.{Some, None}
 use Rattle.spec_text.specs.Bytes.{Name}
 use Rattle.spec_sorts.specs.Terms.{Term, Symbol}
 use Rattle.spec_sorts.specs.Values.{Value, TableRow, Table}

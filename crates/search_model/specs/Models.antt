@@ -1,5 +1,7 @@
--- Which interpretation a search answers with: by the truths of its literals, and by the classes and numbers of its terms.
-use Rattle.std.specs.Prelude.{◌≡◌, ◌<◌, ℕ, Bool, true, ◌&&◌, List, [], ◌∷◌, length, get_or, All, Contains, slice_index_or, if◌then◌else◌}
+-- Which interpretation a search answers with: by the truths of its literals, and by the classes and numbers of its
+-- terms.
+use Rattle.std.specs.Prelude.{◌≡◌, ◌<◌, ℕ, Bool, true, ◌&&◌, List, [], ◌∷◌, length, get_or, All, Contains}
+use Rattle.std.specs.Prelude.{slice_index_or, if◌then◌else◌}
 use Rattle.std.specs.List.{list_any}
 use Rattle.spec_numbers.specs.Fractions.{Fraction, zero_fraction}
 use Rattle.spec_sorts.specs.Terms.{Number, Symbol, Apply, Term, Terms, app, list_of, sort_of, same_term}
@@ -31,12 +33,15 @@ number_in _ _ u = zero_fraction
 
 -- each argument of sort Real is listed, and its number is that of its head at its arguments' numbers
 abbrev pub TakeNumbersOf : (Term → Fraction) → List Term → Type 0
-TakeNumbersOf number terms = (s : Symbol) (ts : Terms) (u : Term) → Contains terms (app (Apply s) ts) → Contains (list_of ts) u
+TakeNumbersOf number terms = (s : Symbol) (ts : Terms) (u : Term) → Contains terms (app (Apply s) ts)
+    → Contains (list_of ts) u
     → sort_of u ≡ Number → Contains terms u × (number u ≡ number_at number u)
 
 -- the value of a listed term: its truth, its number, or the element of the number of its class
 abbrev pub values_of : TableView → List Lit → List TermId → List ℕ → List Fraction → Valuation
-values_of t held terms classes numbers = value_by (term_true_by (truths_of t held)) (number_in (clause_at t terms) numbers) (class_in (clause_at t terms) classes)
+values_of t held terms classes numbers =
+    value_by (term_true_by (truths_of t held)) (number_in (clause_at t terms) numbers)
+    (class_in (clause_at t terms) classes)
 
 -- the symbol of that number
 abbrev pub symbol_in : TableView → ℕ → Symbol
@@ -50,14 +55,17 @@ no_id = record { 0 = 0 }
 abbrev pub AreIncreasing : List TermId → Type 0
 AreIncreasing ids = (i j : ℕ) → i < j → j < length ids → (get_or ids i no_id).0 < (get_or ids j no_id).0
 
--- Each symbol has a row for each listed term with it as head, and for all other arguments false, 0 or the first element. A constant that is listed has its value alone.
-pub record IsModelOf (t : TableView) (held : List Lit) (terms : List TermId) (classes : List ℕ) (numbers : List Fraction) (interp : Interp) : Type 0 where
+-- Each symbol has a row for each listed term with it as head, and for all other arguments false, 0 or the first
+-- element. A constant that is listed has its value alone.
+pub record IsModelOf (t : TableView) (held : List Lit) (terms : List TermId) (classes : List ℕ)
+    (numbers : List Fraction) (interp : Interp) : Type 0 where
   -- there is a table for each symbol, and no other
   pub tables : length interp.tables.items ≡ length t.symbols
   -- elements are of sorts of the table
   pub named : All (IsTableNamed t.sorts) interp.tables.items
   -- it is the table by the values of the listed terms
-  pub each : (k : ℕ) → k < length t.symbols → slice_index_or (tables_meant t.sorts interp) k no_table ≡ table_of (values_of t held terms classes numbers) (symbol_in t k) (clause_at t terms)
+  pub each : (k : ℕ) → k < length t.symbols → slice_index_or (tables_meant t.sorts interp) k no_table
+      ≡ table_of (values_of t held terms classes numbers) (symbol_in t k) (clause_at t terms)
 
 -- Tables for the symbols, under which terms are true.
 pub record IsModel (t : TableView) (terms : List Term) (interp : Interp) : Type 0 where

@@ -22,7 +22,8 @@ term_tableau_of t v = term_tableau_in t v.atoms.owners v.assignment
 abbrev pub AreFew : SimplexView → (n runs : ℕ) → Type 0
 AreFew v n runs = (KeepsBounds v × (runs ≤ n)) ⊎ (runs < n)
 
--- It came of terms by exchanges: what it watches and holds is of these terms, and so is what it is on. The exchanges were made in few
+-- It came of terms by exchanges: what it watches and holds is of these terms, and so is what it is on. The exchanges
+-- were made in few
 -- runs for n.
 pub record CameBy (t : TableView) (ts : List Term) (n : ℕ) (es : List (ℕ × ℕ)) (v : SimplexView) : Type 0 where
   -- the watched terms

@@ -44,7 +44,8 @@ abbrev pub OverflowsNumberWith : Number → SimplexView → Option Delta → Ove
 OverflowsNumberWith e v None o = (t : TableView) → OverflowsValueAt e (term_tableau_of t v) o
 OverflowsNumberWith e v (Some d) o = delta_evaluated (delta_in (pair_of d)) e.fraction ≡ Err o
 
--- These are numbers of terms by which the held literals hold. Shared terms have different ones where they have different values.
+-- These are numbers of terms by which the held literals hold. Shared terms have different ones where they have
+-- different values.
 pub record HoldApart (t : TableView) (v : SimplexView) (ts shared : List Term) (xs : List Fraction) : Type 0 where
   -- the number of each term, in lowest terms
   pub number : Term → Fraction

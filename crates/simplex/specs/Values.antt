@@ -36,7 +36,8 @@ pub record IsNextSum (v : SimplexView) (id : TermId) (k : Number) (sum next : Pa
   pub is : next ≡ next_by v k sum variable
 
 -- It comes to the overflow o: the product does, or the sum with it.
-pub record OverflowsNextSum (v : SimplexView) (id : TermId) (k : Number) (sum : Pair Number) (o : Overflow) : Type 0 where
+pub record OverflowsNextSum (v : SimplexView) (id : TermId) (k : Number) (sum : Pair Number)
+    (o : Overflow) : Type 0 where
   pub variable : ℕ
   pub stands : owner_at v.atoms.owners variable ≡ Some id
   pub may_overflow : (delta_scaled k.fraction (delta_in (point_in v.assignment.values variable)) ≡ Err o)

@@ -82,7 +82,8 @@ impl Simplex {
         requires with { IsOf self.now table.old }
         requires log { IsLogOf table.old log.old }
         requires found { Found self.now outcome }
-        ensures derives { OnOk result (DerivesLemmas (terms_watched table.old self.now.theory) (derived table.old log.old)
+        ensures derives { OnOk result (DerivesLemmas (terms_watched table.old self.now.theory)
+            (derived table.old log.old)
             (derived table.new log.new)) }
         ensures clash { IfOk result (IsClash table.new log.new self.now.theory.held) }
         ensures infeasible { OnOk result (IsInfeasible (literals_held table.old self.now.theory)) }
@@ -124,7 +125,8 @@ impl Simplex {
         ensures same { self.new ≡ record self.old { assignment = self.new.assignment } }
         ensures budget { Spends budget.old budget.new }
         ensures ends { (found : Result CheckOutcome Stop) × AnswersOutcome found result
-            × EndsCheck (ranges_in self.old.bounds.held) self.old.assignment self.new.assignment budget.old budget.new found }
+            × EndsCheck (ranges_in self.old.bounds.held) self.old.assignment self.new.assignment budget.old budget.new
+            found }
         ensures checks { Checks (HaveForms (literals_held table.old self.old.theory)
             × IsFeasible (literals_held table.old self.old.theory) × KeepsBounds self.new)
             (IsInfeasible (literals_held table.old self.old.theory))
@@ -135,7 +137,8 @@ impl Simplex {
             (CameBy table.new ts (suc n) budget.new.exchanges self.new) }
         ensures stops { IfErr result (StopsBy
             (λ s. IsOverflowAt table.new (terms_watched table.old self.old.theory) s self.new)
-            (AreSpent (NeedsMore (terms_watched table.old self.old.theory) (term_tableau_of table.new self.new)) budget.new)) }
+            (AreSpent (NeedsMore (terms_watched table.old self.old.theory) (term_tableau_of table.new self.new))
+            budget.new)) }
     {
         self.literals.are_of_watched_terms();
         self.assignment.values_solve_the_rows();

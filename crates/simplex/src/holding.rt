@@ -54,7 +54,8 @@ impl Simplex {
         ensures holds { self.new.theory ≡ with_held self.old.theory lit }
         ensures atoms { self.new.atoms ≡ self.old.atoms }
         ensures assignment { self.new.assignment ≡ self.old.assignment }
-        ensures plain { slack_in self.old.atoms.slack_list lit.term ≡ None → self.new.bounds.held ≡ self.old.bounds.held }
+        ensures plain { slack_in self.old.atoms.slack_list lit.term ≡ None → self.new.bounds.held
+            ≡ self.old.bounds.held }
     {
         self.literals.are_of_watched_terms();
         self.literals.marks_are_prefixes();

@@ -72,7 +72,8 @@ impl Simplex {
         requires there { IsIn table.now id }
         ensures value { IfOk result (λ d. IsValueOf (term_tableau_of table.now self.now) (term_at table.now id)
             (pair_of d)) }
-        ensures wide { IfErr result (OnAtomOverflow (OverflowsTerm (term_tableau_of table.now self.now) (term_at table.now id))) }
+        ensures wide { IfErr result (OnAtomOverflow (OverflowsTerm (term_tableau_of table.now self.now)
+            (term_at table.now id))) }
     {
         let form = form_of(self.alloc, table, id)?;
         let variables = form.variables(self.alloc)?;

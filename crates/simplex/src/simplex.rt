@@ -114,7 +114,8 @@ impl Simplex {
 
     /// Gives what the least-variable rule says of the rows, the values and the bounds. It takes no memory.
     pub fn bland_step(&self) -> Move
-        ensures { rule.RuleSays deltas (ranges_in self.now.bounds.held) (state_of self.now.assignment) (rule_move result) }
+        ensures { rule.RuleSays deltas (ranges_in self.now.bounds.held) (state_of self.now.assignment)
+            (rule_move result) }
     {
         self.assignment.next_move(&self.bounds)
     }

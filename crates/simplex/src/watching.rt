@@ -62,7 +62,8 @@ impl Simplex {
 
     /// Counts the watched terms that have a place, and a term more.
     fn slacked_with(&self, id: TermId) -> Result<u64, Stop>
-        ensures count { IfOk result (λ n. n ≡ slack_count self.now.atoms.slack_list (self.now.theory.watched ++ id ∷ [])) }
+        ensures count { IfOk result (λ n. n ≡ slack_count self.now.atoms.slack_list (self.now.theory.watched ++ id
+            ∷ [])) }
         ensures stop { IfErr result (λ stop. stop ≡ stops.Memory) }
     {
         if self.atoms.slack(id).is_none() {

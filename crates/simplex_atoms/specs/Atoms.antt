@@ -85,7 +85,8 @@ pub record IsSlackOf (s : AtomSetting) (reach : ℕ) (id : TermId) (slack : Slac
 
 -- each place that an atom has is its place
 abbrev pub HaveSlacks : AtomSetting → ℕ → List (ℕ × Slack) → Type 0
-HaveSlacks s reach slack_list = (id : TermId) (slack : Slack) → slack_in slack_list id ≡ Some slack → IsSlackOf s reach id slack
+HaveSlacks s reach slack_list = (id : TermId) (slack : Slack) → slack_in slack_list id ≡ Some slack
+    → IsSlackOf s reach id slack
 
 -- Atoms fit a table, an assignment and bounds.
 pub record AtomsFit (t : TableView) (a : AtomsView) (b : AssignmentView) (bounds : BoundsView) : Type 0 where

@@ -7,7 +7,8 @@ use Rattle.spec_arithmetic.specs.Forms.{Form, variables_value}
 use Rattle.spec_tableaux.specs.Spaces.{as_space}
 use Rattle.spec_tableaux.specs.Rows.{Row, Solves}
 use Rattle.spec_tableaux.specs.Numbers.{Number, numbers}
-use Rattle.spec_simplex.specs.Constraints.{Relation, below, at_most, equals, at_least, above, Constraint, constraint_of, form_of}
+use Rattle.spec_simplex.specs.Constraints.{Relation, below, at_most, equals, at_least, above, Constraint, constraint_of}
+use Rattle.spec_simplex.specs.Constraints.{form_of}
 use Rattle.ratio128.specs.Meant.{fraction}
 use Rattle.term_core.specs.declared.ids.TermId.{TermId}
 use Rattle.term_core.specs.Tables.{TableView, positive_literal}
@@ -64,7 +65,8 @@ pub record IsFormOf (s : AtomSetting) (slack : Slack) (f : Form) : Type 0 where
       → Solves (as_space numbers) v s.listed → variables_value (λ u. (n u).fraction) f.variables
       ≡ (numbers.times (number_of slack.factor) (v slack.variable)).fraction
 
--- The slack variable of an atom: what it says of its form, and the variable of which the form is a multiple, but for a constant.
+-- The slack variable of an atom: what it says of its form, and the variable of which the form is a multiple, but for a
+-- constant.
 pub record HasSlackIn (s : AtomSetting) (slack : Slack) (atom : Term) : Type 0 where
   -- what the atom says
   pub constraint : Constraint

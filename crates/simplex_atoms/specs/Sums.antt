@@ -43,7 +43,8 @@ pairs_meant ps = map pair_meant ps
 abbrev pub key_meant : Key → List (Entry Number)
 key_meant key = pairs_meant key.entries.items
 
--- The key of entries: they in the order of their variables, or the opposite ones where the first of these coefficients is
+-- The key of entries: they in the order of their variables, or the opposite ones where the first of these coefficients
+-- is
 -- below 0.
 pub record IsKeyOf (es : List CodeEntry) (key : Key) : Type 0 where
   -- the entries in order

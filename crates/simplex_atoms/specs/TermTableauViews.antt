@@ -46,7 +46,8 @@ ButForMemory P (Err stops.Memory) = Unit {0}
 -- over terms with an atom of the form f, simplex comes to the new ground if it came to the old one
 abbrev pub GroundLeads : TableView → Form → Ground → Ground → Type 0
 GroundLeads t f old new = (ts : List Term) (n : ℕ) (es : List (ℕ × ℕ)) → IsFormAmong ts f
-    → IsReached ts n es (term_tableau_in t old.owners old.assignment) → IsReached ts n es (term_tableau_in t new.owners new.assignment)
+    → IsReached ts n es (term_tableau_in t old.owners old.assignment)
+    → IsReached ts n es (term_tableau_in t new.owners new.assignment)
 
 -- different numbers mean different terms, and those that variables stand for are of the table
 abbrev pub TellsOwners : TableView → List (Option TermId) → Type 0

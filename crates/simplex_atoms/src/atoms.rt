@@ -119,7 +119,8 @@ impl Atoms {
         requires there { IsIn table.now id }
         requires right { AtomsFit table.now self.old assignment.old bounds.old }
         ensures right { AtomsFit table.now self.new assignment.new bounds.new }
-        ensures grows { GroundGrows (ground_of self.old.owners assignment.old) (ground_of self.new.owners assignment.new) }
+        ensures grows { GroundGrows (ground_of self.old.owners assignment.old)
+            (ground_of self.new.owners assignment.new) }
         ensures bounds { KeepBounds bounds.old bounds.new }
         ensures watched { OnOk result (IsWatched (slack_in self.new.slack_list id)
             (constraint_of (positive_literal (term_at table.now id)))) }
@@ -128,7 +129,8 @@ impl Atoms {
         ensures same { OnErr result ((other : Number)
             → slack_in self.new.slack_list other ≡ slack_in self.old.slack_list other) }
         ensures wide { IfErr result (OnAtomOverflow (OverflowsAtom table.now self.new.owners assignment.new id)) }
-        ensures plain { constraint_of (positive_literal (term_at table.now id)) ≡ None → assignment.new ≡ assignment.old }
+        ensures plain { constraint_of (positive_literal (term_at table.now id)) ≡ None → assignment.new
+            ≡ assignment.old }
         ensures came { (ts : List Term) (n : ℕ) (es : List (ℕ × ℕ)) → Contains ts (term_at table.now id)
             → IsReached ts n es (term_tableau_in table.now self.old.owners assignment.old)
             → ButForMemory (IsReached ts n es (term_tableau_in table.now self.new.owners assignment.new)) result }

@@ -44,7 +44,8 @@ pub fn slacks_tell_values()
 pub fn kept_bounds_keep_literals()
     ensures { (s : AtomSetting) (slack : Slack) (atom : Term) → HasSlackIn s slack atom
         → (p : Point) (v : ℕ → Pair Number) → AreOwned s.table s.owners p v → Solves deltas v s.listed
-        → (l : Lit) → AreLimitsKept v (limits_by slack l) → KeepsLiteral p (record { atom = atom; positive = l.positive }) }
+        → (l : Lit) → AreLimitsKept v (limits_by slack l)
+        → KeepsLiteral p (record { atom = atom; positive = l.positive }) }
 {}
 
 /// States what the bounds are that a literal states: of the place's variable, off its bound by an infinitesimal only

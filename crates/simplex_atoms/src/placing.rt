@@ -113,8 +113,10 @@ fn add_row(
     ensures grounded { IsGrounded (ground_of owners.old.list assignment.old)
         → IsGrounded (ground_of owners.new.list assignment.new) }
     ensures there { (t : TableView) → AreOwnersIn t owners.old.list → AreOwnersIn t owners.new.list }
-    ensures is { IfOk result (IsMultiple (ground_of owners.new.list assignment.new) (entries_of entries.now) numbers.one) }
-    ensures wide { (constant : Ratio) → IfErr result (OnAtomOverflow (OverflowsEntries assignment.new constant entries.now)) }
+    ensures is { IfOk result (IsMultiple (ground_of owners.new.list assignment.new) (entries_of entries.now)
+        numbers.one) }
+    ensures wide { (constant : Ratio)
+        → IfErr result (OnAtomOverflow (OverflowsEntries assignment.new constant entries.now)) }
     ensures came { ButForMemory ((t : TableView) (f : Meant)
         → AreEntriesOf (map (owner_meant t) owners.old.list) (entries_of entries.now) f.variables
         → GroundLeads t f (ground_of owners.old.list assignment.old) (ground_of owners.new.list assignment.new)) result }

@@ -38,7 +38,8 @@ IsStopOf b stop (Pivots n) = ⊥
 IsStopOf b stop stops.Memory = Unit {0}
 
 -- what a check does to an assignment b and a budget old, by its result
-abbrev pub EndsCheck : Ranges → AssignmentView → AssignmentView → BudgetView → BudgetView → Result CheckOutcome Stop → Type 0
+abbrev pub EndsCheck : Ranges → AssignmentView → AssignmentView → BudgetView → BudgetView → Result CheckOutcome Stop
+    → Type 0
 EndsCheck ranges b c old new (Ok Fine) =
     Ran ranges (state_of b) (state_of c) old.exchanges new.exchanges × RuleSays deltas ranges (state_of c) done
 EndsCheck ranges b c old new (Ok (Conflict y)) =

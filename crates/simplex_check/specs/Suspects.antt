@@ -1,5 +1,6 @@
 -- Variables that may violate a bound.
-use Rattle.std.specs.Prelude.{◌≡◌, ◌≤◌, ◌<◌, ℕ, Bool, true, false, ◌==◌, ◌||◌, ◌⊎◌, List, [], ◌∷◌, length, take, get_or, Contains}
+use Rattle.std.specs.Prelude.{◌≡◌, ◌≤◌, ◌<◌, ℕ, Bool, true, false, ◌==◌, ◌||◌, ◌⊎◌, List, [], ◌∷◌, length, take, get_or}
+use Rattle.std.specs.Prelude.{Contains}
 use Rattle.spec_tableaux.specs.Spaces.{Pair}
 use Rattle.spec_tableaux.specs.Numbers.{Number}
 use Rattle.spec_tableaux.specs.Ranges.{value_in_range}
@@ -36,13 +37,15 @@ pub record HaveSuspects (before after : List (Pair Number)) (old new : List ℕ)
   -- what is none of them has its value
   pub noted : (z : ℕ) → (is_among z new ≡ true) ⊎ (point_in after z ≡ point_in before z)
 
--- A variable is looked at: where it is nonbasic it goes to the bound that it violates, and the others stay. What is basic and violates
+-- A variable is looked at: where it is nonbasic it goes to the bound that it violates, and the others stay. What is
+-- basic and violates
 -- a bound then is a suspect, or did so before and is not this one.
 pub record LooksAt (ranges : Ranges) (y : ℕ) (t u : AssignmentState) (old new : List ℕ) : Type 0 where
   pub nonbasic_updated : IsNonbasic t.rows y → u.point y ≡ value_in_range deltas (ranges y) (t.point y)
   pub others : (z : ℕ) → IsNonbasic t.rows z → (z == y) ≡ false → u.point z ≡ t.point z
   pub kept : (z : ℕ) → is_among z old ≡ true → is_among z new ≡ true
-  pub noted : (z : ℕ) → is_out deltas ranges u z ≡ true → (is_among z new ≡ true) ⊎ ((is_out deltas ranges t z ≡ true) × ((z == y) ≡ false))
+  pub noted : (z : ℕ) → is_out deltas ranges u z ≡ true → (is_among z new ≡ true)
+      ⊎ ((is_out deltas ranges t z ≡ true) × ((z == y) ≡ false))
 
 -- Values keep the first n bounds that are held.
 pub record KeepsFirst (n : ℕ) (held : List Bound) (vs : List (Pair Number)) : Type 0 where
@@ -53,4 +56,5 @@ pub record KeepsFirst (n : ℕ) (held : List Bound) (vs : List (Pair Number)) : 
 
 -- the variable of each bound from a place on is one of the numbers
 abbrev pub AreDue : ℕ → List Bound → List ℕ → Type 0
-AreDue from held ys = (k : ℕ) → from ≤ k → k < length held → (none : Bound) → is_among (get_or held k none).variable ys ≡ true
+AreDue from held ys = (k : ℕ) → from ≤ k → k < length held → (none : Bound) → is_among (get_or held k none).variable ys
+    ≡ true

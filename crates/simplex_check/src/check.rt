@@ -69,7 +69,8 @@ impl RealAssignment {
         requires known { bounds.now.variables ≤ self.old.tableau.variables }
         requires kept { KeepsFirst kept bounds.now.held self.old.values }
         ensures tableau { self.new.tableau ≡ self.old.tableau }
-        ensures updates_nonbasic { IfOk result (λ suspects. UpdatesNonbasic deltas (ranges_in bounds.now.held) (state_of self.old)
+        ensures updates_nonbasic { IfOk result (λ suspects. UpdatesNonbasic deltas (ranges_in bounds.now.held)
+            (state_of self.old)
             (state_of self.new) × Suspect (ranges_in bounds.now.held) (state_of self.new) suspects) }
         ensures stops { IfErr result (λ stop. StopsUpdating (ranges_in bounds.now.held) self.old self.new stop) }
     {

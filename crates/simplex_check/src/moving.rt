@@ -58,7 +58,8 @@ pub(crate) fn changes_of(
     ensures first { IfOk result (λ cs. is_changed first.variable cs.items ≡ true) }
     ensures lead { IfOk result (λ cs. Lead (point_in (map pair_of values.now))
         (moved deltas tableau.now.rows first.variable (pair_of d) (point_in (map pair_of values.now))) cs.items) }
-    ensures wide { IfErr result (OnRowOverflow (OverflowsMove (state_at tableau.now.rows (map pair_of values.now)) first.variable
+    ensures wide { IfErr result (OnRowOverflow (OverflowsMove (state_at tableau.now.rows (map pair_of values.now))
+        first.variable
         (pair_of d))) }
 {
     let mut changes = Vec::new(alloc);

@@ -32,7 +32,8 @@ range_at e r = record { lower = bound_at e r.lower; upper = bound_at e r.upper }
 
 -- where the infinitesimal is e, the values v keep the bounds of each variable
 abbrev pub KeepsAt : Number → Ranges → (ℕ → Pair Number) → Type 0
-KeepsAt e ranges v = (y : ℕ) → is_within (as_space numbers) (λ z. range_at e (ranges z)) (λ z. at_number e (v z)) y ≡ true
+KeepsAt e ranges v = (y : ℕ) → is_within (as_space numbers) (λ z. range_at e (ranges z)) (λ z. at_number e (v z)) y
+    ≡ true
 
 -- x is less than y where the infinitesimal is e, if it is less at all
 abbrev pub StaysLess : Number → Pair Number → Pair Number → Type 0

@@ -39,7 +39,8 @@ pub fn small_number(
 ) -> Result<Ratio, Wide>
     requires { Meets deltas assignment.now.tableau.rows (ranges_in bounds.now.held) (point_in assignment.now.values) }
     ensures positive { IfOk result (λ e. is_positive numbers (number_of e) ≡ true) }
-    ensures keeps { IfOk result (λ e. KeepsAt (number_of e) (ranges_in bounds.now.held) (point_in assignment.now.values)) }
+    ensures keeps { IfOk result (λ e. KeepsAt (number_of e) (ranges_in bounds.now.held)
+        (point_in assignment.now.values)) }
     ensures off { IfOk result (λ e. (y : ℕ)
         → StaysOff (number_of e) (ranges_in bounds.now.held y) (point_in assignment.now.values y)) }
     ensures apart { IfOk result (λ e. KeepsApart (number_of e) (map pair_of apart.old)) }

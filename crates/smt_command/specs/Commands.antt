@@ -8,7 +8,11 @@ use Rattle.spec_text.specs.Trees.{Tree, Trees, atom, list, none, more, offset_of
 use Rattle.spec_text.specs.Shapes.{◌>>=◌, only_tree}
 use Rattle.spec_text.specs.Answers.{Answer, refused}
 use Rattle.spec_reading.specs.Definitions.{Parts}
-use Rattle.spec_commands.specs.Commands.{Command, SetLogic, SetOption, SetInfo, DeclareSort, DefineSort, DeclareFun, DefineFun, Assert, CheckSat, Echo, Exit, Verb, sets_logic, sets_option, sets_info, declares_sort, defines_sort, declares_const, declares_fun, defines_fun, asserts, checks, echoes, exits, first_name, command_as, command_of, verb_of}
+use Rattle.spec_commands.specs.Commands.{Command, SetLogic, SetOption, SetInfo, DeclareSort, DefineSort, DeclareFun}
+use Rattle.spec_commands.specs.Commands.{DefineFun, Assert, CheckSat, Echo, Exit, Verb, sets_logic, sets_option}
+use Rattle.spec_commands.specs.Commands.{sets_info, declares_sort, defines_sort, declares_const, declares_fun}
+use Rattle.spec_commands.specs.Commands.{defines_fun, asserts, checks, echoes, exits, first_name, command_as}
+use Rattle.spec_commands.specs.Commands.{command_of, verb_of}
 use Rattle.smt_lexer.specs.declared.Refused.{Refused}
 use Rattle.smt_lexer.specs.declared.Refused.TheVariants as refusals
 use Rattle.smt_sexpr.specs.declared.sexpr.Sexpr.{Sexpr}
@@ -23,7 +27,12 @@ use Rattle.smt_command.specs.declared.reading.CommandFault.{CommandFault}
 
 -- the parts of a definition in the words of the definitions
 abbrev pub parts_view : CodeParts → Parts
-parts_view p = record { name = word_view p.name; parameters = trees_meant p.parameters; result = tree_meant p.result; body = tree_meant p.body }
+parts_view p = record {
+  name = word_view p.name;
+  parameters = trees_meant p.parameters;
+  result = tree_meant p.result;
+  body = tree_meant p.body;
+}
 
 -- a command in the words of the definitions: a constant is a function without parameters
 abbrev pub command_view : CodeCommand → Command

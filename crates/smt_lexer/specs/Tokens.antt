@@ -12,7 +12,8 @@ use Rattle.smt_lexer.specs.declared.Refusal.{Refusal}
 abbrev pub piece_from : List ℕ → ℕ → Piece
 piece_from text at = first_piece (slice_index text at) (drop (at + 1) text)
 
--- The first lexeme from an offset on is at a place, up to another place, and the others stand from there on. Before it stands nothing but white space and comments, for `lexemes_from` passes over nothing else.
+-- The first lexeme from an offset on is at a place, up to another place, and the others stand from there on. Before it
+-- stands nothing but white space and comments, for `lexemes_from` passes over nothing else.
 pub record IsFirstLexeme (text : List ℕ) (from : ℕ) (place after : Place) (x : Lexeme) : Type 0 where
   -- it is the first, and the others are those after it
   pub first : lexemes_from text from ≡ (place.offset, x) ∷ lexemes_from text after.offset
@@ -40,5 +41,7 @@ IsToken text from place after End = EndsLexemes text from place after
 
 -- the next token from a place on with the place after it, or the fault that is there before any token
 abbrev pub IsNextToken : List ℕ → Place → Result (Token × Place) Refusal → Type 0
-IsNextToken text at (Ok r) = IsToken text at.offset r.0.place r.1 r.0.kind × IsPlaceOf text r.0.place × IsPlaceOf text r.1
-IsNextToken text at (Err r) = (lexemes_from text at.offset ≡ (r.place.offset, wrong r.fault) ∷ []) × IsPlaceOf text r.place
+IsNextToken text at (Ok r) = IsToken text at.offset r.0.place r.1 r.0.kind × IsPlaceOf text r.0.place
+    × IsPlaceOf text r.1
+IsNextToken text at (Err r) = (lexemes_from text at.offset ≡ (r.place.offset, wrong r.fault) ∷ [])
+    × IsPlaceOf text r.place

@@ -32,7 +32,8 @@ pub record Delivered (text : List ℕ) (old new : SinkView) : Type 0 where
 
 -- a whole transcript of the text was written; the last says whether something was refused
 abbrev pub HasRun : Limits → Mode → List ℕ → Bool → SinkView → SinkView → Type 0
-HasRun limits mode text refused old new = (all : List ℕ) × IsTranscript limits mode text all refused × Delivered all old new
+HasRun limits mode text refused old new = (all : List ℕ) × IsTranscript limits mode text all refused
+    × Delivered all old new
 
 -- what is to be written for the commands that were run was written
 abbrev pub HasStopped : Limits → Mode → List ℕ → SinkView → SinkView → Type 0
@@ -50,7 +51,8 @@ RunsText limits mode text statuses.Memory old new = HasStopped limits mode text 
 RunsText limits mode text statuses.WriteFault old new = HasBegun limits mode text old new
 RunsText limits mode text _ old new = ⊥
 
--- how the run of a text ends, by its status: a transcript was written; or what is to be written for the commands that were run, where memory
+-- how the run of a text ends, by its status: a transcript was written; or what is to be written for the commands that
+-- were run, where memory
 -- ran out; or a prefix of that, where the sink failed and had no room for it
 abbrev pub EndsText : Limits → Mode → List ℕ → Status → SinkView → SinkView → Type 0
 EndsText limits mode text statuses.Done old new = OnTranscript limits mode text false (λ all. Delivered all old new)

@@ -7,7 +7,8 @@ use Rattle.spec_text.specs.Places.{IsPlaceOf}
 use Rattle.spec_sorts.specs.Signatures.{symbols_in}
 use Rattle.spec_commands.specs.Stack.{Stack, signature_of}
 use Rattle.spec_sessions.specs.Evidence.{Limits, Checked}
-use Rattle.spec_sessions.specs.Responses.{Mode, solve, certify, Response, success, not_supported, answered, said, ended, rejected, Answered, Answers, response_text}
+use Rattle.spec_sessions.specs.Responses.{Mode, solve, certify, Response, success, not_supported, answered, said, ended}
+use Rattle.spec_sessions.specs.Responses.{rejected, Answered, Answers, response_text}
 use Rattle.spec_sessions.specs.Meaning.{MeansAt}
 use Rattle.smt_lexer.specs.declared.Refused.{Refused}
 use Rattle.smt_lexer.specs.declared.Refused.TheVariants as refusals
@@ -50,7 +51,8 @@ IsAskedOf (answered c) s = c.check ≡ check_on s
 IsAskedOf _ s = Unit {0}
 
 -- The response of a script, to a command of a text, is this, after which the script is a stack.
-pub record IsResponseOf (x : OverTable) (text : List ℕ) (budget : BudgetView) (response : CodeResponse) (a : Answered) : Type 0 where
+pub record IsResponseOf (x : OverTable) (text : List ℕ) (budget : BudgetView) (response : CodeResponse)
+    (a : Answered) : Type 0 where
   -- it is this
   pub is : IsResponse x.table text budget response a.response
   -- a check is one of the stack
@@ -76,7 +78,8 @@ KeepsBudget (Ok (responses.Answered e)) old new = Unit {0}
 KeepsBudget _ old new = new ≡ old
 
 -- A command is answered after a stack, and the script stands for the stack after it.
-pub record AnswersCommand (limits : Limits) (s : Stack) (c : Sexpr) (response : CodeResponse) (x : OverTable) (budget : BudgetView) : Type 0 where
+pub record AnswersCommand (limits : Limits) (s : Stack) (c : Sexpr) (response : CodeResponse) (x : OverTable)
+    (budget : BudgetView) : Type 0 where
   -- what it is answered
   pub a : Answered
   -- that is so

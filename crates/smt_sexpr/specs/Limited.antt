@@ -24,7 +24,8 @@ refusal_meant r = record { offset = r.place.offset; fault = r.fault }
 
 -- a refusal of the bytes that are read is this one of the whole text
 abbrev pub CutsOff : List ℕ → Refusal → Refusal → Type 0
-CutsOff text r cut = (refusal_meant cut ≡ at_limit (is_long text) (refusal_meant r)) × (IsPlaceOf (kept text) r.place → IsPlaceOf (kept text) cut.place)
+CutsOff text r cut = (refusal_meant cut ≡ at_limit (is_long text) (refusal_meant r))
+    × (IsPlaceOf (kept text) r.place → IsPlaceOf (kept text) cut.place)
 
 -- what stops reading in n open lists: the end of the lexemes where none is open, or a fault
 abbrev pub StopsIn : (end n : ℕ) → List (ℕ × Lexeme) → Option Located → Type 0

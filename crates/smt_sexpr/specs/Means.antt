@@ -22,8 +22,10 @@ bytes_at text k at size = take size (drop (at + marks k) text)
 abbrev pub trees_within : List ℕ → ℕ → List Item → Trees
 trees_within text zero is = none
 trees_within text (suc n) [] = none
-trees_within text (suc n) (items.Atom k at size ∷ is) = more (atom at k (bytes_at text k at size)) (trees_within text n is)
-trees_within text (suc n) (items.List at end count ∷ is) = more (list at (trees_within text n (take count is)) end) (trees_within text n (drop count is))
+trees_within text (suc n) (items.Atom k at size ∷ is) =
+    more (atom at k (bytes_at text k at size)) (trees_within text n is)
+trees_within text (suc n) (items.List at end count ∷ is) =
+    more (list at (trees_within text n (take count is)) end) (trees_within text n (drop count is))
 
 -- the trees that the items mean in a text
 unfoldable pub trees_in : List ℕ → List Item → Trees

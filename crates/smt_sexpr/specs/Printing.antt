@@ -1,5 +1,6 @@
 -- What is written of each token of an s-expression.
-use Rattle.std.specs.Prelude.{◌≡◌, ◌<◌, ◌⊎◌, ℕ, Option, Some, None, Bool, true, false, List, [], ◌∷◌, ◌++◌, if◌then◌else◌}
+use Rattle.std.specs.Prelude.{◌≡◌, ◌<◌, ◌⊎◌, ℕ, Option, Some, None, Bool, true, false, List, [], ◌∷◌, ◌++◌}
+use Rattle.std.specs.Prelude.{if◌then◌else◌}
 use Rattle.spec_text.specs.declared.Place.{Place}
 use Rattle.spec_text.specs.declared.Fault.{Fault}
 use Rattle.spec_text.specs.Places.{IsPlaceOf}
@@ -33,11 +34,13 @@ wants_space End = false
 
 -- from an offset on stands no token: the text ends, or a fault is there
 abbrev pub HasNoToken : List ℕ → ℕ → Type 0
-HasNoToken text from = (lexemes_from text from ≡ []) ⊎ ((at : ℕ) × (f : Fault) × (lexemes_from text from ≡ (at, wrong f) ∷ []))
+HasNoToken text from = (lexemes_from text from ≡ [])
+    ⊎ ((at : ℕ) × (f : Fault) × (lexemes_from text from ≡ (at, wrong f) ∷ []))
 
 -- the next token from a place on, and the place after it, where there is one
 abbrev pub IsTokenAt : List ℕ → Place → Option (TokenKind × Place) → Type 0
-IsTokenAt text place (Some x) = (at : Place) × IsToken text place.offset at x.1 x.0 × (place.offset < x.1.offset) × IsPlaceOf text x.1
+IsTokenAt text place (Some x) = (at : Place) × IsToken text place.offset at x.1 x.0 × (place.offset < x.1.offset)
+    × IsPlaceOf text x.1
 IsTokenAt text place None = HasNoToken text place.offset
 
 -- the offset of the last token of a tree

@@ -58,7 +58,8 @@ pub record Closes (text : List ℕ) (from : Place) (n : ℕ) (after : Place) : T
 
 -- in n open lists the lexemes have a fault before a whole tree and before the end of a list, at this place
 abbrev pub Breaks : List ℕ → ℕ → List (ℕ × Lexeme) → Refusal → Type 0
-Breaks text n xs r = IsBroken (length text) n xs (record { offset = r.place.offset; fault = r.fault }) × IsPlaceOf text r.place
+Breaks text n xs r = IsBroken (length text) n xs (record { offset = r.place.offset; fault = r.fault })
+    × IsPlaceOf text r.place
 
 -- an s-expression, or the end of the innermost open list, or nothing but white space and comments, or a fault
 abbrev pub ReadsNext : List ℕ → Place → ℕ → Result NextSexpr Refused → Type 0
@@ -83,6 +84,8 @@ pub record BeginsWith (text : List ℕ) (n : ℕ) (xs : List (ℕ × Lexeme)) (i
 
 -- a list that began at an offset, and was read up to a place, comes to its end, or a fault is before
 abbrev pub ReadsList : List ℕ → ℕ → ℕ → Place → Result (Vec Item Global × Place) Refused → Type 0
-ReadsList text n start behind (Ok x) = BeginsWith text n ((start, opens) ∷ lexemes_from text behind.offset) x.0.items x.1 × (behind.offset < x.1.offset)
-ReadsList text n start behind (Err (refused.Fault r)) = Breaks text n ((start, opens) ∷ lexemes_from text behind.offset) r
+ReadsList text n start behind (Ok x) =
+    BeginsWith text n ((start, opens) ∷ lexemes_from text behind.offset) x.0.items x.1 × (behind.offset < x.1.offset)
+ReadsList text n start behind (Err (refused.Fault r)) =
+    Breaks text n ((start, opens) ∷ lexemes_from text behind.offset) r
 ReadsList text n start behind (Err refused.Memory) = Unit {0}

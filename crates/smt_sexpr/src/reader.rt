@@ -54,7 +54,8 @@ fn begin_list(items: &mut Vec<Item>, at: u64) -> Result<usize, AllocError>
 fn end_list(items: &mut Vec<Item>, index: usize, end: u64)
     requires end { end < 2 ^ 32 }
     requires few { length items.old.items < 2 ^ 32 }
-    ensures ended { (context : Context) (open_at : List ℕ) → HoldsContext context items.old.items (open_at ++ index ∷ [])
+    ensures ended { (context : Context) (open_at : List ℕ)
+        → HoldsContext context items.old.items (open_at ++ index ∷ [])
         → HoldsContext (closed context end) items.new.items open_at }
     ensures count { length items.new.items ≡ length items.old.items }
 {

@@ -1,9 +1,11 @@
 -- The arguments of a run.
-use Rattle.std.specs.Prelude.{◌≡◌, ℕ, ◌≤◌, true, ◌&&◌, List, [], ◌∷◌, map, codes, decimal, Option, Some, None, option_map, option_and_then, unwrap_or, String, string_bytes, nat_le, if◌then◌else◌}
+use Rattle.std.specs.Prelude.{◌≡◌, ℕ, ◌≤◌, true, ◌&&◌, List, [], ◌∷◌, map, codes, decimal, Option, Some, None}
+use Rattle.std.specs.Prelude.{option_map, option_and_then, unwrap_or, String, string_bytes, nat_le, if◌then◌else◌}
 use Rattle.std.specs.Str.{bytes_eq}
 use Rattle.std.specs.Str.Parse.{digits_value}
 use Rattle.std.specs.declared.alloc.Global.{Global}
-use Rattle.clap.specs.Words.{App, Row, Rule, Text, Kinds, fault_of, first_of, new_app, new_rule, subcommand_of, with_rule, with_subcommand}
+use Rattle.clap.specs.Words.{App, Row, Rule, Text, Kinds, fault_of, first_of, new_app, new_rule, subcommand_of}
+use Rattle.clap.specs.Words.{with_rule, with_subcommand}
 use Rattle.spec_commands.specs.Checks.{term_limit}
 use Rattle.spec_sessions.specs.Evidence.{Limits}
 use Rattle.spec_sessions.specs.Responses.{Mode, solve, certify}
@@ -45,21 +47,31 @@ required_argument id = record (new_rule id) { required = true }
 
 -- a command of this name with the arguments `[--conflicts N] [--pivots N] [NAME]`
 abbrev pub run_app : Text → App
-run_app name = with_rule (with_rule (with_rule (new_app name) (option_named (codes "conflicts"))) (option_named (codes "pivots"))) (new_rule (codes "name"))
+run_app name = with_rule (with_rule (with_rule (new_app name) (option_named (codes "conflicts")))
+    (option_named (codes "pivots"))) (new_rule (codes "name"))
 
 -- the command `check [--at K] SCRIPT PROOF`
 abbrev pub check_app : App
-check_app = with_rule (with_rule (with_rule (new_app (codes "check")) (option_named (codes "at"))) (required_argument (codes "script"))) (required_argument (codes "proof"))
+check_app = with_rule (with_rule (with_rule (new_app (codes "check")) (option_named (codes "at")))
+    (required_argument (codes "script"))) (required_argument (codes "proof"))
 
 -- the program without its commands: one must be there, and no word asks for help or a version
 abbrev pub bare_app : App
 bare_app =
     let top = new_app (codes "smt_cli") in
-    record top { top = record top.top { disable_help_flag = true; disable_help_subcommand = true; disable_version_flag = true; subcommand_required = true } }
+    record top {
+      top = record top.top {
+        disable_help_flag = true;
+        disable_help_subcommand = true;
+        disable_version_flag = true;
+        subcommand_required = true;
+      };
+    }
 
 -- the program
 abbrev pub smt_app : App
-smt_app = with_subcommand (with_subcommand (with_subcommand bare_app (run_app (codes "solve")).top) (run_app (codes "certify")).top) check_app.top
+smt_app = with_subcommand (with_subcommand (with_subcommand bare_app (run_app (codes "solve")).top)
+    (run_app (codes "certify")).top) check_app.top
 
 -- no number of the arguments is greater
 abbrev pub most_number : ℕ
@@ -73,7 +85,8 @@ usual_conflicts = 1000000
 abbrev pub usual_pivots : ℕ
 usual_pivots = 10000000
 
--- the word is the number's decimal digits, with no sign and no zero before them, and the number is from 1 to `most_number`
+-- the word is the number's decimal digits, with no sign and no zero before them, and the number is from 1 to
+-- `most_number`
 abbrev pub IsNumber : List ℕ → ℕ → Type 0
 IsNumber word n = (word ≡ decimal n) × (1 ≤ n) × (n ≤ most_number)
 
@@ -96,7 +109,8 @@ both_budgets _ _ = None
 -- what each search of a check may spend, by the values of `conflicts` and `pivots` of a command's matches
 abbrev pub budgets_in : List Row → Option Budgets
 budgets_in rows =
-    both_budgets (number_or usual_conflicts (first_of (codes "conflicts") rows)) (number_or usual_pivots (first_of (codes "pivots") rows))
+    both_budgets (number_or usual_conflicts (first_of (codes "conflicts") rows))
+    (number_or usual_pivots (first_of (codes "pivots") rows))
 
 -- the limits of a run in which each search of a check may spend so much
 abbrev pub limits_by : Budgets → Limits
@@ -113,7 +127,8 @@ all_three _ _ _ = None
 
 -- the values of `script`, `proof` and `at` of a command's matches
 abbrev pub names_in : List Row → Option ProofNames
-names_in rows = all_three (first_of (codes "script") rows) (first_of (codes "proof") rows) (number_or 1 (first_of (codes "at") rows))
+names_in rows = all_three (first_of (codes "script") rows) (first_of (codes "proof") rows)
+    (number_or 1 (first_of (codes "at") rows))
 
 -- what a command asks for, by its name and its matches
 abbrev pub asked_in : Text × List Row → Option Asked
@@ -128,7 +143,9 @@ abbrev pub asked_by_faults : Kinds → Option (Text × List Row) → Option Aske
 asked_by_faults [] met = option_and_then asked_in met
 asked_by_faults (k ∷ ks) met = None
 
--- what the arguments of a run ask for, where they are taken; the first word is the program's name. They are taken where `clap` by its
+-- what the arguments of a run ask for, where they are taken; the first word is the program's name. They are taken where
+-- `clap` by its
 -- definition finds no fault in them for `smt_app`, and the value of each option that is given stands for a number.
 unfoldable pub asked : List (String Global) → Option Asked
-asked arguments = asked_by_faults (fault_of smt_app (map string_bytes arguments)) (subcommand_of smt_app (map string_bytes arguments))
+asked arguments = asked_by_faults (fault_of smt_app (map string_bytes arguments))
+    (subcommand_of smt_app (map string_bytes arguments))

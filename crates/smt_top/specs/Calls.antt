@@ -18,7 +18,8 @@ use Rattle.smt_top.specs.RunMeans.{IsValid, IsRefused, ScriptRun}
 use Rattle.smt_top.specs.Arguments.{ProofNames, Budgets, Asked, runs, checks, limits_by}
 use Rattle.smt_top.specs.Output.{valid, output_of, longest_line}
 
--- what was judged of a proof of a check of a script, and for an accepted one that nothing makes true what is asserted there
+-- what was judged of a proof of a check of a script, and for an accepted one that nothing makes true what is asserted
+-- there
 abbrev pub JudgesProof : List ℕ → ℕ → List ℕ → Result (Unit {0}) ProofStop → Type 0
 JudgesProof script at proof (Ok u) = IsValid script at proof
 JudgesProof script at proof (Err stop) = AnswersVerdict script at proof (Err stop)
@@ -29,7 +30,8 @@ Reports Done script at proof old new = IsValid script at proof × Delivers valid
 Reports Refused script at proof old new = (f : Fault) × IsRefused script at proof f old new
 Reports Memory script at proof old new = new ≡ old
 Reports WriteFault script at proof old new =
-    ((found : Option Fault) × IsVerdict script at proof found × NotSent (output_of proof found) old new) × (HasRoom old longest_line → ⊥)
+    ((found : Option Fault) × IsVerdict script at proof found × NotSent (output_of proof found) old new)
+    × (HasRoom old longest_line → ⊥)
 Reports _ script at proof old new = ⊥
 
 -- the texts that a request to judge a proof names

@@ -13,7 +13,8 @@ use Rattle.smt_top.specs.Output.{usage, valid, error_line, output_of, longest_li
 -- both names have texts, and P is true of these and of the check that is meant
 abbrev pub OnNamed : ProofNames → List Text → (List ℕ → ℕ → List ℕ → Type 0) → Type 0
 OnNamed n texts P =
-    (script : List ℕ) × (proof : List ℕ) × (text_named texts n.script ≡ Some script) × (text_named texts n.proof ≡ Some proof) × P script n.at proof
+    (script : List ℕ) × (proof : List ℕ) × (text_named texts n.script ≡ Some script)
+    × (text_named texts n.proof ≡ Some proof) × P script n.at proof
 
 -- the bytes were written
 abbrev pub WritesBytes : SinkState → SinkState → List ℕ → Type 0
@@ -25,18 +26,22 @@ LacksRoom sink n = sink.failing ≡ [] → 0 < sink.most → sink.room < n
 
 -- a prefix of the bytes was written, and there was no room for all of them
 abbrev pub GrowsByPrefix : SinkState → SinkState → List ℕ → Type 0
-GrowsByPrefix old new bytes = ((n : ℕ) × (n ≤ length bytes) × (new.written ≡ old.written ++ take n bytes)) × LacksRoom old (length bytes)
+GrowsByPrefix old new bytes = ((n : ℕ) × (n ≤ length bytes) × (new.written ≡ old.written ++ take n bytes))
+    × LacksRoom old (length bytes)
 
 -- how a run that judges a proof ends, by its status
 abbrev pub CheckEndsInMemory : Status → ProofNames → List Text → SinkState → SinkState → Type 0
-CheckEndsInMemory Done n texts old new = OnNamed n texts (λ script at proof. IsValid script at proof × WritesBytes old new valid)
+CheckEndsInMemory Done n texts old new = OnNamed n texts (λ script at proof. IsValid script at proof
+    × WritesBytes old new valid)
 CheckEndsInMemory Refused n texts old new =
-    OnNamed n texts (λ script at proof. (f : Fault) × IsVerdict script at proof (Some f) × WritesBytes old new (error_line proof f))
+    OnNamed n texts (λ script at proof. (f : Fault) × IsVerdict script at proof (Some f)
+    × WritesBytes old new (error_line proof f))
 CheckEndsInMemory Words n texts old new = ⊥
 CheckEndsInMemory Memory n texts old new = new.written ≡ old.written
 CheckEndsInMemory ReadFault n texts old new = new.written ≡ old.written
 CheckEndsInMemory WriteFault n texts old new =
-    OnNamed n texts (λ script at proof. (found : Option Fault) × IsVerdict script at proof found × GrowsByPrefix old new (output_of proof found))
+    OnNamed n texts (λ script at proof. (found : Option Fault) × IsVerdict script at proof found
+    × GrowsByPrefix old new (output_of proof found))
     × LacksRoom old longest_line
 
 -- the name has a text, and P is true of it
@@ -45,13 +50,16 @@ OnScript name texts P = (text : List ℕ) × (text_named texts name ≡ Some tex
 
 -- how the run of a script ends, by its status
 abbrev pub ScriptEndsInMemory : Status → ScriptRun → List Text → SinkState → SinkState → Type 0
-ScriptEndsInMemory Done r texts old new = OnScript r.name texts (λ text. OnTranscript r.limits r.mode text false (WritesBytes old new))
-ScriptEndsInMemory Refused r texts old new = OnScript r.name texts (λ text. OnTranscript r.limits r.mode text true (WritesBytes old new))
+ScriptEndsInMemory Done r texts old new =
+    OnScript r.name texts (λ text. OnTranscript r.limits r.mode text false (WritesBytes old new))
+ScriptEndsInMemory Refused r texts old new =
+    OnScript r.name texts (λ text. OnTranscript r.limits r.mode text true (WritesBytes old new))
 ScriptEndsInMemory Words r texts old new = ⊥
 ScriptEndsInMemory Memory r texts old new =
     OnScript r.name texts (λ text. OnBegun r.limits r.mode text (WritesBytes old new)) ⊎ (new.written ≡ old.written)
 ScriptEndsInMemory ReadFault r texts old new = new.written ≡ old.written
-ScriptEndsInMemory WriteFault r texts old new = OnScript r.name texts (λ text. OnBegun r.limits r.mode text (GrowsByPrefix old new))
+ScriptEndsInMemory WriteFault r texts old new =
+    OnScript r.name texts (λ text. OnBegun r.limits r.mode text (GrowsByPrefix old new))
 
 -- how a run whose arguments are not accepted ends, by its status
 abbrev pub UsageEndsInMemory : Status → SinkState → SinkState → Type 0

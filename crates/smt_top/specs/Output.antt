@@ -1,12 +1,14 @@
 -- What a run writes.
-use Rattle.std.specs.Prelude.{ℕ, List, codes, Option, Some, None}
+use Rattle.std.specs.Prelude.{◌++◌, ℕ, List, codes, Option, Some, None}
 use Rattle.spec_text.specs.Places.{line_of, column_of}
 use Rattle.spec_proofs.specs.Faults.{Fault, fault_name}
 use Rattle.spec_models.specs.Replies.{error_text}
 
 -- how the arguments are to be
 abbrev pub usage : List ℕ
-usage = codes "usage: smt_cli solve [--conflicts N] [--pivots N] [NAME]\n       smt_cli certify [--conflicts N] [--pivots N] [NAME]\n       smt_cli check [--at K] SCRIPT PROOF\n"
+usage = (codes "usage: smt_cli solve [--conflicts N] [--pivots N] [NAME]\n"
+    ++ codes "       smt_cli certify [--conflicts N] [--pivots N] [NAME]\n"
+    ++ codes "       smt_cli check [--at K] SCRIPT PROOF\n")
 
 -- the proof is accepted
 abbrev pub valid : List ℕ

@@ -1,5 +1,6 @@
 -- How a run ends: what it was given, what it judged, and what it wrote.
-use Rattle.std.specs.Prelude.{◌≡◌, ◌+◌, ◌^◌, ◌≤◌, ℕ, Bool, true, false, List, ◌++◌, length, Option, Some, None, Ok, IsSome, IfSome, ⊤, ◌⊎◌}
+use Rattle.std.specs.Prelude.{◌≡◌, ◌+◌, ◌^◌, ◌≤◌, ℕ, Bool, true, false, List, ◌++◌, length, Option, Some, None, Ok}
+use Rattle.std.specs.Prelude.{IsSome, IfSome, ⊤, ◌⊎◌}
 use Rattle.world_io.specs.Writing.{SinkView, HasRoom, NotSent}
 use Rattle.world_io.specs.Buffering.{sink_of, pending_in, buffered}
 use Rattle.world_io.specs.declared.buffered_sink.BufferedSink.{BufferedSink}
@@ -24,7 +25,8 @@ Holdings = List ℕ → Option (List ℕ)
 abbrev pub through : {K : Type 0} → (K → SinkView) → BufferedSink K → SinkView
 through state b = buffered (state (sink_of b)) (pending_in b)
 
--- the verdict on the texts is that the proof is accepted, with all that this means: no interpretation makes true what is
+-- the verdict on the texts is that the proof is accepted, with all that this means: no interpretation makes true what
+-- is
 -- asserted at that check of the script
 pub record IsValid (script : List ℕ) (at : ℕ) (proof : List ℕ) : Type 0 where
   -- the verdict has no fault
@@ -34,7 +36,8 @@ pub record IsValid (script : List ℕ) (at : ℕ) (proof : List ℕ) : Type 0 wh
   -- no interpretation makes true what is asserted there
   pub no_model : HasNoModel term_limit script at
 
--- the arguments are accepted, and P is true of the check that is meant, and of a script and a proof that are those of the two names,
+-- the arguments are accepted, and P is true of the check that is meant, and of a script and a proof that are those of
+-- the two names,
 -- where these are known
 abbrev pub OnTexts : Option ProofNames → Holdings → (List ℕ → ℕ → List ℕ → Type 0) → Type 0
 OnTexts None holds P = ⊥
@@ -62,11 +65,13 @@ abbrev pub ProofIsLast : Option ProofNames → Holdings → Option (List ℕ) �
 ProofIsLast None holds left = ⊤
 ProofIsLast (Some n) holds left = TakesText (holds n.proof) left
 
--- a prefix of a right output was written, for which the sink had no room as a whole: of the usage text, or of a verdict on the texts
+-- a prefix of a right output was written, for which the sink had no room as a whole: of the usage text, or of a verdict
+-- on the texts
 abbrev pub WritesPrefix : Option ProofNames → Holdings → SinkView → SinkView → Type 0
 WritesPrefix None holds old new = NotSent usage old new
 WritesPrefix (Some n) holds old new =
-    OnTexts (Some n) holds (λ script at proof. (found : Option Fault) × IsVerdict script at proof found × NotSent (output_of proof found) old new)
+    OnTexts (Some n) holds (λ script at proof. (found : Option Fault) × IsVerdict script at proof found
+    × NotSent (output_of proof found) old new)
 
 -- The verdict on the texts is this fault, and its line was written.
 pub record IsRefused (script : List ℕ) (at : ℕ) (proof : List ℕ) (f : Fault) (old new : SinkView) : Type 0 where
@@ -77,11 +82,14 @@ pub record IsRefused (script : List ℕ) (at : ℕ) (proof : List ℕ) (f : Faul
   -- it was written, and nothing waits
   pub written : Delivers (error_line proof f) (Ok tt) old new
 
--- how a run that judges a proof ends, by its status; or one of which the arguments are not accepted. The sink fails only where it has
+-- how a run that judges a proof ends, by its status; or one of which the arguments are not accepted. The sink fails
+-- only where it has
 -- no room for the longest line
 abbrev pub CheckMeans : Status → Option ProofNames → Holdings → SinkView → SinkView → Type 0
-CheckMeans Done names holds old new = OnTexts names holds (λ script at proof. IsValid script at proof × Delivers valid (Ok tt) old new)
-CheckMeans Refused names holds old new = OnTexts names holds (λ script at proof. (f : Fault) × IsRefused script at proof f old new)
+CheckMeans Done names holds old new = OnTexts names holds (λ script at proof. IsValid script at proof
+    × Delivers valid (Ok tt) old new)
+CheckMeans Refused names holds old new = OnTexts names holds (λ script at proof. (f : Fault)
+    × IsRefused script at proof f old new)
 CheckMeans Words names holds old new = (names ≡ None) × Delivers usage (Ok tt) old new
 CheckMeans Memory names holds old new = new ≡ old
 CheckMeans ReadFault names holds old new = IsSome names × (new ≡ old)
@@ -100,18 +108,24 @@ pub record ScriptRun : Type 0 where
   -- what each search of a check may spend
   pub limits : Limits
 
--- how the run of a script ends, by its status: a transcript of its text was written; or what is to be written for the commands that
--- were run, where memory ran out; or a prefix of that, where the sink failed and had no room for all of it; where memory ran out or the
--- shelf failed before the text was read, nothing was. What the answers say is so: the limits of a run have the limit on terms under
+-- how the run of a script ends, by its status: a transcript of its text was written; or what is to be written for the
+-- commands that
+-- were run, where memory ran out; or a prefix of that, where the sink failed and had no room for all of it; where
+-- memory ran out or the
+-- shelf failed before the text was read, nothing was. What the answers say is so: the limits of a run have the limit on
+-- terms under
 -- which proofs are checked
 abbrev pub ScriptMeans : Status → ScriptRun → Holdings → SinkView → SinkView → Type 0
-ScriptMeans Done r holds old new = OnText r.name holds (λ text. OnTranscript r.limits r.mode text false (λ all. Delivered all old new))
-ScriptMeans Refused r holds old new = OnText r.name holds (λ text. OnTranscript r.limits r.mode text true (λ all. Delivered all old new))
+ScriptMeans Done r holds old new =
+    OnText r.name holds (λ text. OnTranscript r.limits r.mode text false (λ all. Delivered all old new))
+ScriptMeans Refused r holds old new =
+    OnText r.name holds (λ text. OnTranscript r.limits r.mode text true (λ all. Delivered all old new))
 ScriptMeans Words r holds old new = ⊥
 ScriptMeans Memory r holds old new =
     OnText r.name holds (λ text. OnBegun r.limits r.mode text (λ begun. Delivered begun old new)) ⊎ (new ≡ old)
 ScriptMeans ReadFault r holds old new = new ≡ old
-ScriptMeans WriteFault r holds old new = OnText r.name holds (λ text. OnBegun r.limits r.mode text (λ begun. NotSent begun old new))
+ScriptMeans WriteFault r holds old new =
+    OnText r.name holds (λ text. OnBegun r.limits r.mode text (λ begun. NotSent begun old new))
 
 -- all that was to be written was written
 abbrev pub is_answered : Status → Bool
@@ -137,7 +151,8 @@ AreHeld (Some (runs mode name budgets)) holds = IsSome (holds name)
 abbrev pub IsUnread : Status → SinkView → SinkView → Type 0
 IsUnread status old new = ((status ≡ ReadFault) ⊎ (status ≡ Memory)) × (new ≡ old)
 
--- the text that was read last: what is left on the shelf is what is left of it, where that is known; none may be asked for
+-- the text that was read last: what is left on the shelf is what is left of it, where that is known; none may be asked
+-- for
 abbrev pub LastIsRead : Option Asked → Holdings → Option (List ℕ) → Type 0
 LastIsRead None holds left = ⊤
 LastIsRead (Some (checks n)) holds left = ProofIsLast (Some n) holds left

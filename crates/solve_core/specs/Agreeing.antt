@@ -16,8 +16,10 @@ use Rattle.solve_core.specs.declared.agreeing.AgreementFound.TheVariants.{Agreed
 use Rattle.solve_core.specs.Answering.{HoldTogether}
 use Rattle.solve_core.specs.Sharing.{IsAskedOf, AreOpen}
 
--- It says of the term at a place what both theories say: its class and its number are at the place that is as far from another one.
-pub record IsTheoryValueAt (ids : List TermId) (classes : List ℕ) (numbers : List Fraction) (from k : ℕ) (x : Shared) : Type 0 where
+-- It says of the term at a place what both theories say: its class and its number are at the place that is as far from
+-- another one.
+pub record IsTheoryValueAt (ids : List TermId) (classes : List ℕ) (numbers : List Fraction) (from k : ℕ)
+    (x : Shared) : Type 0 where
   -- the term
   pub term : x.term ≡ get_or ids k no_id
   -- its class
@@ -26,7 +28,8 @@ pub record IsTheoryValueAt (ids : List TermId) (classes : List ℕ) (numbers : L
   pub value : delta x.value ≡ number (get_or numbers (from + k) zero_fraction)
 
 -- This is said of the first n terms, in order.
-pub record AreTheoryValuesBelow (ids : List TermId) (classes : List ℕ) (numbers : List Fraction) (from n : ℕ) (xs : List Shared) : Type 0 where
+pub record AreTheoryValuesBelow (ids : List TermId) (classes : List ℕ) (numbers : List Fraction) (from n : ℕ)
+    (xs : List Shared) : Type 0 where
   -- there are as many
   pub count : length xs ≡ n
   -- of each it is said at its place
@@ -36,8 +39,10 @@ pub record AreTheoryValuesBelow (ids : List TermId) (classes : List ℕ) (number
 abbrev pub AreTheoryValues : List TermId → List ℕ → List Fraction → ℕ → List Shared → Type 0
 AreTheoryValues ids classes numbers from xs = AreTheoryValuesBelow ids classes numbers from (length ids) xs
 
--- what is found where a search is saturated: numbers by which the literals hold, and classes that they agree with; or pairs of shared terms of
+-- what is found where a search is saturated: numbers by which the literals hold, and classes that they agree with; or
+-- pairs of shared terms of
 -- whose equalities the search does not speak
 abbrev pub FindsAgreement : TableView → Search → TheoryView → List TermId → AgreementFound → Type 0
-FindsAgreement t x v ids (Agreed assigned_values) = HoldTogether t x.terms.items v assigned_values.classes.items (map fraction assigned_values.numbers.items)
+FindsAgreement t x v ids (Agreed assigned_values) =
+    HoldTogether t x.terms.items v assigned_values.classes.items (map fraction assigned_values.numbers.items)
 FindsAgreement t x v ids (Differ pairs) = (p : Problem) → IsAskedOf t ids p x → AreOpen t ids p pairs.items

@@ -39,7 +39,8 @@ pub record HasNumber (ts : List Term) : Type 0 where
   pub number : sort_of term ≡ Number
 
 -- Numbers of terms by which the literals of a theory hold, and classes of terms that it makes equal.
-pub record HoldByNumbers (t : TableView) (ids : List TermId) (v : TheoryView) (classes : List ℕ) (xs : List Fraction) : Type 0 where
+pub record HoldByNumbers (t : TableView) (ids : List TermId) (v : TheoryView) (classes : List ℕ)
+    (xs : List Fraction) : Type 0 where
   -- the number of each term, in lowest terms
   pub number : Term → Fraction
   pub reduced : (u : Term) → IsReduced (number u)
@@ -53,7 +54,8 @@ pub record HoldByNumbers (t : TableView) (ids : List TermId) (v : TheoryView) (c
   pub count : length classes ≡ length ids
 
 -- The numbers and the classes agree on shared terms.
-pub record HoldTogether (t : TableView) (ids : List TermId) (v : TheoryView) (classes : List ℕ) (xs : List Fraction) : Type 0 where
+pub record HoldTogether (t : TableView) (ids : List TermId) (v : TheoryView) (classes : List ℕ)
+    (xs : List Fraction) : Type 0 where
   -- the numbers and the classes
   pub values : HoldByNumbers t ids v classes xs
   -- the terms that both theories speak of
@@ -63,13 +65,16 @@ pub record HoldTogether (t : TableView) (ids : List TermId) (v : TheoryView) (cl
   pub heads : (u : Term) → Contains shared u → values.number u ≡ number_at values.number u
   -- two of them have one number exactly where they have one class
   pub agree : (u w : Term) → Contains shared u → Contains shared w
-      → (values.number u ≡ values.number w) ↔ (class_in (clause_at t ids) classes u ≡ class_in (clause_at t ids) classes w)
+      → (values.number u ≡ values.number w) ↔ (class_in (clause_at t ids) classes u
+      ≡ class_in (clause_at t ids) classes w)
 
 -- both theories agree to literals over terms, and the values keep the bounds
 abbrev pub AgreeBoth : List Term → List Literal → CombinedView → Type 0
-AgreeBoth ts ls v = (IsFine ts ls × (v.congruence.now.saturated ≡ true)) × (HaveForms ls × IsFeasible ls × KeepsBounds v.simplex)
+AgreeBoth ts ls v = (IsFine ts ls × (v.congruence.now.saturated ≡ true))
+    × (HaveForms ls × IsFeasible ls × KeepsBounds v.simplex)
 
--- linear arithmetic came of all terms that the search speaks of, among any others, by the exchanges that are kept, in no more runs
+-- linear arithmetic came of all terms that the search speaks of, among any others, by the exchanges that are kept, in
+-- no more runs
 -- than are paid for
 abbrev pub HasCome : TableView → Search → SimplexView → Type 0
 HasCome t x v = (ts : List Term) → AreAmong (clause_at t x.terms.items) ts
@@ -86,4 +91,5 @@ pub record IsAnswered (old new : SearchState) (a : Answer) : Type 0 where
 
 -- so is the reason of a stop
 abbrev pub IsStoppedBy : (old new : SearchState) → Stop → Type 0
-IsStoppedBy old new stop = StopsBy (λ s. IsAnswered old new (Unknown (reasons.Overflow s))) (λ n. IsAnswered old new (Unknown (reasons.Pivots n))) stop
+IsStoppedBy old new stop = StopsBy (λ s. IsAnswered old new (Unknown (reasons.Overflow s)))
+    (λ n. IsAnswered old new (Unknown (reasons.Pivots n))) stop

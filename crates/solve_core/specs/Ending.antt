@@ -20,7 +20,8 @@ use Rattle.solve_core.specs.Answering.{IsAnswered}
 -- P is so of the answer; or the pairs are open, whatever problem with interface equalities was asked before
 abbrev pub AnswersOrDiffers : (old new : SearchState) → List TermId → (Answer → Type 0) → Round → Type 0
 AnswersOrDiffers old new ids P (Answered a) = P a
-AnswersOrDiffers old new ids P (Differ pairs) = (p : Problem) → IsAskedOf old.table ids p old.search → AreOpen new.table ids p pairs.items
+AnswersOrDiffers old new ids P (Differ pairs) = (p : Problem) → IsAskedOf old.table ids p old.search
+    → AreOpen new.table ids p pairs.items
 
 -- the answer is shown
 abbrev pub EndsRound : (old new : SearchState) → List TermId → Round → Type 0

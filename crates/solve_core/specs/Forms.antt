@@ -32,9 +32,11 @@ pub record IsFirstOverflow (t : TableView) (ts : List Term) (w : Wide) : Type 0 
   -- the operation
   pub fails : FailsBy (term_at t id) w
   -- those before it
-  pub before : (other : TermId) → other.0 < id.0 → Contains ts (term_at t other) → HasForm (positive_literal (term_at t other))
+  pub before : (other : TermId) → other.0 < id.0 → Contains ts (term_at t other)
+      → HasForm (positive_literal (term_at t other))
 
--- each atom among the subterms of a problem's terms has a form; or that of one of them fails, the first in order of their numbers
+-- each atom among the subterms of a problem's terms has a form; or that of one of them fails, the first in order of
+-- their numbers
 abbrev pub FindsOverflow : TableView → Problem → Option Wide → Type 0
 FindsOverflow t p None = (u : Term) → Contains (subterms_in p) u → HasForm (positive_literal u)
 FindsOverflow t p (Some w) = IsFirstOverflow t (subterms_in p) w

@@ -56,7 +56,8 @@ pub record IsOpenFor (roots shared : List TermId) (s : Stage) : Type 0 where
   -- those beside are formulas
   pub interface_in : AreFormulasIn s.table s.interface
   -- and equalities of shared terms
-  pub equalities : All (IsSharedEquality (subterms_in (asserting (clause_at s.table roots)))) (clause_at s.table s.interface)
+  pub equalities : All (IsSharedEquality (subterms_in (asserting (clause_at s.table roots))))
+      (clause_at s.table s.interface)
 
 -- A round gave no answer: there are more interface equalities.
 pub record HasMoreInterface (roots shared : List TermId) (old new : Stage) : Type 0 where

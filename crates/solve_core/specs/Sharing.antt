@@ -1,7 +1,9 @@
 -- Terms that functions and linear arithmetic share, by their numbers, and pairs of them. Source: Nelson and Oppen 1979.
-use Rattle.std.specs.Prelude.{◌≡◌, ◌≢◌, ◌<◌, Bool, true, false, List, [], ◌∷◌, ◌++◌, length, All, Contains, if◌then◌else◌}
+use Rattle.std.specs.Prelude.{◌≡◌, ◌≢◌, ◌<◌, Bool, true, false, List, [], ◌∷◌, ◌++◌, length, All, Contains}
+use Rattle.std.specs.Prelude.{if◌then◌else◌}
 use Rattle.std.specs.List.{filter}
-use Rattle.spec_sorts.specs.Terms.{Number, Head, Equal, Apply, Term, Terms, app, nil, cons, list_of, pair, sort_of, same_sort}
+use Rattle.spec_sorts.specs.Terms.{Number, Head, Equal, Apply, Term, Terms, app, nil, cons, list_of, pair, sort_of}
+use Rattle.spec_sorts.specs.Terms.{same_sort}
 use Rattle.spec_derivations.specs.Problems.{Problem, subterms_in}
 use Rattle.spec_derivations.specs.Orders.{whole_terms}
 use Rattle.spec_causes.specs.Shared.{IsSharedAmong, IsSharedEquality}
@@ -37,7 +39,8 @@ abbrev pub value_over : Terms → Term → List Term
 value_over nil t = []
 value_over (cons u us) t = reals_in (t ∷ [])
 
--- what a term shares: a declared symbol its Real arguments, and itself where it is Real and has arguments; another head nothing
+-- what a term shares: a declared symbol its Real arguments, and itself where it is Real and has arguments; another head
+-- nothing
 abbrev pub shared_by : Term → List Term
 shared_by (app h us) = if is_declared h then reals_in (list_of us) ++ value_over us (app h us) else []
 

@@ -52,7 +52,8 @@ pub(crate) fn model(
 ) -> Result<Interp, NoMemory>
     requires search_saturated { (v : TheoryView)
         × HasSaturated table.now search.now v (IsFine (terms_watched table.now v) (literals_held table.now v))
-        × HoldTogether table.now search.now.terms.items v assigned_values.now.classes.items (map fraction assigned_values.now.numbers.items) }
+        × HoldTogether table.now search.now.terms.items v assigned_values.now.classes.items
+        (map fraction assigned_values.now.numbers.items) }
     ensures { IfOk result (λ interp. ShowsAnswer table.now table.now search.now search.now (Sat interp)) }
 {
     listed_terms_have_their_places_class();

@@ -99,7 +99,10 @@ fn round(
     passed: &mut PassedOn,
     limits: &Limits,
 ) -> Result<Option<Outcome>, NoMemory>
-    requires ready { IsOpenFor roots.now shared.now (record { table = table.old; interface = passed.old.interface.items }) }
+    requires ready { IsOpenFor roots.now shared.now (record {
+      table = table.old;
+      interface = passed.old.interface.items;
+    }) }
     ensures grown { Extends table.old table.new }
     ensures declared { declared_in table.new ≡ declared_in table.old }
     ensures round { IfOk result (IsRound roots.now shared.now limits.now

@@ -78,7 +78,8 @@ fn add_shared(table: &TermTable, id: TermId, ids: &mut Vec<TermId>) -> Result<()
 /// Adds those of these terms that are Real.
 fn add_reals(table: &TermTable, terms: &[TermId], ids: &mut Vec<TermId>) -> Result<(), NoMemory>
     requires { AreIn table.now terms.now }
-    ensures { OnOk result (AddsSharedTerms table.now ids.old.items ids.new.items (reals_in (clause_at table.now terms.now))) }
+    ensures { OnOk result (AddsSharedTerms table.now ids.old.items ids.new.items
+        (reals_in (clause_at table.now terms.now))) }
 {
     'terms: for id in terms.iter() {
         if !is_number(table, *id) {

@@ -21,7 +21,8 @@ abbrev pub parameters_at : TableView → List Name → List TableSort → List (
 parameters_at t ns ss = paired ns (sorts_meant t.sorts ss)
 
 -- The parameters are read: as many names as sorts, which are there.
-pub record HasParameters (t : TableView) (answer : Answer (List (Name × Sort))) (ns : List Name) (ss : List TableSort) : Type 0 where
+pub record HasParameters (t : TableView) (answer : Answer (List (Name × Sort))) (ns : List Name)
+    (ss : List TableSort) : Type 0 where
   -- a sort for each name
   pub long : length ns ≡ length ss
   -- the sorts are there
@@ -30,7 +31,8 @@ pub record HasParameters (t : TableView) (answer : Answer (List (Name × Sort)))
   pub read : answer ≡ Ok (parameters_at t ns ss)
 
 -- the parameters are read, or have this first fault
-abbrev pub EndsParameters : TableView → Answer (List (Name × Sort)) → Result (List Name × Vec TableSort Global) ReadError → Type 0
+abbrev pub EndsParameters : TableView → Answer (List (Name × Sort))
+    → Result (List Name × Vec TableSort Global) ReadError → Type 0
 EndsParameters t answer (Ok v) = HasParameters t answer v.0 v.1.items
 EndsParameters t answer (Err stop) = HasFault answer stop
 

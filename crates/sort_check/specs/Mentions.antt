@@ -1,9 +1,11 @@
 -- Whether bound names occur free in what is left of a text. Source: SMT-LIB 2.6, section 3.6.
-use Rattle.std.specs.Prelude.{◌≡◌, ℕ, ◌+◌, ◌<◌, Bool, true, false, ◌||◌, List, [], ◌∷◌, map, take, reverse, Result, Ok, Err}
+use Rattle.std.specs.Prelude.{◌≡◌, ℕ, ◌+◌, ◌<◌, Bool, true, false, ◌||◌, List, [], ◌∷◌, map, take, reverse, Result, Ok}
+use Rattle.std.specs.Prelude.{Err}
 use Rattle.spec_text.specs.Bytes.{Name, among}
 use Rattle.spec_text.specs.Trees.{Trees}
 use Rattle.spec_sorts.specs.Forms.{Form, malformed, reserved, applies, binds, annotates}
-use Rattle.spec_reading.specs.Names.{names_bound, without, mentions, any_mentions, first_mentions, let_mentions, binding_mentions}
+use Rattle.spec_reading.specs.Names.{names_bound, without, mentions, any_mentions, first_mentions, let_mentions}
+use Rattle.spec_reading.specs.Names.{binding_mentions}
 use Rattle.smt_sexpr.specs.Items.{trees_meant, tree_meant}
 use Rattle.term_core.specs.declared.ids.TermId.{TermId}
 use Rattle.no_memory.specs.declared.NoMemory.{NoMemory}
@@ -45,8 +47,10 @@ with_next l r = record { inner = r.inner; left = l ∷ r.left }
 abbrev pub left_mentions : List Name → List Name → List Left → Bool
 left_mentions ns inner [] = false
 left_mentions ns inner (Terms ts ∷ ls) = any_mentions (without ns inner) (trees_meant ts) || left_mentions ns inner ls
-left_mentions ns inner (Values ts ∷ ls) = binding_mentions (without ns inner) (trees_meant ts) || left_mentions ns inner ls
-left_mentions ns inner (Body ts body ∷ ls) = mentions (without (without ns inner) (names_bound (trees_meant ts))) (tree_meant body) || left_mentions ns inner ls
+left_mentions ns inner (Values ts ∷ ls) = binding_mentions (without ns inner) (trees_meant ts)
+    || left_mentions ns inner ls
+left_mentions ns inner (Body ts body ∷ ls) = mentions (without (without ns inner) (names_bound (trees_meant ts)))
+    (tree_meant body) || left_mentions ns inner ls
 left_mentions ns inner (Back n ∷ ls) = left_mentions ns (take n inner) ls
 
 -- the same of a rest

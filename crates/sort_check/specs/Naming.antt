@@ -31,7 +31,8 @@ abbrev pub annotated_meant : TableView → Tree → code.Annotated → reading.A
 annotated_meant t text a = record { at = a.at; text = text; term = term_at t a.id; may_name = a.may_name }
 
 -- The names were given, to the term of that number.
-pub record HasNamed (t : TableView) (s : Signature) (new : ScopeView) (ids : List TermId × List TermId) (answer : Answer (List Definition)) : Type 0 where
+pub record HasNamed (t : TableView) (s : Signature) (new : ScopeView) (ids : List TermId
+    × List TermId) (answer : Answer (List Definition)) : Type 0 where
   -- the definitions that they make
   pub made : List Definition
   -- they are those
@@ -42,7 +43,8 @@ pub record HasNamed (t : TableView) (s : Signature) (new : ScopeView) (ids : Lis
   pub named : (us : List Term) → AllMean t ids.0 us → AllMean t ids.1 (us ++ terms_of_definitions made)
 
 -- the names were given, or have this first fault
-abbrev pub EndsNaming : TableView → Signature → ScopeView → List TermId × List TermId → Answer (List Definition) → Result (Unit {0}) ReadError → Type 0
+abbrev pub EndsNaming : TableView → Signature → ScopeView → List TermId × List TermId → Answer (List Definition)
+    → Result (Unit {0}) ReadError → Type 0
 EndsNaming t s new ids answer (Ok u) = HasNamed t s new ids answer
 EndsNaming t s new ids answer (Err stop) = HasFault answer stop
 

@@ -35,7 +35,12 @@ room_meant r = record { limit = r.limit; at = r.at }
 
 -- the parts of a definition
 abbrev pub parts_meant : code_parts.FunctionParts → Parts
-parts_meant p = record { name = word_view p.name; parameters = trees_meant p.parameters; result = tree_meant p.result; body = tree_meant p.body }
+parts_meant p = record {
+  name = word_view p.name;
+  parameters = trees_meant p.parameters;
+  result = tree_meant p.result;
+  body = tree_meant p.body;
+}
 
 -- room for names and for the different subterms of terms, or the fault
 abbrev pub within : Room → Signature → List Term → Answer (Unit {0})

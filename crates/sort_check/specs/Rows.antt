@@ -11,7 +11,8 @@ use Rattle.sort_check.specs.Walks.{AllMean, terms_of_definitions}
 use Rattle.sort_check.specs.Reads.{Store, ScopeMeansWith, HasFault}
 
 -- The row is read, by the numbers of its terms and of the terms that got names.
-pub record HasRow (s : Signature) (new : Store) (answer : Answer Readings) (ids : List TermId × List TermId) : Type 0 where
+pub record HasRow (s : Signature) (new : Store) (answer : Answer Readings) (ids : List TermId
+    × List TermId) : Type 0 where
   -- what it is read as
   pub readings : Readings
   -- it is that
@@ -24,7 +25,8 @@ pub record HasRow (s : Signature) (new : Store) (answer : Answer Readings) (ids 
   pub named : AllMean new.table ids.1 (terms_of_definitions readings.made)
 
 -- the row is read, or has this first fault
-abbrev pub EndsRow : Signature → Store → Answer Readings → Result (Vec TermId Global × Vec TermId Global) ReadError → Type 0
+abbrev pub EndsRow : Signature → Store → Answer Readings → Result (Vec TermId Global × Vec TermId Global) ReadError
+    → Type 0
 EndsRow s new answer (Ok v) = HasRow s new answer (v.0.items, v.1.items)
 EndsRow s new answer (Err stop) = HasFault answer stop
 

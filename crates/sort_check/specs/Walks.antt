@@ -6,7 +6,8 @@ use Rattle.spec_sorts.specs.Terms.{Term, no_term}
 use Rattle.spec_sorts.specs.Signatures.{Definition, Signature, with_definitions}
 use Rattle.spec_sorts.specs.Forms.{a_keyword, named_words}
 use Rattle.spec_reading.specs.Names.{Setting}
-use Rattle.spec_reading.specs.Reading.{Bound, bound_names, Reading, Readings, applied, made_by, annotated_as, reading, readings, bindings_reading}
+use Rattle.spec_reading.specs.Reading.{Bound, bound_names, Reading, Readings, applied, made_by, annotated_as, reading}
+use Rattle.spec_reading.specs.Reading.{readings, bindings_reading}
 use Rattle.smt_sexpr.specs.declared.items.Trees.{Trees as Cursor}
 use Rattle.smt_sexpr.specs.Items.{trees_meant, tree_meant}
 use Rattle.term_core.specs.declared.ids.TermId.{TermId}
@@ -85,11 +86,13 @@ closes w (Applies c) m r =
     applied (with_definitions m.base.signature r.made) m.base.bound c.place c.name.now c.at r.terms >>= λ t.
     Ok (record { made = r.made; term = t })
 closes w (Binds n left body waited) m r =
-    let_from w (with_definitions m.base.signature r.made) m.base.bound (drop waited m.waiting ++ (n.now, first_term r.terms) ∷ []) (trees_meant left, tree_meant body) >>= λ x.
+    let_from w (with_definitions m.base.signature r.made) m.base.bound (drop waited m.waiting
+    ++ (n.now, first_term r.terms) ∷ []) (trees_meant left, tree_meant body) >>= λ x.
     Ok (after_made r.made x)
 closes w (Body bound) m r = Ok (record { made = r.made; term = first_term r.terms })
 closes w (Annotates at text attributes) m r =
-    made_by w (with_definitions m.base.signature r.made) (annotated_as w m.base.bound at (tree_meant text) (first_term r.terms)) (named_words a_keyword (trees_meant attributes)) >>= λ ds.
+    made_by w (with_definitions m.base.signature r.made) (annotated_as w m.base.bound at (tree_meant text)
+    (first_term r.terms)) (named_words a_keyword (trees_meant attributes)) >>= λ ds.
     Ok (record { made = r.made ++ ds; term = first_term r.terms })
 
 -- what is bound in a row, by what was bound around it
@@ -105,7 +108,8 @@ IsWaiting o outer inner = inner ≡ outer
 -- the row has one text, where one is wanted
 abbrev pub HasTexts : Opened → Trees → Type 0
 HasTexts (Applies c) ts = Unit {0}
-HasTexts (Binds n left body waited) ts = ((t : Tree) × (ts ≡ more t none)) × (trees_meant body ≡ more (tree_meant body) none)
+HasTexts (Binds n left body waited) ts = ((t : Tree) × (ts ≡ more t none))
+    × (trees_meant body ≡ more (tree_meant body) none)
 HasTexts (Annotates at text attributes) ts = ts ≡ more (tree_meant text) none
 HasTexts o ts = (t : Tree) × (ts ≡ more t none)
 
@@ -134,7 +138,8 @@ pub record Opens (w : Setting) (l : Level) (f : Frame) (m : Level) : Type 0 wher
   -- its texts
   pub texts : HasTexts f.opened m.base.texts
   -- what the list comes to by the inner row
-  pub is : reading w (with_definitions l.base.signature made) l.base.bound tree ≡ (readings_in w m.base >>= λ r. closes w f.opened m r >>= λ x. Ok (after_made begun x))
+  pub is : reading w (with_definitions l.base.signature made) l.base.bound tree
+      ≡ (readings_in w m.base >>= λ r. closes w f.opened m r >>= λ x. Ok (after_made begun x))
 
 -- open lists, one inside the other, between an outer row and the innermost
 abbrev pub Chain : Setting → Level → List Frame → Level → Type 0
@@ -162,11 +167,29 @@ pub record Here : Type 0 where
 
 -- a walk of the code over a table and a scope
 abbrev pub here : TableView → ScopeView → Walk → Here
-here t v k = record { table = t; scope = v; frames = k.frames.items; values = k.values.items; bound = k.bound; waiting = k.waiting; named = k.named.items; rest = trees_meant k.rest }
+here t v k = record {
+  table = t;
+  scope = v;
+  frames = k.frames.items;
+  values = k.values.items;
+  bound = k.bound;
+  waiting = k.waiting;
+  named = k.named.items;
+  rest = trees_meant k.rest;
+}
 
 -- where a walk begins
 abbrev pub started : TableView → ScopeView → BindingsView → Trees → Here
-started t v bound texts = record { table = t; scope = v; frames = []; values = []; bound = bound; waiting = no_bindings; named = []; rest = texts }
+started t v bound texts = record {
+  table = t;
+  scope = v;
+  frames = [];
+  values = [];
+  bound = bound;
+  waiting = no_bindings;
+  named = [];
+  rest = texts;
+}
 
 -- numbers of these terms
 abbrev pub AllMean : TableView → List TermId → List Term → Type 0
@@ -237,7 +260,12 @@ pub record Let : Type 0 where
 
 -- so it is by the cursors of the code
 abbrev pub let_of : Cursor → Cursor → ℕ → Cursor → Let
-let_of bindings body waited after = record { bindings = trees_meant bindings; body = tree_meant body; waited = waited; after = trees_meant after }
+let_of bindings body waited after = record {
+  bindings = trees_meant bindings;
+  body = tree_meant body;
+  waited = waited;
+  after = trees_meant after;
+}
 
 -- A `let` is read up to some of its bindings.
 pub record IsInLet (w : Setting) (root : Level) (h : Here) (x : Let) : Type 0 where
@@ -259,7 +287,8 @@ pub record IsInLet (w : Setting) (root : Level) (h : Here) (x : Let) : Type 0 wh
   pub earlier : Bound
   -- what it comes to by the bindings that are left
   pub is : reading w (with_definitions level.base.signature made) level.base.bound tree
-      ≡ (let_from w (with_definitions (with_definitions level.base.signature made) begun) level.base.bound earlier (x.bindings, x.body) >>= λ y. Ok (after_made begun y))
+      ≡ (let_from w (with_definitions (with_definitions level.base.signature made) begun) level.base.bound earlier
+      (x.bindings, x.body) >>= λ y. Ok (after_made begun y))
   -- the numbers of all terms that were read
   pub values : AllMean h.table h.values (level.below ++ done)
   -- what the names stand for
@@ -277,7 +306,8 @@ pub record IsInLet (w : Setting) (root : Level) (h : Here) (x : Let) : Type 0 wh
   -- all definitions that were made
   pub total : List Definition
   -- they came to the outer row's names
-  pub known : with_definitions (with_definitions level.base.signature made) begun ≡ with_definitions root.base.signature total
+  pub known : with_definitions (with_definitions level.base.signature made) begun
+      ≡ with_definitions root.base.signature total
   -- the numbers of their terms
   pub named : AllMean h.table h.named (terms_of_definitions total)
 

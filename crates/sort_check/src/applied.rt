@@ -71,7 +71,8 @@ fn by_function(
     requires known { HasSignature table.old scope.now }
     requires there { AreIn table.old ids.now }
     ensures { (s : Signature) → ScopeMeans table.old scope.now s → ReturnsTerm table.old table.new
-        (applied_as None None (known_as s called.entry.name.now) called.entry.place called.entry.at (clause_at table.old ids.now)) result }
+        (applied_as None None (known_as s called.entry.name.now) called.entry.place called.entry.at
+        (clause_at table.old ids.now)) result }
 {
     match scope.function(called.name) {
         None => Err(ReadError::Fault(fault_at(called.place, Fault::UnknownSymbol))),
@@ -99,7 +100,8 @@ pub fn applied(
     requires bound { AreIn table.old bound.now.terms }
     requires there { AreIn table.old ids.now }
     ensures { (s : Signature) → ScopeMeans table.old scope.now s → ReturnsTerm table.old table.new
-        (applied s (bound_at table.old bound.now) called.entry.place called.entry.name.now called.entry.at (clause_at table.old ids.now)) result }
+        (applied s (bound_at table.old bound.now) called.entry.place called.entry.name.now called.entry.at
+        (clause_at table.old ids.now)) result }
 {
     bound.each_name_has_a_term();
     if let Some(id) = bound.find(called.name) {

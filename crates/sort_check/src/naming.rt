@@ -103,7 +103,8 @@ fn give_name(
     requires { IsIn table.now term.id }
     ensures ends { (s : Signature) (text : Tree) → NamesMean table.now scope.old s
         → EndsNaming table.now s scope.new (named.old.items, named.new.items)
-        (made_by (setting_meant setting.entry) s (annotated_meant table.now text term) (word_view word.entry ∷ [])) result }
+        (made_by (setting_meant setting.entry) s (annotated_meant table.now text term) (word_view word.entry ∷ []))
+        result }
     ensures widens { Widens scope.old scope.new }
 {
     scope.each_name_means_something();
@@ -167,7 +168,8 @@ fn give_wanted(
     requires { IsIn table.now term.id }
     ensures ends { (s : Signature) (text : Tree) → NamesMean table.now scope.old s
         → EndsNaming table.now s scope.new (named.old.items, named.new.items)
-        (made_by (setting_meant setting.entry) s (annotated_meant table.now text term) (listed_word (option_map word_view word.entry)))
+        (made_by (setting_meant setting.entry) s (annotated_meant table.now text term)
+        (listed_word (option_map word_view word.entry)))
         result }
     ensures widens { Widens scope.old scope.new }
 {

@@ -92,7 +92,8 @@ pub fn read_term(
     requires known { HasSignature table.old scope.old }
     requires sort { HasSortIn table.old.sorts sort }
     ensures ends { (s : Signature) → ScopeMeans table.old scope.old s → EndsTerm s (store table.new scope.new)
-        (roomy_reading (room_meant room) (setting_meant setting.entry) s (sort_meant table.old.sorts sort) (tree_meant tree.entry))
+        (roomy_reading (room_meant room) (setting_meant setting.entry) s (sort_meant table.old.sorts sort)
+        (tree_meant tree.entry))
         result }
     ensures grows { StoreGrows (store table.old scope.old) (store table.new scope.new) }
 {

@@ -60,7 +60,10 @@ fn replace<'a>(walk: &mut Walk<'a>, frame: Frame<'a>, id: TermId) -> Result<(), 
 // A list opens, in which a row is read next.
 fn open<'a>(walk: &mut Walk<'a>, frame: Frame<'a>, row: Trees<'a>) -> Result<(), ReadError>
     ensures opened { (t : TableView) (v : ScopeView) → OnOk result (here t v walk.new
-        ≡ record (here t v walk.old) { frames = walk.old.frames.items ++ frame.entry ∷ []; rest = trees_meant row.entry }) }
+        ≡ record (here t v walk.old) {
+          frames = walk.old.frames.items ++ frame.entry ∷ [];
+          rest = trees_meant row.entry;
+        }) }
     ensures memory { IsMemory result }
 {
     if let Err(_) = walk.frames.push(frame) {
@@ -209,7 +212,8 @@ fn open_annotated<'a>(
         → IsAnnotatedAt w tree at (trees_meant arguments.entry)
         → ContinuesWalk w (here t v walk.old) (here t v walk.new) result }
     ensures less { (t : TableView) (v : ScopeView) → OnOk result (all_left (here t v walk.new)
-        < 2 + (frames_left walk.old.frames.items + (sizes (trees_meant arguments.entry) + sizes (trees_meant after.entry)))) }
+        < 2 + (frames_left walk.old.frames.items
+        + (sizes (trees_meant arguments.entry) + sizes (trees_meant after.entry)))) }
 {
     let Some((text, attributes)) = split(arguments) else {
         return Err(ReadError::Fault(fault_at(at, Fault::BadShape)));
@@ -238,7 +242,8 @@ fn open_list<'a>(
         → IsNextTree (here t v walk.old) (list at (trees_meant inside.entry) end) (trees_meant after.entry)
         → ContinuesWalk (setting_meant setting.entry) (here t v walk.old) (here t v walk.new) result }
     ensures less { (t : TableView) (v : ScopeView) → OnOk result (all_left (here t v walk.new)
-        < 2 + (frames_left walk.old.frames.items + (sizes (trees_meant inside.entry) + sizes (trees_meant after.entry)))) }
+        < 2 + (frames_left walk.old.frames.items
+        + (sizes (trees_meant inside.entry) + sizes (trees_meant after.entry)))) }
 {
     let Some((head, arguments)) = split(inside) else {
         return Err(ReadError::Fault(fault_at(at, Fault::BadShape)));
@@ -315,7 +320,8 @@ fn close_binding<'a>(
     requires walk { (t : TableView) × (v : ScopeView)
         × OnWalk (setting_meant setting) (with_frame (here t v walk.old) frame) }
     ensures goes { (t : TableView) (v : ScopeView)
-        → ContinuesWalk (setting_meant setting.entry) (with_frame (here t v walk.old) frame.entry) (here t v walk.new) result }
+        → ContinuesWalk (setting_meant setting.entry) (with_frame (here t v walk.old) frame.entry)
+        (here t v walk.new) result }
     ensures less { (t : TableView) (v : ScopeView) → OnOk result (all_left (here t v walk.new)
         < all_left (with_frame (here t v walk.old) frame.entry)) }
 {
@@ -358,7 +364,8 @@ fn close_annotated<'a>(
 ) -> Result<(), ReadError>
     requires opened { frame.opened ≡ annotates at text attributes }
     requires walk { OnWalk (setting_meant setting) (with_frame (here table.now scope.old walk.old) frame) }
-    ensures goes { ContinuesWalk (setting_meant setting.entry) (with_frame (here table.now scope.old walk.old) frame.entry)
+    ensures goes { ContinuesWalk (setting_meant setting.entry)
+        (with_frame (here table.now scope.old walk.old) frame.entry)
         (here table.now scope.new walk.new) result }
     ensures widens { Widens scope.old scope.new }
     ensures less { OnOk result (all_left (here table.now scope.new walk.new)
@@ -392,7 +399,8 @@ fn close<'a>(
     frame: Frame<'a>,
 ) -> Result<(), ReadError>
     requires { OnWalk (setting_meant setting) (with_frame (here table.old scope.old walk.old) frame) }
-    ensures goes { ContinuesWalk (setting_meant setting.entry) (with_frame (here table.old scope.old walk.old) frame.entry)
+    ensures goes { ContinuesWalk (setting_meant setting.entry)
+        (with_frame (here table.old scope.old walk.old) frame.entry)
         (here table.new scope.new walk.new) result }
     ensures grows { StoreGrows (store table.old scope.old) (store table.new scope.new) }
     ensures less { OnOk result (all_left (here table.new scope.new walk.new)

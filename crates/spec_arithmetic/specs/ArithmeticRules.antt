@@ -1,4 +1,5 @@
--- The rules of linear arithmetic over the reals, each by what it asks of a step. Source: Alethe specification, rules of linear arithmetic.
+-- The rules of linear arithmetic over the reals, each by what it asks of a step. Source: Alethe specification, rules of
+-- linear arithmetic.
 use Rattle.std.specs.Prelude.{◌≡◌, List, [], ◌∷◌, Ok, Err, codes}
 use Rattle.spec_text.specs.Bytes.{Name}
 use Rattle.spec_text.specs.Trees.{Trees}
@@ -24,7 +25,8 @@ order s t = of Or (at_most s t ∷ at_most t s ∷ [])
 
 -- a clause of one literal, which two terms of sort Real give
 abbrev pub IsOfNumbers : (Term → Term → Term) → Clause → Type 0
-IsOfNumbers gives clause = (s : Term) × (t : Term) × (sort_of s ≡ Number) × (sort_of t ≡ Number) × (clause ≡ gives s t ∷ [])
+IsOfNumbers gives clause = (s : Term) × (t : Term) × (sort_of s ≡ Number) × (sort_of t ≡ Number)
+    × (clause ≡ gives s t ∷ [])
 
 -- the step is right by the rule; none has premises, and one alone has arguments
 abbrev pub IsArithmetic : ArithmeticRule → List Clause → Trees → Clause → Type 0
@@ -35,7 +37,8 @@ IsArithmetic rule premises arguments clause = ⊥
 
 -- an operation by which the step is tested leaves 128 bits
 abbrev pub IsWideArithmetic : ArithmeticRule → List Clause → Trees → Clause → Type 0
-IsWideArithmetic rules.LaGeneric [] arguments clause = (w : Overflow) × (la_generic clause (coefficients_of arguments) ≡ Err (wide w))
+IsWideArithmetic rules.LaGeneric [] arguments clause = (w : Overflow)
+    × (la_generic clause (coefficients_of arguments) ≡ Err (wide w))
 IsWideArithmetic rule premises arguments clause = ⊥
 
 -- the name of a rule

@@ -1,4 +1,5 @@
--- The arguments of `la_generic`, by their texts: literals, `(- c)` and `(/ c d)` of such. Source: Alethe specification, `la_generic`; a quotient by 0 and a literal beyond the bound on numbers are own.
+-- The arguments of `la_generic`, by their texts: literals, `(- c)` and `(/ c d)` of such. Source: Alethe specification,
+-- `la_generic`; a quotient by 0 and a literal beyond the bound on numbers are own.
 use Rattle.std.specs.Prelude.{Bool, true, false, List, [], ◌∷◌, codes, if◌then◌else◌, ◌&&◌, Ok, Err}
 use Rattle.std.specs.Str.{bytes_eq}
 use Rattle.spec_text.specs.declared.Kind.{Kind}
@@ -54,8 +55,10 @@ is_word_of n k w = is_symbol k && bytes_eq w n
 -- the number that a text writes
 unfoldable pub coefficient_of : Tree → Coefficient
 coefficient_of (atom at k n) = atom_coefficient k n
-coefficient_of (list at (more (atom x k w) (more c none)) end) = if is_word_of (codes "-") k w then opposite_coefficient (coefficient_of c) else malformed
-coefficient_of (list at (more (atom x k w) (more c (more d none))) end) = if is_word_of (codes "/") k w then quotient_coefficient (coefficient_of c) (coefficient_of d) else malformed
+coefficient_of (list at (more (atom x k w) (more c none)) end) =
+    if is_word_of (codes "-") k w then opposite_coefficient (coefficient_of c) else malformed
+coefficient_of (list at (more (atom x k w) (more c (more d none))) end) =
+    if is_word_of (codes "/") k w then quotient_coefficient (coefficient_of c) (coefficient_of d) else malformed
 coefficient_of t = malformed
 
 -- the numbers that texts write, in their order

@@ -1,4 +1,5 @@
--- Weighted sums of negated literals that cannot hold: Farkas' lemma. Source: Alethe specification, `la_generic`; that either orientation of equalities is taken, the order of the operations and the bound are own.
+-- Weighted sums of negated literals that cannot hold: Farkas' lemma. Source: Alethe specification, `la_generic`; that
+-- either orientation of equalities is taken, the order of the operations and the bound are own.
 use Rattle.std.specs.Prelude.{Bool, true, false, not, ◌||◌, ◌&&◌, List, [], ◌∷◌, Option, Some, None, Result, Ok, Err}
 use Rattle.spec_text.specs.Answers.{◌>>=◌}
 use Rattle.spec_numbers.specs.Fractions.{Fraction, zero_fraction, opposite}
@@ -36,14 +37,18 @@ where_true false n = None
 abbrev pub saying : Relation → Term → Term → Term → Negation
 saying r atom s t = record { relation = r; atom = atom; left = s; right = t }
 
--- what the negation of a term says that is meant positively or not, where it is one of arithmetic: `not`s turn how it is meant, and the negation of an equality says nothing that a sum could use
+-- what the negation of a term says that is meant positively or not, where it is one of arithmetic: `not`s turn how it
+-- is meant, and the negation of an equality says nothing that a sum could use
 unfoldable pub negation_of : Bool → Term → Option Negation
 negation_of positive (app Not (cons t nil)) = negation_of (not positive) t
-negation_of false (app Equal (cons s (cons t nil))) = where_true (are_numbers s t) (saying is_nought (pair Equal s t) s t)
+negation_of false (app Equal (cons s (cons t nil))) =
+    where_true (are_numbers s t) (saying is_nought (pair Equal s t) s t)
 negation_of false (app Less (cons s (cons t nil))) = where_true (are_numbers s t) (saying is_below (pair Less s t) s t)
-negation_of false (app AtMost (cons s (cons t nil))) = where_true (are_numbers s t) (saying is_at_most (pair AtMost s t) s t)
+negation_of false (app AtMost (cons s (cons t nil))) =
+    where_true (are_numbers s t) (saying is_at_most (pair AtMost s t) s t)
 negation_of true (app Less (cons s (cons t nil))) = where_true (are_numbers s t) (saying is_at_most (pair Less s t) t s)
-negation_of true (app AtMost (cons s (cons t nil))) = where_true (are_numbers s t) (saying is_below (pair AtMost s t) t s)
+negation_of true (app AtMost (cons s (cons t nil))) =
+    where_true (are_numbers s t) (saying is_below (pair AtMost s t) t s)
 negation_of positive t = None
 
 -- What an argument of the rule is.
@@ -56,12 +61,14 @@ pub data Coefficient : Type 0 where
   malformed : Coefficient
 
 -- what a literal's negation says with its argument, before the others, where all are well formed
-abbrev pub paired_with : Option Negation → Coefficient → Option (List (Negation × Coefficient)) → Option (List (Negation × Coefficient))
+abbrev pub paired_with : Option Negation → Coefficient → Option (List (Negation × Coefficient))
+    → Option (List (Negation × Coefficient))
 paired_with (Some n) (given c) (Some rest) = Some ((n, given c) ∷ rest)
 paired_with (Some n) (too_wide w) (Some rest) = Some ((n, too_wide w) ∷ rest)
 paired_with n c rest = None
 
--- what each literal's negation says with its argument, where all are well formed and there are as many of these as of those
+-- what each literal's negation says with its argument, where all are well formed and there are as many of these as of
+-- those
 unfoldable pub paired : List Term → List Coefficient → Option (List (Negation × Coefficient))
 paired [] [] = Some []
 paired (t ∷ ts) (c ∷ cs) = paired_with (negation_of true t) c (paired ts cs)
@@ -95,7 +102,8 @@ parts_of ((n, c) ∷ rest) =
     without_term (difference n.atom n.left n.right) >>= λ f.
     parts_of rest >>= λ r. Ok (record { relation = n.relation; form = f; weight = c } ∷ r)
 
--- by what a form is multiplied: an equality's by its coefficient, or this negated where equalities are turned; an order's by its coefficient's size
+-- by what a form is multiplied: an equality's by its coefficient, or this negated where equalities are turned; an
+-- order's by its coefficient's size
 abbrev pub weight_by : Bool → Relation → Fraction → Fraction
 weight_by true is_nought c = opposite c
 weight_by false is_nought c = c
@@ -104,7 +112,8 @@ weight_by turned r c = size c
 -- the forms multiplied and added to a first one, in order
 unfoldable pub summed : Bool → Form → List Part → Answer Form
 summed turned f [] = Ok f
-summed turned f (p ∷ ps) = scaled (weight_by turned p.relation p.weight) p.form >>= λ g. combined adding f g >>= λ h. summed turned h ps
+summed turned f (p ∷ ps) = scaled (weight_by turned p.relation p.weight) p.form >>= λ g. combined adding f g
+    >>= λ h. summed turned h ps
 
 -- the sum that begins as 0
 abbrev pub sum_of : Bool → List Part → Answer Form
@@ -125,7 +134,8 @@ abbrev pub is_none : {A : Type 0} → List A → Bool
 is_none [] = true
 is_none (x ∷ xs) = false
 
--- a sum that is at most 0, or below 0 where it is strict, cannot be: no variable is left, and the constant is above 0, or is 0 where the sum is strict
+-- a sum that is at most 0, or below 0 where it is strict, cannot be: no variable is left, and the constant is above 0,
+-- or is 0 where the sum is strict
 abbrev pub cannot_hold : Bool → Form → Bool
 cannot_hold strict f = is_none f.variables && (is_above_zero f.constant || (is_zero f.constant && strict))
 

@@ -1,4 +1,5 @@
--- The ordered linear form of a term, or its first operation that leaves 128 bits. The order of the operations, of the variables and the bound are own.
+-- The ordered linear form of a term, or its first operation that leaves 128 bits. The order of the operations, of the
+-- variables and the bound are own.
 use Rattle.std.specs.Prelude.{Bool, true, false, List, [], ◌∷◌, Option, Some, None, Result, Ok, Err}
 use Rattle.spec_text.specs.Answers.{◌>>=◌}
 use Rattle.spec_numbers.specs.Fractions.{Fraction, zero_fraction, one_fraction, plus, times, opposite}
@@ -10,7 +11,8 @@ use Rattle.spec_arithmetic.specs.Signs.{is_zero}
 abbrev pub Answer : Type 0 → Type 0
 Answer A = Result A Overflow
 
--- A constant, and variables with coefficients other than 0, in their order. A variable is a term whose head is none of arithmetic.
+-- A constant, and variables with coefficients other than 0, in their order. A variable is a term whose head is none of
+-- arithmetic.
 pub record Form : Type 0 where
   -- the constant
   pub constant : Fraction

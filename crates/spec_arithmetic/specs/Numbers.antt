@@ -1,12 +1,15 @@
--- The numbers of terms of sort Real, by those of the terms whose heads are none of arithmetic. Source: SMT-LIB 2.6, theory Reals; what is linear is own.
+-- The numbers of terms of sort Real, by those of the terms whose heads are none of arithmetic. Source: SMT-LIB 2.6,
+-- theory Reals; what is linear is own.
 use Rattle.std.specs.Prelude.{◌≡◌, List, [], ◌∷◌, None}
 use Rattle.spec_numbers.specs.Fractions.{Fraction, zero_fraction, one_fraction, opposite, plus, minus, times, divide}
 use Rattle.spec_sorts.specs.Lists.{left}
-use Rattle.spec_sorts.specs.Terms.{Number, Symbol, Head, Minus, Plus, Times, Divide, Literal, Term, Terms, app, nil, cons, list_of, sort_of}
+use Rattle.spec_sorts.specs.Terms.{Number, Symbol, Head, Minus, Plus, Times, Divide, Literal, Term, Terms, app, nil}
+use Rattle.spec_sorts.specs.Terms.{cons, list_of, sort_of}
 use Rattle.spec_sorts.specs.WellSorted.{IsWellSorted}
 use Rattle.spec_sorts.specs.Theory.{product_fault, quotient_fault}
 
--- what a head of arithmetic gives at its arguments' numbers; the other where it has too few of them, and of any other head
+-- what a head of arithmetic gives at its arguments' numbers; the other where it has too few of them, and of any other
+-- head
 abbrev pub head_number : Head → List Fraction → Fraction → Fraction
 head_number Plus (p ∷ ps) other = left zero_fraction plus (p ∷ ps)
 head_number Times (p ∷ ps) other = left one_fraction times (p ∷ ps)
@@ -26,7 +29,8 @@ unfoldable mutual
   numbers_at n nil = []
   numbers_at n (cons t ts) = number_at n t ∷ numbers_at n ts
 
--- of the factors at most one is no constant, and the divisor is a number other than 0; of any other head nothing is asked
+-- of the factors at most one is no constant, and the divisor is a number other than 0; of any other head nothing is
+-- asked
 abbrev pub IsLinearHead : Head → List Term → Type 0
 IsLinearHead Times ts = product_fault ts ≡ None
 IsLinearHead Divide ts = quotient_fault ts ≡ None

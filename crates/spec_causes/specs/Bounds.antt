@@ -1,6 +1,7 @@
 -- The bounds of variables that literals of linear arithmetic state.
 -- Source: Dutertre and de Moura, A Fast Linear-Arithmetic Solver for DPLL(T), CAV 2006.
-use Rattle.std.specs.Prelude.{◌≡◌, ◌⊎◌, ℕ, ◌<◌, Bool, true, false, not, List, length, Option, Some, None, Ok, Contains, All}
+use Rattle.std.specs.Prelude.{◌≡◌, ◌⊎◌, ℕ, ◌<◌, Bool, true, false, not, List, length, Option, Some, None, Ok, Contains}
+use Rattle.std.specs.Prelude.{All}
 use Rattle.spec_sorts.specs.Terms.{Term}
 use Rattle.spec_sorts.specs.Literals.{Literal}
 use Rattle.spec_arithmetic.specs.Forms.{Form, variables_value}
@@ -10,7 +11,8 @@ use Rattle.spec_tableaux.specs.Rows.{Solves}
 use Rattle.spec_tableaux.specs.Ranges.{Range}
 use Rattle.spec_tableaux.specs.Numbers.{Number, numbers}
 use Rattle.spec_tableaux.specs.Points.{Ranges}
-use Rattle.spec_simplex.specs.Constraints.{Relation, below, at_most, equals, at_least, above, Constraint, constraint_of, form_of}
+use Rattle.spec_simplex.specs.Constraints.{Relation, below, at_most, equals, at_least, above, Constraint, constraint_of}
+use Rattle.spec_simplex.specs.Constraints.{form_of}
 use Rattle.spec_causes.specs.TermTableau.{TermTableau, owner_in, AreOwned}
 
 -- A side on which a variable is bounded.
@@ -47,7 +49,8 @@ tilt_by lower true = numbers.one
 tilt_by upper true = numbers.opposite numbers.one
 tilt_by side false = numbers.zero
 
--- Wherever the rows hold, the variables of a form come to the factor, which is not 0, times the variable y; if this stands for a row, to it
+-- Wherever the rows hold, the variables of a form come to the factor, which is not 0, times the variable y; if this
+-- stands for a row, to it
 -- or to its opposite.
 pub record IsMultiple (s : TermTableau) (f : Form) (factor : Number) (y : ℕ) : Type 0 where
   pub nonzero : numbers.is_zero factor ≡ false

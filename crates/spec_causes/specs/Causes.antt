@@ -58,7 +58,8 @@ pub record IsHalfAmong (xs : List (Pair Number)) (e : Number) : Type 0 where
   pub steep : IsSteeper lesser greater
   pub is : e ≡ halfway lesser greater
 
--- The number that is put for the infinitesimal: the least of 1 and of some halves. Each is half of a number at which a value comes to a
+-- The number that is put for the infinitesimal: the least of 1 and of some halves. Each is half of a number at which a
+-- value comes to a
 -- bound of it, or at which two values meet that are kept apart.
 pub record IsEpsilon (ranges : Ranges) (v : ℕ → Pair Number) (apart : List (Pair Number)) (e : Number) : Type 0 where
   pub one_of : (e ≡ numbers.one) ⊎ ((y : ℕ) × IsHalfIn (ranges y) (v y) e) ⊎ IsHalfAmong apart e

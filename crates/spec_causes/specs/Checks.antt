@@ -12,11 +12,14 @@ use Rattle.spec_causes.specs.Reached.{IsReached, IsStoppedAt}
 use Rattle.spec_causes.specs.Counts.{AreFewRuns}
 use Rattle.spec_causes.specs.Causes.{OverflowsForm, OverflowsAt, NeedsMore}
 
--- that s and t are equal, and s is not at most t, is not judged by the rule `la_generic` within the bound on numbers, with these weights
+-- that s and t are equal, and s is not at most t, is not judged by the rule `la_generic` within the bound on numbers,
+-- with these weights
 abbrev pub LeavesOrder : Term → Term → Clause → Fraction → Overflow → Type 0
-LeavesOrder s t order w o = la_generic (negated (pair Equal s t) ∷ order) (given w ∷ given one_fraction ∷ []) ≡ Err (wide o)
+LeavesOrder s t order w o = la_generic (negated (pair Equal s t) ∷ order) (given w ∷ given one_fraction ∷ [])
+    ≡ Err (wide o)
 
--- An equality among terms, of which a clause of its orders leaves the bound on numbers: that its left side is at most the right one, judged with
+-- An equality among terms, of which a clause of its orders leaves the bound on numbers: that its left side is at most
+-- the right one, judged with
 -- the weights 1 and 1; or that the right one is at most the left, with -1 and 1.
 pub record IsOverflowAmong (terms : List Term) (o : Overflow) : Type 0 where
   pub left : Term
@@ -25,7 +28,8 @@ pub record IsOverflowAmong (terms : List Term) (o : Overflow) : Type 0 where
   pub leaves : LeavesOrder left right (pair AtMost left right ∷ []) one_fraction o
       ⊎ LeavesOrder left right (pair AtMost right left ∷ []) (opposite one_fraction) o
 
--- An operation of a search of a problem comes to the overflow o, where l clauses are learned and these exchanges are kept.
+-- An operation of a search of a problem comes to the overflow o, where l clauses are learned and these exchanges are
+-- kept.
 pub data IsOverflowed (p : Problem) (l : ℕ) (es : List (ℕ × ℕ)) (o : Overflow) : Type 0 where
   -- the form of an atom among the subterms, before it begins
   forming : l ≡ 0 → es ≡ [] → OverflowsForm (subterms_in p) o → IsOverflowed p l es o
@@ -35,7 +39,8 @@ pub data IsOverflowed (p : Problem) (l : ℕ) (es : List (ℕ × ℕ)) (o : Over
   reckoning : (s : TermTableau) (runs : ℕ) → IsStoppedAt (whole_terms p) runs es s → AreFewRuns (whole_terms p) l runs
       → OverflowsAt (whole_terms p) s o → IsOverflowed p l es o
 
--- The budget of n exchanges is spent on these, and a further one is needed where they lead, under some bounds that literals state. So many
+-- The budget of n exchanges is spent on these, and a further one is needed where they lead, under some bounds that
+-- literals state. So many
 -- clauses are learned.
 pub record ArePivotsSpent (p : Problem) (n l : ℕ) (es : List (ℕ × ℕ)) : Type 0 where
   -- so many were made

@@ -1,4 +1,5 @@
--- How many runs of exchanges a search may make: one for each check of bounds that makes exchanges; after a check that found
+-- How many runs of exchanges a search may make: one for each check of bounds that makes exchanges; after a check that
+-- found
 -- nothing wrong the next one finds each bound kept, unless an atom or a literal of one came.
 use Rattle.std.specs.Prelude.{◌≡◌, ◌+◌, ◌*◌, ◌≤◌, ℕ, suc, Bool, true, cond, List, length, Contains}
 use Rattle.std.specs.List.{filter}

@@ -1,4 +1,5 @@
--- What simplex comes to over terms: variables and rows for the forms of their atoms, and checks by the least-variable rule.
+-- What simplex comes to over terms: variables and rows for the forms of their atoms, and checks by the least-variable
+-- rule.
 -- Source: Dutertre and de Moura, CAV 2006; Bland, New finite pivoting rules for the simplex method, 1977.
 use Rattle.std.specs.Prelude.{◌≡◌, ℕ, suc, true, false, List, [], ◌∷◌, length, Some, Ok, Contains}
 use Rattle.spec_numbers.specs.Fractions.{Fraction}
@@ -10,7 +11,8 @@ use Rattle.spec_tableaux.specs.Numbers.{Number, numbers}
 use Rattle.spec_tableaux.specs.Points.{Ranges}
 use Rattle.spec_tableaux.specs.Runs.{UpdatesBelow, Ran, RanShort}
 use Rattle.spec_simplex.specs.Constraints.{Constraint, constraint_of, form_of}
-use Rattle.spec_causes.specs.TermTableau.{TermTableau, nothing_yet, owner_in, with_slack, with_sum, moved_to, state_in, AreEntriesOf}
+use Rattle.spec_causes.specs.TermTableau.{TermTableau, nothing_yet, owner_in, with_slack, with_sum, moved_to, state_in}
+use Rattle.spec_causes.specs.TermTableau.{AreEntriesOf}
 use Rattle.spec_causes.specs.Bounds.{AreBounds}
 
 -- The form is that of an atom among terms.
@@ -27,8 +29,10 @@ pub record IsFormAmong (ts : List Term) (f : Form) : Type 0 where
 abbrev pub IsLonger : List (Entry Number) → Type 0
 IsLonger gs = (g : Entry Number) → gs ≡ g ∷ [] → numbers.is_zero g.coefficient ≡ false → ⊥
 
--- Simplex comes to this over terms, where these exchanges were made in all its checks of bounds together, oldest first, each a leaving and
--- an entering variable. Those of one check are a run, and there are no more runs than so many: an empty one may be counted or not.
+-- Simplex comes to this over terms, where these exchanges were made in all its checks of bounds together, oldest first,
+-- each a leaving and
+-- an entering variable. Those of one check are a run, and there are no more runs than so many: an empty one may be
+-- counted or not.
 pub data IsReached (ts : List Term) : ℕ → List (ℕ × ℕ) → TermTableau → Type 0 where
   -- it begins with nothing
   beginning : IsReached ts 0 [] nothing_yet
@@ -43,11 +47,13 @@ pub data IsReached (ts : List Term) : ℕ → List (ℕ × ℕ) → TermTableau 
   -- a check goes to these bounds, and makes no exchange: no run is counted
   resting : (n : ℕ) (es : List (ℕ × ℕ)) (s : TermTableau) → IsReached ts n es s
       → (ranges : Ranges) → AreBounds ts s ranges → (rs : List (Row Number)) (vs : List (Pair Number))
-      → length vs ≡ length s.values → Ran ranges (state_in s) (state_in (moved_to s rs vs)) es es → IsReached ts n es (moved_to s rs vs)
+      → length vs ≡ length s.values → Ran ranges (state_in s) (state_in (moved_to s rs vs)) es es
+      → IsReached ts n es (moved_to s rs vs)
   -- a check goes to these bounds, and then makes a run of exchanges, as the rule says: one is counted
   checking : (n : ℕ) (old new : List (ℕ × ℕ)) (s : TermTableau) → IsReached ts n old s
       → (ranges : Ranges) → AreBounds ts s ranges → (rs : List (Row Number)) (vs : List (Pair Number))
-      → length vs ≡ length s.values → Ran ranges (state_in s) (state_in (moved_to s rs vs)) old new → IsReached ts (suc n) new (moved_to s rs vs)
+      → length vs ≡ length s.values → Ran ranges (state_in s) (state_in (moved_to s rs vs)) old new
+      → IsReached ts (suc n) new (moved_to s rs vs)
 
 -- It is stopped there: with all its exchanges made, or in a step of a check.
 pub data IsStoppedAt (ts : List Term) : ℕ → List (ℕ × ℕ) → TermTableau → Type 0 where
@@ -56,8 +62,10 @@ pub data IsStoppedAt (ts : List Term) : ℕ → List (ℕ × ℕ) → TermTablea
   -- in a check, on its way to the bounds that nonbasic variables violate
   updating_nonbasic : (n : ℕ) (es : List (ℕ × ℕ)) (s : TermTableau) → IsReached ts n es s
       → (ranges : Ranges) → AreBounds ts s ranges → (m : ℕ) (rs : List (Row Number)) (vs : List (Pair Number))
-      → length vs ≡ length s.values → UpdatesBelow ranges m (state_in s) (state_in (moved_to s rs vs)) → IsStoppedAt ts n es (moved_to s rs vs)
+      → length vs ≡ length s.values → UpdatesBelow ranges m (state_in s) (state_in (moved_to s rs vs))
+      → IsStoppedAt ts n es (moved_to s rs vs)
   -- in a check, where the rule says a further exchange, which is kept before it is made
   exchanging : (n : ℕ) (old new : List (ℕ × ℕ)) (s : TermTableau) → IsReached ts n old s
       → (ranges : Ranges) → AreBounds ts s ranges → (rs : List (Row Number)) (vs : List (Pair Number))
-      → length vs ≡ length s.values → RanShort ranges (state_in s) (state_in (moved_to s rs vs)) old new → IsStoppedAt ts (suc n) new (moved_to s rs vs)
+      → length vs ≡ length s.values → RanShort ranges (state_in s) (state_in (moved_to s rs vs)) old new
+      → IsStoppedAt ts (suc n) new (moved_to s rs vs)

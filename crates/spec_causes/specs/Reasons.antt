@@ -30,7 +30,8 @@ with_basic b es = record { variable = b; coefficient = numbers.opposite numbers.
 abbrev pub unit_entries : ℕ → List (Entry Number)
 unit_entries y = record { variable = y; coefficient = numbers.one } ∷ []
 
--- The bounds of the variables of entries cannot all be kept, as the sum of these is 0: up says whether the sum would have to rise.
+-- The bounds of the variables of entries cannot all be kept, as the sum of these is 0: up says whether the sum would
+-- have to rise.
 pub data Conflicts (ranges : Ranges) (t : AssignmentState) : Bool → List (Entry Number) → Type 0 where
   -- the bounds of a variable cross
   crossing : (y : ℕ) → RuleSays deltas ranges t (crossed y) → Conflicts ranges t true (with_basic y (unit_entries y))
@@ -43,7 +44,8 @@ abbrev pub stopping_side : Bool → Number → Side
 stopping_side up c = side_by (cond (is_positive numbers c) up (not up))
 
 -- One of the held literals states the bound that stops the variable of an entry.
-pub record IsStop (s : TermTableau) (held : List Literal) (ranges : Ranges) (up : Bool) (e : Entry Number) (l : Literal) : Type 0 where
+pub record IsStop (s : TermTableau) (held : List Literal) (ranges : Ranges) (up : Bool) (e : Entry Number)
+    (l : Literal) : Type 0 where
   pub is_held : Contains held l
   -- the bound
   pub bound : Pair Number
@@ -55,14 +57,17 @@ abbrev pub weight_by : Relation → Number → Fraction
 weight_by equals q = q.fraction
 weight_by r q = size q.fraction
 
--- A literal that stops the variable of an entry, with its weight: the coefficient over the factor by which its form bounds it.
-pub record IsReason (s : TermTableau) (held : List Literal) (ranges : Ranges) (up : Bool) (e : Entry Number) (x : Literal × Fraction) : Type 0 where
+-- A literal that stops the variable of an entry, with its weight: the coefficient over the factor by which its form
+-- bounds it.
+pub record IsReason (s : TermTableau) (held : List Literal) (ranges : Ranges) (up : Bool) (e : Entry Number)
+    (x : Literal × Fraction) : Type 0 where
   pub stop : IsStop s held ranges up e x.0
   pub weight : x.1 ≡ weight_by stop.states.constraint.relation
       (numbers.times (directed up e.coefficient) (numbers.inverse stop.states.factor))
 
 -- there is a reason for each entry, in their order
-abbrev pub AreReasons : TermTableau → List Literal → Ranges → Bool → List (Entry Number) → List (Literal × Fraction) → Type 0
+abbrev pub AreReasons : TermTableau → List Literal → Ranges → Bool → List (Entry Number) → List (Literal × Fraction)
+    → Type 0
 AreReasons s held ranges up [] [] = Unit {0}
 AreReasons s held ranges up (e ∷ es) (x ∷ xs) = IsReason s held ranges up e x × AreReasons s held ranges up es xs
 AreReasons s held ranges up _ _ = ⊥
@@ -76,11 +81,14 @@ abbrev pub weights_in : List (Literal × Fraction) → List Fraction
 weights_in xs = map (λ (x : Literal × Fraction). x.1) xs
 
 -- The reasons of a conflict come to the overflow o.
-pub data OverflowsReasons (s : TermTableau) (held : List Literal) (ranges : Ranges) (up : Bool) (es : List (Entry Number)) (o : Overflow)
+pub data OverflowsReasons (s : TermTableau) (held : List Literal) (ranges : Ranges) (up : Bool)
+    (es : List (Entry Number)) (o : Overflow)
     : Type 0 where
   -- a weight: the coefficient, with its sign by the direction, over the factor
   weighing : (e : Entry Number) → Contains es e → (l : Literal) → (stop : IsStop s held ranges up e l)
-      → divided (directed up e.coefficient).fraction stop.states.factor.fraction ≡ Err o → OverflowsReasons s held ranges up es o
+      → divided (directed up e.coefficient).fraction stop.states.factor.fraction ≡ Err o
+      → OverflowsReasons s held ranges up es o
   -- the sum of the literals' forms by their weights, as the rule adds it up of the clause that not all of them hold
   adding : (xs : List (Literal × Fraction)) → AreReasons s held ranges up es xs
-      → la_generic (map denial (literals_in xs)) (map given (weights_in xs)) ≡ Err (wide o) → OverflowsReasons s held ranges up es o
+      → la_generic (map denial (literals_in xs)) (map given (weights_in xs)) ≡ Err (wide o)
+      → OverflowsReasons s held ranges up es o

@@ -18,21 +18,26 @@ use Rattle.spec_causes.specs.TermTableau.{TermTableau, owner_in, IsEntryOf}
 -- A term of sort Real is shared among terms: functions and arithmetic both speak of it.
 pub data IsSharedAmong (ts : List Term) : Term → Type 0 where
   -- as an argument of a declared function
-  argument : (s : Symbol) (us : Terms) → Contains ts (app (Apply s) us) → (u : Term) → Contains (list_of us) u → sort_of u ≡ Real
+  argument : (s : Symbol) (us : Terms) → Contains ts (app (Apply s) us) → (u : Term) → Contains (list_of us) u
+      → sort_of u ≡ Real
       → IsSharedAmong ts u
   -- or as a value of one that has parameters
-  value : (s : Symbol) (us : Terms) → Contains ts (app (Apply s) us) → list_of us ≢ [] → sort_of (app (Apply s) us) ≡ Real
+  value : (s : Symbol) (us : Terms) → Contains ts (app (Apply s) us) → list_of us ≢ [] → sort_of (app (Apply s) us)
+      ≡ Real
       → IsSharedAmong ts (app (Apply s) us)
 
--- The entries are those of a form's variables for which variables of simplex stand, in order; for the others none stands.
+-- The entries are those of a form's variables for which variables of simplex stand, in order; for the others none
+-- stands.
 pub data AreOwnedEntries (owners : List (Option Term)) : List (Entry Number) → List (Term × Fraction) → Type 0 where
   -- there is no variable more
   ends : AreOwnedEntries owners [] []
   -- a variable for which one stands
-  owned : (e : Entry Number) (x : Term × Fraction) (es : List (Entry Number)) (xs : List (Term × Fraction)) → IsEntryOf owners e x
+  owned : (e : Entry Number) (x : Term × Fraction) (es : List (Entry Number)) (xs : List (Term × Fraction))
+      → IsEntryOf owners e x
       → AreOwnedEntries owners es xs → AreOwnedEntries owners (e ∷ es) (x ∷ xs)
   -- a variable for which none stands
-  left_out : (x : Term × Fraction) (es : List (Entry Number)) (xs : List (Term × Fraction)) → ((y : ℕ) → owner_in owners y ≡ Some x.0 → ⊥)
+  left_out : (x : Term × Fraction) (es : List (Entry Number)) (xs : List (Term × Fraction))
+      → ((y : ℕ) → owner_in owners y ≡ Some x.0 → ⊥)
       → AreOwnedEntries owners es xs → AreOwnedEntries owners es (x ∷ xs)
 
 -- The sum of terms with coefficients where simplex stands. One for which no variable of simplex stands counts as 0.

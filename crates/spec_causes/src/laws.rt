@@ -60,7 +60,8 @@ pub fn exchanges_are_counted()
 pub fn nothing_comes_of_no_numbers()
     ensures reached { (ts : List Term) → AreSilent ts → (n : ℕ) (es : List (ℕ × ℕ)) (s : TermTableau)
         → IsReached ts n es s → es ≡ [] }
-    ensures may_overflow { (ts : List Term) → AreSilent ts → ShareNothing ts → (n : ℕ) (es : List (ℕ × ℕ)) (s : TermTableau)
+    ensures may_overflow { (ts : List Term) → AreSilent ts → ShareNothing ts
+        → (n : ℕ) (es : List (ℕ × ℕ)) (s : TermTableau)
         → IsReached ts n es s → (o : Overflow) → OverflowsAt ts s o → ⊥ }
     ensures stopped { (ts : List Term) → AreSilent ts → (n : ℕ) (es : List (ℕ × ℕ)) (s : TermTableau)
         → IsStoppedAt ts n es s → (es ≡ []) × (ShareNothing ts → (o : Overflow) → OverflowsAt ts s o → ⊥) }

@@ -10,7 +10,8 @@ use Rattle.spec_proofs.specs.Texts.{Ending, complete, IsProofText, ending_fault}
 use Rattle.spec_checking.specs.Judging.{FirstFault}
 use Rattle.spec_checking.specs.Good.{AreGood}
 
--- a proof of the k-th check of a script, within the limits: its whole text is commands, each right after those before it,
+-- a proof of the k-th check of a script, within the limits: its whole text is commands, each right after those before
+-- it,
 -- and one clause is empty
 pub record IsAccepted (script : List ℕ) (k : ℕ) (proof : List ℕ) : Type 0 where
   -- the check
@@ -35,13 +36,15 @@ pub record IsJudged (c : Check) (proof : List ℕ) (found : Option Fault) : Type
   -- they are those of the text
   pub read : IsProofText proof commands ending
   -- the first fault of the commands and their ending
-  pub fault : FirstFault (Some term_limit) (known_at c) (length proof) (ending_fault (is_long proof) ending) commands found
+  pub fault : FirstFault (Some term_limit) (known_at c) (length proof) (ending_fault (is_long proof) ending) commands
+      found
 
 -- that the script has no such check: at the start
 abbrev pub no_such_check : Fault
 no_such_check = fault_at 0 NoSuchCheck
 
--- the first fault of a proof of the k-th check of a script, or none; that there is no such check comes before all others
+-- the first fault of a proof of the k-th check of a script, or none; that there is no such check comes before all
+-- others
 abbrev pub IsVerdict : List ℕ → ℕ → List ℕ → Option Fault → Type 0
 IsVerdict script k proof found =
     ((c : Check) × IsCurrent term_limit script k c × IsJudged c proof found)

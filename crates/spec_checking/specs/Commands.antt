@@ -1,9 +1,11 @@
--- The commands of a proof, by their shape and as they are read, and what is known before them. Source: Alethe specification, commands; keywords in any order are own.
+-- The commands of a proof, by their shape and as they are read, and what is known before them. Source: Alethe
+-- specification, commands; keywords in any order are own.
 use Rattle.std.specs.Prelude.{ℕ, Bool, true, false, ◌&&◌, List, [], Option, Some, None, codes, if◌then◌else◌}
 use Rattle.std.specs.Str.{bytes_eq}
 use Rattle.spec_text.specs.Bytes.{Name}
 use Rattle.spec_text.specs.Trees.{Tree, Trees, atom, list, none, more}
-use Rattle.spec_text.specs.Shapes.{◌>>=◌, Word, passes, first_word, first_list, only_tree, is_symbol, is_keyword, is_reserved, is_word, wanted}
+use Rattle.spec_text.specs.Shapes.{◌>>=◌, Word, passes, first_word, first_list, only_tree, is_symbol, is_keyword}
+use Rattle.spec_text.specs.Shapes.{is_reserved, is_word, wanted}
 use Rattle.spec_sorts.specs.Terms.{Term}
 use Rattle.spec_sorts.specs.Signatures.{Definition, Signature}
 use Rattle.spec_sorts.specs.Literals.{Clause}
@@ -141,7 +143,8 @@ with_arguments p t = passes (is_new p.arguments) >>= λ new. list_in t >>= λ ts
 
 -- `:discharge (d ..)`; which they are does not matter for now
 abbrev pub with_discharged : Keywords → Tree → Option Keywords
-with_discharged p t = passes (is_new p.discharged) >>= λ new. symbols_in t >>= λ ds. Some (record p { discharged = Some ds })
+with_discharged p t = passes (is_new p.discharged) >>= λ new. symbols_in t
+    >>= λ ds. Some (record p { discharged = Some ds })
 
 -- a keyword by its name, with its value
 abbrev pub with_keyword : Keywords → Name → Tree → Option Keywords
@@ -157,7 +160,8 @@ unfoldable pub keywords_in : Keywords → Trees → Option Keywords
 keywords_in p none = Some p
 keywords_in p (more key none) = None
 keywords_in p (more (list at us end) (more t ts)) = None
-keywords_in p (more (atom at k n) (more t ts)) = passes (is_keyword k) >>= λ key. with_keyword p n t >>= λ q. keywords_in q ts
+keywords_in p (more (atom at k n) (more t ts)) = passes (is_keyword k) >>= λ key. with_keyword p n t
+    >>= λ q. keywords_in q ts
 
 -- what is not given is none
 abbrev pub or_none : Option Trees → Trees
@@ -182,7 +186,13 @@ step_shape ts = do
   is_cl ← wanted (codes "cl") cl.0
   p ← keywords_in no_keywords c.1
   r ← p.rule
-  Some (steps (record { name = i.0; literals = cl.1; rule = r; premises = or_none p.premises; arguments = or_none p.arguments }))
+  Some (steps (record {
+    name = i.0;
+    literals = cl.1;
+    rule = r;
+    premises = or_none p.premises;
+    arguments = or_none p.arguments;
+  }))
 
 -- a definition has the shape that it has in a script
 abbrev pub definition_of : scripts.Command → Option Shape

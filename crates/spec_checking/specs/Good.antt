@@ -1,4 +1,5 @@
--- When the commands of a proof are good, and a proof's text, apart from any fault, within a limit or with none. Source: Alethe specification, proofs as lists of commands; limits are own.
+-- When the commands of a proof are good, and a proof's text, apart from any fault, within a limit or with none. Source:
+-- Alethe specification, proofs as lists of commands; limits are own.
 use Rattle.std.specs.Prelude.{◌≡◌, ℕ, List, [], ◌∷◌, ◌++◌, Option, None, Ok}
 use Rattle.spec_text.specs.Answers.{◌>>=◌}
 use Rattle.spec_text.specs.Trees.{Trees, none, more}
@@ -23,7 +24,8 @@ known_after k (c ∷ cs) = known_after (with_command k c) cs
 -- each of the commands is right after those before it
 abbrev pub AreRight : Known → List Command → Type 0
 AreRight k commands =
-    (before : List Command) (c : Command) (after : List Command) → commands ≡ before ++ c ∷ after → IsRightAfter (known_after k before) c.statement
+    (before : List Command) (c : Command) (after : List Command) → commands ≡ before ++ c ∷ after
+    → IsRightAfter (known_after k before) c.statement
 
 -- the trees are commands that are right, within a limit, and at the end some clause is empty
 pub record AreGood (limit : Option ℕ) (k : Known) (ts : Trees) : Type 0 where

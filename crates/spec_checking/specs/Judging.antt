@@ -1,4 +1,5 @@
--- Which commands are right, and the first fault of a proof, within a limit on terms, or with none. Source: Alethe specification; the faults are own.
+-- Which commands are right, and the first fault of a proof, within a limit on terms, or with none. Source: Alethe
+-- specification; the faults are own.
 use Rattle.std.specs.Prelude.{◌≡◌, ℕ, List, [], ◌∷◌, ◌++◌, Any, ◌⊎◌, Option, Some, None, Ok, Err, Contains}
 use Rattle.spec_text.specs.Trees.{Trees, none, more}
 use Rattle.spec_sorts.specs.Signatures.{with_definitions}
@@ -16,7 +17,11 @@ with_statement es (nothing at) = es
 
 -- what is known after a command: what it defines, and its clause under its name
 abbrev pub with_command : Known → Command → Known
-with_command k c = record { scope = with_definitions k.scope c.made; asserted = k.asserted; entries = with_statement k.entries c.statement }
+with_command k c = record {
+  scope = with_definitions k.scope c.made;
+  asserted = k.asserted;
+  entries = with_statement k.entries c.statement;
+}
 
 -- an assumed term is asserted, and a step is right by its rule; a definition that is read is right
 abbrev pub IsRightAfter : Known → Statement → Type 0
@@ -44,14 +49,16 @@ wide_fault s = fault_of s
 abbrev pub HasEmptyClause : Known → Type 0
 HasEmptyClause k = Any (λ (e : NamedClause). e.clause ≡ []) k.entries
 
--- after the last command: what ends the text wrongly is the fault; else, where no clause is empty, that is the fault, at
+-- after the last command: what ends the text wrongly is the fault; else, where no clause is empty, that is the fault,
+-- at
 -- the end of the text
 abbrev pub EndsBy : Known → ℕ → Option Fault → Option Fault → Type 0
 EndsBy k end (Some f) found = found ≡ Some f
 EndsBy k end None None = HasEmptyClause k
 EndsBy k end None (Some f) = (HasEmptyClause k → ⊥) × (f ≡ fault_at end NoEmptyClause)
 
--- the first fault of a command and those after it: that of reading it, else that of the rest where it is right, else its
+-- the first fault of a command and those after it: that of reading it, else that of the rest where it is right, else
+-- its
 -- own
 abbrev pub FaultBy : Known → Read Command → (Known → Type 0) → Option Fault → Type 0
 FaultBy k (Err f) rest found = found ≡ Some f

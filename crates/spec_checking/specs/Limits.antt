@@ -9,7 +9,8 @@ use Rattle.spec_proofs.specs.Limits.{lists_round}
 use Rattle.spec_checking.specs.Good.{AreGood, IsGood}
 
 -- a good proof is within the limits
-pub record IsWithinLimits (script : List ℕ) (k : ℕ) (proof : List ℕ) (g : IsGood term_limit script k proof) : Type 0 where
+pub record IsWithinLimits (script : List ℕ) (k : ℕ) (proof : List ℕ) (g : IsGood term_limit script k proof) : Type
+    0 where
   -- it is no longer than it may be
   pub short : is_long proof ≡ false
   -- no list is nested deeper than it may be

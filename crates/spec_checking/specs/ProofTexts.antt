@@ -1,5 +1,5 @@
 -- Texts of proofs for the check of `contradiction`, with the commands that they are, and the places of their faults.
-use Rattle.std.specs.Prelude.{◌≡◌, refl, ℕ, pos, true, List, [], ◌∷◌, length, Option, Some, None, Err, codes}
+use Rattle.std.specs.Prelude.{◌++◌, ◌≡◌, refl, ℕ, pos, true, List, [], ◌∷◌, length, Option, Some, None, Err, codes}
 use Rattle.std.proofs.Common.{arith}
 use Rattle.spec_text.specs.declared.Fault.TheVariants as faults
 use Rattle.spec_text.specs.Lexemes.{lexemes, first_piece}
@@ -7,7 +7,8 @@ use Rattle.spec_text.specs.Places.{line_of, column_of}
 use Rattle.spec_text.specs.Trees.{Trees, atom, list, none, more}
 use Rattle.spec_text.specs.declared.Kind.TheVariants.{Simple, Numeral}
 use Rattle.spec_text.specs.Readings.{kept, IsReadUpTo}
-use Rattle.spec_sorts.specs.Terms.{Truth, Number, And, Or, Less, Literal, Parameter, Term, of, pair, negated, constant, constant_term}
+use Rattle.spec_sorts.specs.Terms.{Truth, Number, And, Or, Less, Literal, Parameter, Term, of, pair, negated, constant}
+use Rattle.spec_sorts.specs.Terms.{constant_term}
 use Rattle.spec_sorts.specs.Written.{built, trees_in}
 use Rattle.spec_sorts.specs.Signatures.{is_some}
 use Rattle.spec_commands.specs.Stack.{empty_stack}
@@ -26,7 +27,13 @@ use Rattle.spec_checking.specs.OnLiterals.{proofs_on_literals}
 -- the script is read to its end
 pub contradiction_is_read : IsReadUpTo contradiction (trees_in contradiction) None
 unfolding lexemes first_piece built
-contradiction_is_read = record { rest = []; trees = record { split = refl; within = omega arith }; stop = None; stops = refl; is = refl }
+contradiction_is_read = record {
+  rest = [];
+  trees = record { split = refl; within = omega arith };
+  stop = None;
+  stops = refl;
+  is = refl;
+}
 
 -- a check that is there
 there : (o : Option Check) → is_some o ≡ true → o ≡ Some (check_or_none o)
@@ -39,11 +46,21 @@ one_check = refl
 
 -- and has one check
 pub contradiction_is_current : IsCurrent term_limit contradiction 1 the_check
-contradiction_is_current = record { commands = trees_in contradiction; end = None; read = contradiction_is_read; here = there (current_at term_limit empty_stack 1 (trees_in contradiction)) one_check }
+contradiction_is_current = record {
+  commands = trees_in contradiction;
+  end = None;
+  read = contradiction_is_read;
+  here = there (current_at term_limit empty_stack 1 (trees_in contradiction)) one_check;
+}
 
 pub contradiction_has_one_check : HasNoCheck term_limit contradiction 2
 unfolding proofs_on_literals
-contradiction_has_one_check = record { commands = trees_in contradiction; end = None; read = contradiction_is_read; none_here = refl }
+contradiction_has_one_check = record {
+  commands = trees_in contradiction;
+  end = None;
+  read = contradiction_is_read;
+  none_here = refl;
+}
 
 -- what it asserts
 pub asserted_there : known.asserted ≡ p ∷ negated p ∷ []
@@ -77,7 +94,14 @@ second_assume at = plain_command (assumed at (codes "h2") (negated p))
 
 -- the empty clause from both, under the name t1, by the offset of the step
 abbrev pub empty_step : ℕ → Command
-empty_step at = plain_command (stepped (record { at = at; name = codes "t1"; clause = []; rule = rules.Resolution; premises = (p ∷ []) ∷ (negated p ∷ []) ∷ []; arguments = none }))
+empty_step at = plain_command (stepped (record {
+  at = at;
+  name = codes "t1";
+  clause = [];
+  rule = rules.Resolution;
+  premises = (p ∷ []) ∷ (negated p ∷ []) ∷ [];
+  arguments = none;
+}))
 
 -- two assumptions and their resolvent
 abbrev pub refutation : List ℕ
@@ -87,7 +111,8 @@ pub refutation_is_read : IsProofText refutation (trees_in refutation) complete
 unfolding lexemes first_piece built
 refutation_is_read = ([], record { split = refl; within = omega arith }, refl)
 
-pub refutation_commands : read_as (trees_in refutation) ≡ (first_assume 11 ∷ second_assume 25 ∷ empty_step 34 ∷ [], None)
+pub refutation_commands : read_as (trees_in refutation)
+    ≡ (first_assume 11 ∷ second_assume 25 ∷ empty_step 34 ∷ [], None)
 unfolding proofs_on_literals read_commands
 refutation_commands = refl
 
@@ -102,9 +127,11 @@ listed_proof = codes "unsat\n((assume h1 p)\n(assume h2 (not p))\n(step t1 (cl) 
 
 pub listed_is_read : IsProofText listed_proof (first_items (trees_in listed_proof)) complete
 unfolding lexemes first_piece built
-listed_is_read = in_one_list (length (kept listed_proof)) 6 90 (proof_lexemes listed_proof) (first_items (trees_in listed_proof)) refl (omega arith)
+listed_is_read = in_one_list (length (kept listed_proof)) 6 90 (proof_lexemes listed_proof)
+    (first_items (trees_in listed_proof)) refl (omega arith)
 
-pub listed_commands : read_as (first_items (trees_in listed_proof)) ≡ (first_assume 18 ∷ second_assume 32 ∷ empty_step 41 ∷ [], None)
+pub listed_commands : read_as (first_items (trees_in listed_proof))
+    ≡ (first_assume 18 ∷ second_assume 32 ∷ empty_step 41 ∷ [], None)
 unfolding proofs_on_literals read_commands
 listed_commands = refl
 
@@ -114,7 +141,9 @@ half_below = pair Less (of (Literal (record { num = pos 1; den = 2 })) []) (cons
 
 -- a definition with a parameter, a number, and `let`; arguments of a rule without any are passed over
 abbrev pub with_numbers : List ℕ
-with_numbers = codes "(define-fun @less ((a Real)) Bool (< a x))\n(assume h1 p)\n(assume h2 (let ((q p)) (not q)))\n(step t0 (cl (or p (@less 0.50)) (not (< 0.5 x))) :rule or_neg :args (1))\n(step t1 (cl) :rule resolution :premises (h1 h2))\n"
+with_numbers = (codes "(define-fun @less ((a Real)) Bool (< a x))\n(assume h1 p)\n(assume h2 (let ((q p)) "
+    ++ codes "(not q)))\n(step t0 (cl (or p (@less 0.50)) (not (< 0.5 x))) :rule or_neg :args (1))\n"
+    ++ codes "(step t1 (cl) :rule resolution :premises (h1 h2))\n")
 
 pub with_numbers_is_read : IsProofText with_numbers (trees_in with_numbers) complete
 unfolding lexemes first_piece built
@@ -122,12 +151,32 @@ with_numbers_is_read = ([], record { split = refl; within = omega arith }, refl)
 
 -- the commands before the last one: a definition, two assumptions, and a step
 abbrev pub less_defined : Command
-less_defined = record { made = record { name = codes "@less"; parameters = (codes "a", Number) ∷ []; result = Truth; body = list 34 (more (atom 35 Simple (codes "<")) (more (atom 37 Simple (codes "a")) (more (atom 39 Simple (codes "x")) none))) 40; term = pair Less (of (Parameter 0 Number) []) (constant_term (constant (codes "x") Number)) } ∷ []; statement = nothing 0 }
+less_defined = record {
+  made = record {
+    name = codes "@less";
+    parameters = (codes "a", Number) ∷ [];
+    result = Truth;
+    body = list 34 (more (atom 35 Simple (codes "<"))
+        (more (atom 37 Simple (codes "a")) (more (atom 39 Simple (codes "x")) none))) 40;
+    term = pair Less (of (Parameter 0 Number) []) (constant_term (constant (codes "x") Number));
+  } ∷ [];
+  statement = nothing 0;
+}
 
 abbrev pub or_step : Command
-or_step = plain_command (stepped (record { at = 91; name = codes "t0"; clause = of Or (p ∷ half_below ∷ []) ∷ negated half_below ∷ []; rule = rules.OrNeg; premises = []; arguments = more (atom 161 Numeral (codes "1")) none }))
+or_step = plain_command (stepped (record {
+  at = 91;
+  name = codes "t0";
+  clause = of Or (p ∷ half_below ∷ [])
+      ∷ negated half_below ∷ [];
+  rule = rules.OrNeg;
+  premises = [];
+  arguments =
+      more (atom 161 Numeral (codes "1")) none;
+}))
 
-pub with_numbers_commands : read_as (trees_in with_numbers) ≡ (less_defined ∷ first_assume 54 ∷ second_assume 68 ∷ or_step ∷ empty_step 165 ∷ [], None)
+pub with_numbers_commands : read_as (trees_in with_numbers)
+    ≡ (less_defined ∷ first_assume 54 ∷ second_assume 68 ∷ or_step ∷ empty_step 165 ∷ [], None)
 unfolding proofs_on_literals read_commands
 with_numbers_commands = refl
 
@@ -139,7 +188,8 @@ pub unknown_premise_is_read : IsProofText unknown_premise (trees_in unknown_prem
 unfolding lexemes first_piece built
 unknown_premise_is_read = ([], record { split = refl; within = omega arith }, refl)
 
-pub unknown_premise_commands : read_as (trees_in unknown_premise) ≡ (first_assume 11 ∷ second_assume 25 ∷ [], Some (fault_at 79 UnknownPremise))
+pub unknown_premise_commands : read_as (trees_in unknown_premise)
+    ≡ (first_assume 11 ∷ second_assume 25 ∷ [], Some (fault_at 79 UnknownPremise))
 unfolding proofs_on_literals read_commands
 unknown_premise_commands = refl
 
@@ -154,7 +204,8 @@ pub not_linear_is_read : IsProofText not_linear (trees_in not_linear) complete
 unfolding lexemes first_piece built
 not_linear_is_read = ([], record { split = refl; within = omega arith }, refl)
 
-pub not_linear_commands : read_as (trees_in not_linear) ≡ (first_assume 11 ∷ [], Some (fault_at 28 (in_term faults.NotLinear)))
+pub not_linear_commands : read_as (trees_in not_linear)
+    ≡ (first_assume 11 ∷ [], Some (fault_at 28 (in_term faults.NotLinear)))
 unfolding proofs_on_literals read_commands
 not_linear_commands = refl
 
@@ -169,7 +220,19 @@ pub one_premise_is_read : IsProofText one_premise (trees_in one_premise) complet
 unfolding lexemes first_piece built
 one_premise_is_read = ([], record { split = refl; within = omega arith }, refl)
 
-pub one_premise_commands : read_as (trees_in one_premise) ≡ (first_assume 11 ∷ second_assume 25 ∷ plain_command (stepped (record { at = 34; name = codes "t1"; clause = []; rule = rules.Resolution; premises = (p ∷ []) ∷ []; arguments = none })) ∷ [], None)
+pub one_premise_commands : read_as (trees_in one_premise)
+    ≡ (
+      first_assume 11 ∷ second_assume 25
+          ∷ plain_command (stepped (record {
+            at = 34;
+            name = codes "t1";
+            clause = [];
+            rule = rules.Resolution;
+            premises = (p ∷ []) ∷ [];
+            arguments = none;
+          })) ∷ [],
+      None,
+    )
 unfolding proofs_on_literals read_commands
 one_premise_commands = refl
 
@@ -184,7 +247,19 @@ pub dropped_literal_is_read : IsProofText dropped_literal (trees_in dropped_lite
 unfolding lexemes first_piece built
 dropped_literal_is_read = ([], record { split = refl; within = omega arith }, refl)
 
-pub dropped_literal_commands : read_as (trees_in dropped_literal) ≡ (first_assume 11 ∷ plain_command (stepped (record { at = 14; name = codes "t1"; clause = []; rule = rules.Contraction; premises = (p ∷ []) ∷ []; arguments = none })) ∷ [], None)
+pub dropped_literal_commands : read_as (trees_in dropped_literal)
+    ≡ (
+      first_assume 11 ∷ plain_command
+          (stepped (record {
+            at = 14;
+            name = codes "t1";
+            clause = [];
+            rule = rules.Contraction;
+            premises = (p ∷ []) ∷ [];
+            arguments = none;
+          })) ∷ [],
+      None,
+    )
 unfolding proofs_on_literals read_commands
 dropped_literal_commands = refl
 
@@ -199,7 +274,8 @@ pub not_asserted_is_read : IsProofText not_asserted (trees_in not_asserted) comp
 unfolding lexemes first_piece built
 not_asserted_is_read = ([], record { split = refl; within = omega arith }, refl)
 
-pub not_asserted_commands : read_as (trees_in not_asserted) ≡ (first_assume 11 ∷ plain_command (assumed 25 (codes "h2") (of And (p ∷ p ∷ []))) ∷ [], None)
+pub not_asserted_commands : read_as (trees_in not_asserted)
+    ≡ (first_assume 11 ∷ plain_command (assumed 25 (codes "h2") (of And (p ∷ p ∷ []))) ∷ [], None)
 unfolding proofs_on_literals read_commands
 not_asserted_commands = refl
 

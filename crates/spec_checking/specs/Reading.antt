@@ -1,5 +1,7 @@
--- What the commands of a proof are read as under what is known before them, within a limit on terms and names, or with none. Source: Alethe specification, commands; the order of faults is own.
-use Rattle.std.specs.Prelude.{ℕ, Bool, true, false, ◌||◌, List, [], ◌∷◌, ◌++◌, map, Option, Some, None, Ok, Err, ◌==◌, if◌then◌else◌}
+-- What the commands of a proof are read as under what is known before them, within a limit on terms and names, or with
+-- none. Source: Alethe specification, commands; the order of faults is own.
+use Rattle.std.specs.Prelude.{ℕ, Bool, true, false, ◌||◌, List, [], ◌∷◌, ◌++◌, map, Option, Some, None, Ok, Err, ◌==◌}
+use Rattle.std.specs.Prelude.{if◌then◌else◌}
 use Rattle.std.specs.Str.{bytes_eq}
 use Rattle.spec_text.specs.declared.Fault.{Fault as TextFault}
 use Rattle.spec_text.specs.declared.Fault.TheVariants.{Twice, Full}
@@ -23,7 +25,8 @@ use Rattle.spec_proofs.specs.declared.ProofKind.{ProofKind}
 use Rattle.spec_proofs.specs.declared.ProofKind.TheVariants.{BadShape, TwiceName, UnknownPremise, UnknownRule}
 use Rattle.spec_proofs.specs.RuleNames.{rule_named}
 use Rattle.spec_proofs.specs.Faults.{Fault, Read, fault_at, wrong, term_kind}
-use Rattle.spec_checking.specs.Commands.{NamedClause, Known, assumed, stepped, nothing, Command, Shape, assumes, steps, defines, shape_of}
+use Rattle.spec_checking.specs.Commands.{NamedClause, Known, assumed, stepped, nothing, Command, Shape, assumes, steps}
+use Rattle.spec_checking.specs.Commands.{defines, shape_of}
 
 -- the clause of a name
 abbrev pub clause_of : List NamedClause → Name → Option Clause
@@ -40,7 +43,8 @@ fresh_name k w = if among (entry_names k.entries) w.bytes then wrong w.at TwiceN
 
 -- the names that `:named` gives to the term of a list, where that is one with attributes
 abbrev pub names_given : Trees → List Word
-names_given (more head (more t attributes)) = elim (form head (more t attributes)) [ annotates ↦ named_words a_keyword attributes | _ ↦ [] ]
+names_given (more head (more t attributes)) =
+    elim (form head (more t attributes)) [ annotates ↦ named_words a_keyword attributes | _ ↦ [] ]
 names_given ts = []
 
 unfoldable mutual
@@ -59,7 +63,8 @@ abbrev pub one_is_at : List Word → ℕ → Bool
 one_is_at [] at = false
 one_is_at (w ∷ ws) at = w.at == at || one_is_at ws at
 
--- what a fault of a text is in a proof, by whether it is at a name that is given to a term: that this is known already has a kind of its own
+-- what a fault of a text is in a proof, by whether it is at a name that is given to a term: that this is known already
+-- has a kind of its own
 abbrev pub kind_by : Bool → TextFault → ProofKind
 kind_by true Twice = TwiceName
 kind_by given f = term_kind f
@@ -78,7 +83,8 @@ abbrev pub room : Option ℕ → ℕ → Signature → List Term → Answer (Uni
 room None at s ts = Ok tt
 room (Some limit) at s ts = require (has_room limit s ts) at Full
 
--- what literals are read as, one after the other: each has the sort Bool, and what one defines is known in those after it
+-- what literals are read as, one after the other: each has the sort Bool, and what one defines is known in those after
+-- it
 unfoldable pub literals_in : Signature → Trees → Answer Readings
 literals_in s none = Ok (record { made = []; terms = [] })
 literals_in s (more t ts) =
@@ -138,7 +144,17 @@ read_shape limit k at (steps p) = do
   r ← in_proof (named_in_all p.literals) (roomy_literals limit at k.scope p.literals)
   rule ← rule_at p.rule.at (rule_named p.rule.bytes)
   qs ← premises_of k p.premises
-  Ok (record { made = r.made; statement = stepped (record { at = at; name = n; clause = r.terms; rule = rule; premises = qs; arguments = p.arguments }) })
+  Ok (record {
+    made = r.made;
+    statement = stepped (record {
+      at = at;
+      name = n;
+      clause = r.terms;
+      rule = rule;
+      premises = qs;
+      arguments = p.arguments;
+    });
+  })
 read_shape limit k at (defines d) = do
   ds ← in_proof (d.name ∷ named_in d.body) (roomy_definitions limit at k.scope d)
   Ok (record { made = ds; statement = nothing at })

@@ -39,7 +39,8 @@ pub others : answers (
     codes "(declare-sort U 0)(define-sort V () U)(declare-const c V)(declare-fun f (U) V)(define-fun g () U (f c))" ∷
     codes "(assert true)(assert g)" ∷
     codes "(echo \"a \"\"b\"\"\")(echo \"\")" ∷
-    codes "(check-sat)(exit)" ∷ []) ≡ done ∷ done ∷ done ∷ done ∷ done ∷ done ∷ done ∷ done ∷ say (codes "a \"\"b\"\"") ∷ say [] ∷ check 195 [] ∷ leave ∷ []
+    codes "(check-sat)(exit)" ∷ []) ≡ done ∷ done ∷ done ∷ done ∷ done ∷ done ∷ done ∷ done ∷ say (codes "a \"\"b\"\"")
+    ∷ say [] ∷ check 195 [] ∷ leave ∷ []
 unfolding commands_on_literals answers_after
 others = refl
 

@@ -1,12 +1,14 @@
 -- Scripts with what is current at their checks: the terms of assertions, their names and levels.
-use Rattle.std.specs.Prelude.{◌≡◌, refl, ℕ, Bool, true, false, ◌&&◌, List, [], ◌∷◌, ◌++◌, length, map, Option, Some, None, option_map, Ok, Err, codes}
+use Rattle.std.specs.Prelude.{◌≡◌, refl, ℕ, Bool, true, false, ◌&&◌, List, [], ◌∷◌, ◌++◌, length, map, Option, Some}
+use Rattle.std.specs.Prelude.{None, option_map, Ok, Err, codes}
 use Rattle.spec_text.specs.Bytes.{Name}
 use Rattle.spec_text.specs.Answers.{Answer}
 use Rattle.spec_text.specs.Trees.{Trees, none, more}
 use Rattle.spec_sorts.specs.Written.{trees_in}
 use Rattle.spec_sorts.specs.Terms.{Term, same_term}
 use Rattle.spec_sorts.specs.Signatures.{Declaration, of_sort, of_function, known_name}
-use Rattle.spec_commands.specs.Stack.{ScopedDeclaration, Options, Stack, Taken, empty_stack, assertions_of, terms_asserted, step}
+use Rattle.spec_commands.specs.Stack.{ScopedDeclaration, Options, Stack, Taken, empty_stack, assertions_of}
+use Rattle.spec_commands.specs.Stack.{terms_asserted, step}
 use Rattle.spec_commands.specs.Checks.{Check, asked, current_at}
 use Rattle.spec_commands.specs.OnLiterals.{commands_on_literals}
 
@@ -29,7 +31,8 @@ name_of (of_function k) = known_name k
 
 -- the names at the k-th check of a script, each with its level
 abbrev pub names_at : ℕ → List ℕ → Option (List (ℕ × Name))
-names_at k text = option_map (λ (c : Check). map {B = ℕ × Name} (λ (e : ScopedDeclaration). (e.level, name_of e.declaration)) c.stack.names) (check_of k text)
+names_at k text = option_map (λ (c : Check). map {B = ℕ
+    × Name} (λ (e : ScopedDeclaration). (e.level, name_of e.declaration)) c.stack.names) (check_of k text)
 
 -- the options at the k-th check of a script
 abbrev pub options_at : ℕ → List ℕ → Option Options
@@ -37,7 +40,9 @@ options_at k text = option_map (λ (c : Check). c.stack.options) (check_of k tex
 
 -- declarations, before an assertion of a term of sort Bool and a check
 abbrev pub with_truth : List ℕ → List ℕ
-with_truth t = codes "(declare-const p Bool)(declare-const q Bool)(declare-const r Bool)(define-fun g ((z Bool)) Bool (not z))(define-fun two ((y Bool) (z Bool)) Bool (=> y z))(assert " ++ t ++ codes ")(check-sat)"
+with_truth t = (codes "(declare-const p Bool)(declare-const q Bool)(declare-const r Bool)"
+    ++ codes "(define-fun g ((z Bool)) Bool (not z))(define-fun two ((y Bool) (z Bool)) Bool (=> y z))"
+    ++ codes "(assert ") ++ t ++ codes ")(check-sat)"
 
 -- the terms that are read of two texts are the same, and there are such
 abbrev pub reads_as : List ℕ → List ℕ → Type 0
@@ -54,7 +59,10 @@ stack_after s (more t ts) = stack_after (kept s (step 100 s t)) ts
 
 -- the terms that are asserted of numbers
 abbrev pub number_terms : List ℕ → List Term
-number_terms t = terms_asserted (assertions_of (stack_after empty_stack (trees_in (codes "(declare-const x Real)(declare-const y Real)(define-fun half ((z Real)) Real (/ z 2))(assert " ++ t ++ codes ")"))))
+number_terms t = terms_asserted
+    (assertions_of (stack_after empty_stack
+    (trees_in (codes "(declare-const x Real)(declare-const y Real)(define-fun half ((z Real)) Real (/ z 2))(assert "
+    ++ t ++ codes ")"))))
 
 -- the terms of two lists are the same
 abbrev pub same_lists : List Term → List Term → Bool
@@ -117,7 +125,8 @@ unfolding commands_on_literals
 quoted = (refl, refl)
 
 -- `>` and `>=` are `<` and `<=` turned, pair by pair in a chain
-pub more_than : number_terms (codes "(and (> x y) (>= x y 0))") ≡ number_terms (codes "(and (< y x) (and (<= y x) (<= 0 y)))")
+pub more_than : number_terms (codes "(and (> x y) (>= x y 0))")
+    ≡ number_terms (codes "(and (< y x) (and (<= y x) (<= 0 y)))")
 unfolding commands_on_literals stack_after
 more_than = refl
 
@@ -127,7 +136,8 @@ unfolding commands_on_literals stack_after
 less_chain = refl
 
 -- `-` and `/` go to the left
-pub minus_and_over : number_terms (codes "(= (- x y 1) (/ x 2 3))") ≡ number_terms (codes "(= (- (- x y) 1) (/ (/ x 2) 3))")
+pub minus_and_over : number_terms (codes "(= (- x y 1) (/ x 2 3))")
+    ≡ number_terms (codes "(= (- (- x y) 1) (/ (/ x 2) 3))")
 unfolding commands_on_literals stack_after
 minus_and_over = refl
 
@@ -142,32 +152,39 @@ unfolding commands_on_literals stack_after
 macro = refl
 
 -- one argument of `and` is kept, and so is the order of an equality; 0.5 is no quotient
-pub kept_apart : same_terms_of (codes "(and (< x y))") (codes "(< x y)") ∷ same_terms_of (codes "(= x y)") (codes "(= y x)") ∷ same_terms_of (codes "(= x 0.5)") (codes "(= x (/ 1 2))") ∷ same_terms_of (codes "(< x y)") (codes "(> y x)") ∷ [] ≡ false ∷ false ∷ false ∷ true ∷ []
+pub kept_apart : same_terms_of (codes "(and (< x y))") (codes "(< x y)")
+    ∷ same_terms_of (codes "(= x y)") (codes "(= y x)") ∷ same_terms_of (codes "(= x 0.5)") (codes "(= x (/ 1 2))")
+    ∷ same_terms_of (codes "(< x y)") (codes "(> y x)") ∷ [] ≡ false ∷ false ∷ false ∷ true ∷ []
 unfolding commands_on_literals stack_after
 kept_apart = refl
 
 -- the first check asks about what is asserted before it
-pub first_of_two : count_at 1 (codes "(declare-const p Bool)(assert p)(check-sat)(assert (not p))(check-sat)(assert p)") ≡ Some 1
+pub first_of_two : count_at 1 (codes "(declare-const p Bool)(assert p)(check-sat)(assert (not p))(check-sat)(assert p)")
+    ≡ Some 1
 unfolding commands_on_literals
 first_of_two = refl
 
 -- the second about all that is asserted before it
-pub second_of_two : count_at 2 (codes "(declare-const p Bool)(assert p)(check-sat)(assert (not p))(check-sat)(assert p)") ≡ Some 2
+pub second_of_two : count_at 2
+    (codes "(declare-const p Bool)(assert p)(check-sat)(assert (not p))(check-sat)(assert p)") ≡ Some 2
 unfolding commands_on_literals
 second_of_two = refl
 
 -- there is no third
-pub no_third : count_at 3 (codes "(declare-const p Bool)(assert p)(check-sat)(assert (not p))(check-sat)(assert p)") ≡ None
+pub no_third : count_at 3 (codes "(declare-const p Bool)(assert p)(check-sat)(assert (not p))(check-sat)(assert p)")
+    ≡ None
 unfolding commands_on_literals
 no_third = refl
 
 -- a check over numbers is one, and asks about all that is asserted before it
-pub check_of_numbers_is_one : count_at 1 (codes "(declare-const x Real)(declare-const p Bool)(assert p)(assert (< x 1))(check-sat)") ≡ Some 2
+pub check_of_numbers_is_one : count_at 1
+    (codes "(declare-const x Real)(declare-const p Bool)(assert p)(assert (< x 1))(check-sat)") ≡ Some 2
 unfolding commands_on_literals
 check_of_numbers_is_one = refl
 
 -- and is counted: it is the second after the one before it
-pub check_of_numbers_is_counted : count_at 2 (codes "(declare-const x Real)(check-sat)(assert (< x 1))(check-sat)") ≡ Some 1
+pub check_of_numbers_is_counted : count_at 2 (codes "(declare-const x Real)(check-sat)(assert (< x 1))(check-sat)")
+    ≡ Some 1
 unfolding commands_on_literals
 check_of_numbers_is_counted = refl
 
@@ -181,12 +198,21 @@ pub misshapen_exit : count_at 1 (codes "(exit 1)(check-sat)") ≡ Some 0
 unfolding commands_on_literals
 misshapen_exit = refl
 
--- names are in the order of their declaration: those of annotations before the definition that has them, and none of a refused command
-pub names_in_order : names_at 1 (codes "(declare-sort U 0)(declare-const p Bool)(define-sort V () U)(assert (! (and (! p :named n) n) :named m))(assert (and (! p :named k) zz))(define-fun f ((x V)) Bool (! p :named j))(check-sat)") ≡ (Some ((0, codes "U") ∷ (0, codes "p") ∷ (0, codes "V") ∷ (0, codes "n") ∷ (0, codes "m") ∷ (0, codes "j") ∷ (0, codes "f") ∷ []))
+-- names are in the order of their declaration: those of annotations before the definition that has them, and none of a
+-- refused command
+pub names_in_order : names_at 1
+    (codes "(declare-sort U 0)(declare-const p Bool)(define-sort V () U)"
+    ++ codes "(assert (! (and (! p :named n) n) :named m))(assert (and (! p :named k) zz))"
+    ++ codes "(define-fun f ((x V)) Bool (! p :named j))(check-sat)")
+    ≡ (Some ((0, codes "U") ∷ (0, codes "p") ∷ (0, codes "V") ∷ (0, codes "n") ∷ (0, codes "m") ∷ (0, codes "j")
+    ∷ (0, codes "f") ∷ []))
 unfolding commands_on_literals
 names_in_order = refl
 
 -- options that are known are set, and others change nothing
-pub options_are_set : options_at 1 (codes "(set-option :print-success false)(set-option :produce-models true)(set-option :other 5)(set-option :produce-proofs 5)(check-sat)") ≡ Some (record { print_success = false; models = true; proofs = false; assertions = false })
+pub options_are_set : options_at 1
+    (codes "(set-option :print-success false)(set-option :produce-models true)(set-option :other 5)"
+    ++ codes "(set-option :produce-proofs 5)(check-sat)")
+    ≡ Some (record { print_success = false; models = true; proofs = false; assertions = false })
 unfolding commands_on_literals
 options_are_set = refl

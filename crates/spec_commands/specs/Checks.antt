@@ -7,7 +7,8 @@ use Rattle.spec_text.specs.Trees.{Trees, none, more}
 use Rattle.spec_sorts.specs.Values.{truth, Interpretation, Interprets}
 use Rattle.spec_sorts.specs.Signatures.{Signature, symbols_in}
 use Rattle.spec_sorts.specs.Meaning.{value_under}
-use Rattle.spec_commands.specs.Stack.{Assertion, Stack, Effect, check, leave, Taken, empty_stack, signature_of, assertions_of, step}
+use Rattle.spec_commands.specs.Stack.{Assertion, Stack, Effect, check, leave, Taken, empty_stack, signature_of}
+use Rattle.spec_commands.specs.Stack.{assertions_of, step}
 
 -- A check: what is there, and what it assumes beside that.
 pub record Check : Type 0 where

@@ -1,4 +1,5 @@
--- The commands that a script may have, by their own shape. Source: SMT-LIB 2.6, section 3.9; that sorts have no parameters is own.
+-- The commands that a script may have, by their own shape. Source: SMT-LIB 2.6, section 3.9; that sorts have no
+-- parameters is own.
 use Rattle.std.specs.Prelude.{ℕ, Bool, true, false, List, [], ◌∷◌, Option, Some, None, Ok, codes}
 use Rattle.std.specs.Str.{bytes_eq}
 use Rattle.spec_text.specs.declared.Kind.{Kind}
@@ -6,7 +7,8 @@ use Rattle.spec_text.specs.declared.Kind.TheVariants.{Numeral, Text}
 use Rattle.spec_text.specs.declared.Fault.TheVariants.{BadShape, UnknownCommand}
 use Rattle.spec_text.specs.Bytes.{Name}
 use Rattle.spec_text.specs.Trees.{Tree, Trees, atom, list, none, more, offset_of}
-use Rattle.spec_text.specs.Shapes.{◌>>=◌, Word, passes, first_word, first_list, only_tree, no_tree, is_keyword, is_reserved}
+use Rattle.spec_text.specs.Shapes.{◌>>=◌, Word, passes, first_word, first_list, only_tree, no_tree, is_keyword}
+use Rattle.spec_text.specs.Shapes.{is_reserved}
 use Rattle.spec_text.specs.Answers.{Answer, refused}
 use Rattle.spec_sorts.specs.Theory.{look_up}
 use Rattle.spec_sorts.specs.Forms.{is_name, are_named}

@@ -1,7 +1,9 @@
 -- Scripts with the first faults of their commands, by line and column.
 use Rattle.std.specs.Prelude.{◌≡◌, refl, ℕ, List, [], ◌∷◌, ◌++◌, map, Ok, Err, codes}
 use Rattle.spec_text.specs.declared.Fault.{Fault}
-use Rattle.spec_text.specs.declared.Fault.TheVariants.{UnknownCommand, BadShape, UnknownSymbol, UnknownSort, Twice, Reserved, WrongCount, WrongSort, NotLinear, ZeroDivisor, NumberWide, WrongMode, UnknownLogic, Full}
+use Rattle.spec_text.specs.declared.Fault.TheVariants.{UnknownCommand, BadShape, UnknownSymbol, UnknownSort, Twice}
+use Rattle.spec_text.specs.declared.Fault.TheVariants.{Reserved, WrongCount, WrongSort, NotLinear, ZeroDivisor}
+use Rattle.spec_text.specs.declared.Fault.TheVariants.{NumberWide, WrongMode, UnknownLogic, Full}
 use Rattle.spec_text.specs.Places.{line_of, column_of}
 use Rattle.spec_text.specs.Faults.{Located}
 use Rattle.spec_text.specs.Answers.{Answer}
@@ -63,7 +65,8 @@ pub no_command : faults (
     codes "(get-model)" ∷
     codes "assert" ∷
     codes "()" ∷
-    codes "(assert true)" ∷ []) ≡ (2, 2, UnknownCommand) ∷ (3, 2, UnknownCommand) ∷ (4, 2, UnknownCommand) ∷ (5, 2, UnknownCommand) ∷ (6, 2, UnknownCommand) ∷ (7, 1, BadShape) ∷ (8, 1, BadShape) ∷ []
+    codes "(assert true)" ∷ []) ≡ (2, 2, UnknownCommand) ∷ (3, 2, UnknownCommand) ∷ (4, 2, UnknownCommand)
+    ∷ (5, 2, UnknownCommand) ∷ (6, 2, UnknownCommand) ∷ (7, 1, BadShape) ∷ (8, 1, BadShape) ∷ []
 unfolding commands_on_literals faults_after
 no_command = refl
 
@@ -81,7 +84,9 @@ pub shapes_of_settings : faults (
     codes "(set-info :a 1 2)" ∷
     codes "(set-info a)" ∷
     codes "(set-info)" ∷
-    codes "(set-info :status sat)(set-info :a)(set-info :a let)(set-option :produce-proofs |true|)(set-logic QF_UF)" ∷ []) ≡ (2, 1, BadShape) ∷ (3, 1, BadShape) ∷ (4, 1, BadShape) ∷ (5, 1, BadShape) ∷ (6, 1, BadShape) ∷ (7, 1, BadShape) ∷ (8, 1, BadShape) ∷ (10, 1, BadShape) ∷ (11, 1, BadShape) ∷ (12, 1, BadShape) ∷ []
+    codes "(set-info :status sat)(set-info :a)(set-info :a let)(set-option :produce-proofs |true|)(set-logic QF_UF)"
+    ∷ []) ≡ (2, 1, BadShape) ∷ (3, 1, BadShape) ∷ (4, 1, BadShape) ∷ (5, 1, BadShape) ∷ (6, 1, BadShape)
+    ∷ (7, 1, BadShape) ∷ (8, 1, BadShape) ∷ (10, 1, BadShape) ∷ (11, 1, BadShape) ∷ (12, 1, BadShape) ∷ []
 unfolding commands_on_literals faults_after
 shapes_of_settings = refl
 
@@ -95,7 +100,8 @@ pub shapes_of_sorts : faults (
     codes "(define-sort V (X) Bool)" ∷
     codes "(define-sort V Bool)" ∷
     codes "(define-sort V ())" ∷
-    codes "(declare-sort U 0)(define-sort V () U)" ∷ []) ≡ (2, 1, BadShape) ∷ (3, 1, BadShape) ∷ (4, 1, BadShape) ∷ (5, 1, BadShape) ∷ (6, 1, BadShape) ∷ (7, 1, BadShape) ∷ (8, 1, BadShape) ∷ []
+    codes "(declare-sort U 0)(define-sort V () U)" ∷ []) ≡ (2, 1, BadShape) ∷ (3, 1, BadShape) ∷ (4, 1, BadShape)
+    ∷ (5, 1, BadShape) ∷ (6, 1, BadShape) ∷ (7, 1, BadShape) ∷ (8, 1, BadShape) ∷ []
 unfolding commands_on_literals faults_after
 shapes_of_sorts = refl
 
@@ -112,7 +118,9 @@ pub shapes_of_functions : faults (
     codes "(define-fun f ((x Bool) (5 Bool)) Bool true)" ∷
     codes "(define-fun f () Bool)" ∷
     codes "(define-fun f () Bool true true)" ∷
-    codes "(declare-const c Bool)(declare-fun f (Bool Real) Bool)(define-fun g ((x Bool)) Bool x)" ∷ []) ≡ (2, 1, BadShape) ∷ (3, 1, BadShape) ∷ (4, 1, BadShape) ∷ (5, 1, BadShape) ∷ (6, 1, BadShape) ∷ (7, 1, BadShape) ∷ (8, 1, BadShape) ∷ (9, 1, BadShape) ∷ (10, 1, BadShape) ∷ (11, 1, BadShape) ∷ []
+    codes "(declare-const c Bool)(declare-fun f (Bool Real) Bool)(define-fun g ((x Bool)) Bool x)" ∷ [])
+    ≡ (2, 1, BadShape) ∷ (3, 1, BadShape) ∷ (4, 1, BadShape) ∷ (5, 1, BadShape) ∷ (6, 1, BadShape)
+    ∷ (7, 1, BadShape) ∷ (8, 1, BadShape) ∷ (9, 1, BadShape) ∷ (10, 1, BadShape) ∷ (11, 1, BadShape) ∷ []
 unfolding commands_on_literals faults_after
 shapes_of_functions = refl
 
@@ -127,7 +135,8 @@ pub shapes_of_others : faults (
     codes "(echo \"a\" \"b\")" ∷
     codes "(exit 1)" ∷
     codes "(assert true)(check-sat)(echo \"a \"\"b\"\"\")(exit)" ∷
-    codes "(assert zz)" ∷ []) ≡ (2, 1, BadShape) ∷ (3, 1, BadShape) ∷ (4, 1, BadShape) ∷ (5, 1, BadShape) ∷ (6, 1, BadShape) ∷ (7, 1, BadShape) ∷ (8, 1, BadShape) ∷ []
+    codes "(assert zz)" ∷ []) ≡ (2, 1, BadShape) ∷ (3, 1, BadShape) ∷ (4, 1, BadShape) ∷ (5, 1, BadShape)
+    ∷ (6, 1, BadShape) ∷ (7, 1, BadShape) ∷ (8, 1, BadShape) ∷ []
 unfolding commands_on_literals faults_after
 shapes_of_others = refl
 
@@ -138,7 +147,8 @@ pub unknown_symbols : faults (
     codes "(assert (not zz))" ∷
     codes "(assert (zz yy))" ∷
     codes "(assert (zz true))" ∷
-    codes "(declare-const zz Bool)(assert (zz true))(assert zz)" ∷ []) ≡ (2, 9, UnknownSymbol) ∷ (3, 14, UnknownSymbol) ∷ (4, 13, UnknownSymbol) ∷ (5, 10, UnknownSymbol) ∷ (6, 32, WrongCount) ∷ []
+    codes "(declare-const zz Bool)(assert (zz true))(assert zz)" ∷ []) ≡ (2, 9, UnknownSymbol) ∷ (3, 14, UnknownSymbol)
+    ∷ (4, 13, UnknownSymbol) ∷ (5, 10, UnknownSymbol) ∷ (6, 32, WrongCount) ∷ []
 unfolding commands_on_literals faults_after
 unknown_symbols = refl
 
@@ -155,7 +165,9 @@ pub unknown_sorts : faults (
     codes "(define-sort V () W)" ∷
     codes "(define-fun f ((x V)) Bool true)" ∷
     codes "(define-fun f () V true)" ∷
-    codes "(declare-sort U 0)(define-sort V () U)(declare-fun a (V Bool Real) |U|)" ∷ []) ≡ (2, 18, UnknownSort) ∷ (3, 18, UnknownSort) ∷ (4, 18, UnknownSort) ∷ (5, 18, BadShape) ∷ (6, 18, BadShape) ∷ (7, 18, BadShape) ∷ (8, 22, Reserved) ∷ (9, 19, UnknownSort) ∷ (10, 19, UnknownSort) ∷ (11, 18, UnknownSort) ∷ []
+    codes "(declare-sort U 0)(define-sort V () U)(declare-fun a (V Bool Real) |U|)" ∷ []) ≡ (2, 18, UnknownSort)
+    ∷ (3, 18, UnknownSort) ∷ (4, 18, UnknownSort) ∷ (5, 18, BadShape) ∷ (6, 18, BadShape) ∷ (7, 18, BadShape)
+    ∷ (8, 22, Reserved) ∷ (9, 19, UnknownSort) ∷ (10, 19, UnknownSort) ∷ (11, 18, UnknownSort) ∷ []
 unfolding commands_on_literals faults_after
 unknown_sorts = refl
 
@@ -173,7 +185,10 @@ pub names_twice : faults (
     codes "(define-fun h ((x Bool) (x Bool)) Bool x)" ∷
     codes "(define-fun h ((and Bool)) Bool true)" ∷
     codes "(define-fun f () Bool (! true :named f))" ∷
-    codes "(declare-sort p 0)(declare-const U Bool)(declare-sort and 0)(declare-const Bool Bool)(define-fun h ((p Bool)) Bool p)" ∷ []) ≡ (2, 38, Twice) ∷ (3, 14, Twice) ∷ (4, 16, Twice) ∷ (5, 13, Twice) ∷ (6, 15, Twice) ∷ (7, 15, Twice) ∷ (8, 33, Twice) ∷ (9, 14, Twice) ∷ (10, 26, Twice) ∷ (11, 17, Twice) ∷ (12, 38, Twice) ∷ []
+    (codes "(declare-sort p 0)(declare-const U Bool)(declare-sort and 0)(declare-const Bool Bool)"
+    ++ codes "(define-fun h ((p Bool)) Bool p)") ∷ []) ≡ (2, 38, Twice) ∷ (3, 14, Twice) ∷ (4, 16, Twice)
+    ∷ (5, 13, Twice) ∷ (6, 15, Twice) ∷ (7, 15, Twice) ∷ (8, 33, Twice) ∷ (9, 14, Twice) ∷ (10, 26, Twice)
+    ∷ (11, 17, Twice) ∷ (12, 38, Twice) ∷ []
 unfolding commands_on_literals faults_after
 names_twice = refl
 
@@ -190,7 +205,9 @@ pub reserved_words : faults (
     codes "(assert (forall yy))" ∷
     codes "(assert (forall))" ∷
     codes "(assert (as true Bool))" ∷
-    codes "(declare-const |let| Bool)(assert |let|)(declare-const a@ Bool)" ∷ []) ≡ (2, 16, Reserved) ∷ (3, 16, Reserved) ∷ (4, 16, Reserved) ∷ (5, 15, Reserved) ∷ (6, 14, Reserved) ∷ (7, 17, Reserved) ∷ (8, 9, Reserved) ∷ (9, 10, Reserved) ∷ (10, 9, BadShape) ∷ (11, 10, Reserved) ∷ []
+    codes "(declare-const |let| Bool)(assert |let|)(declare-const a@ Bool)" ∷ [])
+    ≡ (2, 16, Reserved) ∷ (3, 16, Reserved) ∷ (4, 16, Reserved) ∷ (5, 15, Reserved) ∷ (6, 14, Reserved)
+    ∷ (7, 17, Reserved) ∷ (8, 9, Reserved) ∷ (9, 10, Reserved) ∷ (10, 9, BadShape) ∷ (11, 10, Reserved) ∷ []
 unfolding commands_on_literals faults_after
 reserved_words = refl
 
@@ -209,7 +226,10 @@ pub wrong_counts : faults (
     codes "(assert (and))" ∷
     codes "(assert (p))" ∷
     codes "(assert (= 0 (/ 1)))" ∷
-    codes "(assert (and p))(assert (f p))(assert (xor p p))(assert (= 0 (- 1)))(assert (= 0 (+ 1)))" ∷ []) ≡ (3, 9, WrongCount) ∷ (4, 9, WrongCount) ∷ (5, 9, WrongCount) ∷ (6, 9, WrongCount) ∷ (7, 9, WrongCount) ∷ (8, 9, WrongCount) ∷ (9, 9, WrongCount) ∷ (10, 9, WrongCount) ∷ (11, 9, BadShape) ∷ (12, 9, BadShape) ∷ (13, 14, WrongCount) ∷ []
+    codes "(assert (and p))(assert (f p))(assert (xor p p))(assert (= 0 (- 1)))(assert (= 0 (+ 1)))" ∷ [])
+    ≡ (3, 9, WrongCount) ∷ (4, 9, WrongCount) ∷ (5, 9, WrongCount) ∷ (6, 9, WrongCount) ∷ (7, 9, WrongCount)
+    ∷ (8, 9, WrongCount) ∷ (9, 9, WrongCount) ∷ (10, 9, WrongCount) ∷ (11, 9, BadShape) ∷ (12, 9, BadShape)
+    ∷ (13, 14, WrongCount) ∷ []
 unfolding commands_on_literals faults_after
 wrong_counts = refl
 
@@ -228,7 +248,10 @@ pub wrong_sorts : faults (
     codes "(assert (= x (f x)))" ∷
     codes "(define-fun h () Real true)" ∷
     codes "(define-fun h ((y U)) Real y)" ∷
-    codes "(assert (= x (f u)))(assert (= u (ite true u u)))(define-fun h ((y U)) Real (f y))(assert (= (h u) x 1))" ∷ []) ≡ (3, 9, WrongSort) ∷ (4, 9, WrongSort) ∷ (5, 9, WrongSort) ∷ (6, 9, WrongSort) ∷ (7, 9, WrongSort) ∷ (8, 9, WrongSort) ∷ (9, 9, WrongSort) ∷ (10, 9, WrongSort) ∷ (11, 14, WrongSort) ∷ (12, 23, WrongSort) ∷ (13, 28, WrongSort) ∷ []
+    codes "(assert (= x (f u)))(assert (= u (ite true u u)))(define-fun h ((y U)) Real (f y))(assert (= (h u) x 1))"
+    ∷ []) ≡ (3, 9, WrongSort) ∷ (4, 9, WrongSort) ∷ (5, 9, WrongSort) ∷ (6, 9, WrongSort) ∷ (7, 9, WrongSort)
+    ∷ (8, 9, WrongSort) ∷ (9, 9, WrongSort) ∷ (10, 9, WrongSort) ∷ (11, 14, WrongSort) ∷ (12, 23, WrongSort)
+    ∷ (13, 28, WrongSort) ∷ []
 unfolding commands_on_literals faults_after
 wrong_sorts = refl
 
@@ -244,10 +267,12 @@ pub not_linear : faults (
 unfolding commands_on_literals faults_after
 not_linear = refl
 
--- what is linear is judged with `let` and definitions replaced; a sum is no divisor; a divisor that may not stand comes before one that is zero
+-- what is linear is judged with `let` and definitions replaced; a sum is no divisor; a divisor that may not stand comes
+-- before one that is zero
 pub linear_after_replacing : faults (
     codes "(set-option :print-success false)" ∷
-    codes "(declare-const x Real)(declare-const y Real)(define-fun two () Real 2)(define-fun twice ((z Real)) Real (* 2 z))" ∷
+    (codes "(declare-const x Real)(declare-const y Real)(define-fun two () Real 2)"
+    ++ codes "(define-fun twice ((z Real)) Real (* 2 z))") ∷
     codes "(assert (< (/ x (+ 2)) 1))" ∷
     codes "(assert (< (/ x 0 y) 1))" ∷
     codes "(assert (< (/ x (- 0)) 1))" ∷
@@ -258,7 +283,9 @@ pub linear_after_replacing : faults (
     codes "(define-fun square ((z Real)) Real (* z z))" ∷
     codes "(define-fun over ((z Real)) Real (/ 1 z))" ∷
     codes "(assert (< (/ x (twice 2)) 1))" ∷
-    codes "(assert (< (let ((k 2)) (/ x k)) (/ x two 3 (/ 1 2)) (* (+ 1 1) x (- two)) (* (twice 3) x)))" ∷ []) ≡ (3, 12, NotLinear) ∷ (4, 12, NotLinear) ∷ (5, 12, ZeroDivisor) ∷ (6, 12, ZeroDivisor) ∷ (7, 12, ZeroDivisor) ∷ (8, 12, NotLinear) ∷ (9, 12, NotLinear) ∷ (10, 36, NotLinear) ∷ (11, 34, NotLinear) ∷ (12, 12, NotLinear) ∷ []
+    codes "(assert (< (let ((k 2)) (/ x k)) (/ x two 3 (/ 1 2)) (* (+ 1 1) x (- two)) (* (twice 3) x)))" ∷ [])
+    ≡ (3, 12, NotLinear) ∷ (4, 12, NotLinear) ∷ (5, 12, ZeroDivisor) ∷ (6, 12, ZeroDivisor) ∷ (7, 12, ZeroDivisor)
+    ∷ (8, 12, NotLinear) ∷ (9, 12, NotLinear) ∷ (10, 36, NotLinear) ∷ (11, 34, NotLinear) ∷ (12, 12, NotLinear) ∷ []
 unfolding commands_on_literals faults_after
 linear_after_replacing = refl
 
@@ -278,7 +305,8 @@ pub long_decimals : faults (
     codes "(assert (= 0 0.000000000000000000000000000000000000010000))" ∷
     codes "(assert (= 0 0.000000000000000000000000000000000000001))" ∷
     codes "(assert (= 0 1701411834604692317316873037158841.05728))" ∷
-    codes "(assert (= 0 1701411834604692317316873037158841.05727000))" ∷ []) ≡ (4, 14, NumberWide) ∷ (5, 14, NumberWide) ∷ []
+    codes "(assert (= 0 1701411834604692317316873037158841.05727000))" ∷ []) ≡ (4, 14, NumberWide) ∷ (5, 14, NumberWide)
+    ∷ []
 unfolding commands_on_literals faults_after
 long_decimals = refl
 
@@ -289,7 +317,8 @@ pub logics : faults (
     codes "(set-logic let)" ∷
     codes "(set-logic QF_UFLRA)" ∷
     codes "(set-logic QF_UF)" ∷
-    codes "(set-logic QF_BV)" ∷ []) ≡ (2, 70, UnknownLogic) ∷ (3, 12, Reserved) ∷ (5, 1, WrongMode) ∷ (6, 12, UnknownLogic) ∷ []
+    codes "(set-logic QF_BV)" ∷ []) ≡ (2, 70, UnknownLogic) ∷ (3, 12, Reserved) ∷ (5, 1, WrongMode)
+    ∷ (6, 12, UnknownLogic) ∷ []
 unfolding commands_on_literals faults_after
 logics = refl
 
@@ -331,11 +360,13 @@ pub refused_names : faults (
     codes "(assert n)" ∷
     codes "(assert (and (! true :named m) yy))" ∷
     codes "(assert m)" ∷
-    codes "(assert (! true :named n))(assert n)" ∷ []) ≡ (2, 9, WrongSort) ∷ (3, 9, UnknownSymbol) ∷ (4, 32, UnknownSymbol) ∷ (5, 9, UnknownSymbol) ∷ []
+    codes "(assert (! true :named n))(assert n)" ∷ []) ≡ (2, 9, WrongSort) ∷ (3, 9, UnknownSymbol)
+    ∷ (4, 32, UnknownSymbol) ∷ (5, 9, UnknownSymbol) ∷ []
 unfolding commands_on_literals faults_after
 refused_names = refl
 
--- a list of bindings is not empty, each name comes before its term, no name of the list is bound in these terms, and a bound name takes no arguments
+-- a list of bindings is not empty, each name comes before its term, no name of the list is bound in these terms, and a
+-- bound name takes no arguments
 pub lets : faults (
     codes "(set-option :print-success false)" ∷
     codes "(assert (let () true))" ∷
@@ -348,11 +379,14 @@ pub lets : faults (
     codes "(assert (let x true))" ∷
     codes "(assert (let ((x true))))" ∷
     codes "(assert (let ((x true)) 1 2))" ∷
-    codes "(declare-const p Bool)(assert (let ((p (not p)) (q p)) (and p q)))" ∷ []) ≡ (2, 9, BadShape) ∷ (3, 16, Twice) ∷ (4, 18, UnknownSymbol) ∷ (6, 25, WrongCount) ∷ (7, 27, UnknownSymbol) ∷ (8, 16, Reserved) ∷ (9, 9, BadShape) ∷ (10, 9, BadShape) ∷ (11, 9, BadShape) ∷ []
+    codes "(declare-const p Bool)(assert (let ((p (not p)) (q p)) (and p q)))" ∷ []) ≡ (2, 9, BadShape) ∷ (3, 16, Twice)
+    ∷ (4, 18, UnknownSymbol) ∷ (6, 25, WrongCount) ∷ (7, 27, UnknownSymbol) ∷ (8, 16, Reserved) ∷ (9, 9, BadShape)
+    ∷ (10, 9, BadShape) ∷ (11, 9, BadShape) ∷ []
 unfolding commands_on_literals faults_after
 lets = refl
 
--- a term has one attribute at least, a keyword with one value at most; a name is a symbol, new, and of a term in which no bound name is free
+-- a term has one attribute at least, a keyword with one value at most; a name is a symbol, new, and of a term in which
+-- no bound name is free
 pub annotations : faults (
     codes "(set-option :print-success false)" ∷
     codes "(assert (! true))" ∷
@@ -367,7 +401,9 @@ pub annotations : faults (
     codes "(assert (let ((y true)) (! (let ((z y)) true) :named n)))" ∷
     codes "(assert (! (let ((y true)) y) :a :b (1 2) :named n :named m :a let))" ∷
     codes "(assert (and n m))" ∷
-    codes "(assert (! true :named n))" ∷ []) ≡ (2, 9, BadShape) ∷ (3, 9, BadShape) ∷ (4, 9, BadShape) ∷ (5, 9, BadShape) ∷ (6, 9, BadShape) ∷ (7, 12, UnknownSymbol) ∷ (8, 24, Reserved) ∷ (9, 24, Twice) ∷ (10, 25, BadShape) ∷ (11, 25, BadShape) ∷ (14, 24, Twice) ∷ []
+    codes "(assert (! true :named n))" ∷ []) ≡ (2, 9, BadShape) ∷ (3, 9, BadShape) ∷ (4, 9, BadShape) ∷ (5, 9, BadShape)
+    ∷ (6, 9, BadShape) ∷ (7, 12, UnknownSymbol) ∷ (8, 24, Reserved) ∷ (9, 24, Twice) ∷ (10, 25, BadShape)
+    ∷ (11, 25, BadShape) ∷ (14, 24, Twice) ∷ []
 unfolding commands_on_literals faults_after
 annotations = refl
 
@@ -391,7 +427,8 @@ pub atoms : faults (
     codes "(assert (5 true))" ∷
     codes "(assert ((not) true))" ∷
     codes "(assert (\"s\" true))" ∷
-    codes "(assert (|not| false))" ∷ []) ≡ (2, 9, BadShape) ∷ (3, 9, BadShape) ∷ (4, 9, BadShape) ∷ (5, 9, BadShape) ∷ (6, 9, BadShape) ∷ []
+    codes "(assert (|not| false))" ∷ []) ≡ (2, 9, BadShape) ∷ (3, 9, BadShape) ∷ (4, 9, BadShape) ∷ (5, 9, BadShape)
+    ∷ (6, 9, BadShape) ∷ []
 unfolding commands_on_literals faults_after
 atoms = refl
 

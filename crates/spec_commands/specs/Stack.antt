@@ -1,5 +1,7 @@
--- What is after commands, and what they answer. Source: SMT-LIB 2.6, sections 4.1.4 and 4.2; the order of faults and the limits are own.
-use Rattle.std.specs.Prelude.{ℕ, suc, Bool, true, false, not, List, [], ◌∷◌, ◌++◌, map, Option, Some, None, Ok, codes, if◌then◌else◌}
+-- What is after commands, and what they answer. Source: SMT-LIB 2.6, sections 4.1.4 and 4.2; the order of faults and
+-- the limits are own.
+use Rattle.std.specs.Prelude.{ℕ, suc, Bool, true, false, not, List, [], ◌∷◌, ◌++◌, map, Option, Some, None, Ok, codes}
+use Rattle.std.specs.Prelude.{if◌then◌else◌}
 use Rattle.std.specs.Str.{bytes_eq}
 use Rattle.spec_text.specs.declared.Fault.TheVariants.{BadShape, Reserved, UnknownLogic, WrongMode, Full}
 use Rattle.spec_text.specs.Bytes.{Name, among}
@@ -13,7 +15,8 @@ use Rattle.spec_reading.specs.Sorts.{sort_in, sorts_in}
 use Rattle.spec_reading.specs.Reading.{reading_of_sort}
 use Rattle.spec_reading.specs.Definitions.{definitions_in}
 use Rattle.spec_sorts.specs.Subterms.{has_room}
-use Rattle.spec_commands.specs.Commands.{Command, SetLogic, SetOption, SetInfo, DeclareSort, DefineSort, DeclareFun, DefineFun, Assert, CheckSat, Echo, Exit, command_of}
+use Rattle.spec_commands.specs.Commands.{Command, SetLogic, SetOption, SetInfo, DeclareSort, DefineSort, DeclareFun}
+use Rattle.spec_commands.specs.Commands.{DefineFun, Assert, CheckSat, Echo, Exit, command_of}
 
 -- An asserted expression: its text, and the term that it is read as.
 pub record Assertion : Type 0 where
@@ -53,7 +56,17 @@ pub record Stack : Type 0 where
 
 -- nothing declared, nothing asserted, and the options as they are at first
 abbrev pub empty_stack : Stack
-empty_stack = record { names = []; levels = [] ∷ []; options = record { print_success = true; models = false; proofs = false; assertions = false }; started = false }
+empty_stack = record {
+  names = [];
+  levels = [] ∷ [];
+  options = record {
+    print_success = true;
+    models = false;
+    proofs = false;
+    assertions = false;
+  };
+  started = false;
+}
 
 -- all that is declared and defined, in its order
 abbrev pub signature_of : Stack → Signature
@@ -101,7 +114,8 @@ with_definitions s (d ∷ ds) = with_definitions (with_declaration s (definition
 abbrev pub with_assertion : Stack → Tree → Term → Stack
 with_assertion s t u = record s { levels = with_last s.levels (record { text = t; term = u }) }
 
--- the logics that may be set; all have one language. Source: SMT-LIB 2.6, section 4.2.1, and the names of SMT-LIB's logics.
+-- the logics that may be set; all have one language. Source: SMT-LIB 2.6, section 4.2.1, and the names of SMT-LIB's
+-- logics.
 abbrev pub logics : List Name
 logics = codes "QF_UFLRA" ∷ codes "QF_UF" ∷ codes "QF_LRA" ∷ codes "QF_RDL" ∷ codes "ALL" ∷ []
 
@@ -176,7 +190,8 @@ roomy limit at ts s = require (has_room limit (signature_of s) ts) at Full >>= �
 abbrev pub terms_defined : List Definition → List Term
 terms_defined ds = map (λ (d : Definition). d.term) ds
 
--- what a command answers and leaves, or its first fault: `limit` bounds the names, and the different subterms of a command's
+-- what a command answers and leaves, or its first fault: `limit` bounds the names, and the different subterms of a
+-- command's
 -- terms; `at` is the command's offset
 abbrev pub performed : (limit at : ℕ) → Stack → Command → Answer Taken
 performed limit at s (SetLogic x) =
@@ -197,7 +212,8 @@ performed limit at s (DeclareFun x ts t) =
     new_name script (is_function (signature_of s)) x >>= λ n.
     sorts_in (signature_of s) ts >>= λ parameters.
     sort_in (signature_of s) t >>= λ result.
-    roomy limit at [] (begun (with_declaration s (of_function (declared (record { name = n; parameters = parameters; result = result })))))
+    roomy limit at [] (begun (with_declaration s
+    (of_function (declared (record { name = n; parameters = parameters; result = result })))))
 performed limit at s (DefineFun d) =
     definitions_in script (signature_of s) d >>= λ ds.
     roomy limit at (terms_defined ds) (begun (with_definitions s ds))

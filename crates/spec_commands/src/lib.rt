@@ -44,7 +44,8 @@ pub fn commands_keep_stacks()
 /// States that the text and the term of a current assertion have one value, under every interpretation.
 /// Source: SMT-LIB 2.6, section 5.3.
 pub fn assertions_have_their_texts_value()
-    ensures kept { (limit : ℕ) (text : List ℕ) (k : ℕ) (c : Check) → IsCurrent limit text k c → IsSoundStack limit c.stack }
+    ensures kept { (limit : ℕ) (text : List ℕ) (k : ℕ) (c : Check) → IsCurrent limit text k c
+        → IsSoundStack limit c.stack }
     ensures value { (limit : ℕ) (text : List ℕ) (k : ℕ) (c : Check) → IsCurrent limit text k c → (i : Interpretation)
         → All (λ (a : Assertion). value_under i (signature_of c.stack) a.text ≡ value_at i [] a.term)
         (assertions_of c.stack) }

@@ -1,4 +1,5 @@
--- Derivations: rows of clauses, each of which is assumed or follows by a rule from earlier ones. Source: Alethe specification, proofs as lists of commands; to number them is own.
+-- Derivations: rows of clauses, each of which is assumed or follows by a rule from earlier ones. Source: Alethe
+-- specification, proofs as lists of commands; to number them is own.
 use Rattle.std.specs.Prelude.{◌≡◌, ℕ, ◌<◌, List, [], ◌∷◌, ◌++◌, length, map, All, Contains, slice_index_or}
 use Rattle.spec_sorts.specs.Terms.{True, Term, of}
 use Rattle.spec_text.specs.Trees.{Trees}
@@ -42,11 +43,13 @@ conclusion_at d n = conclusion (inference_at d n)
 -- it is assumed, or its premises are among those before it and it follows from them by its rule
 abbrev pub FollowsFrom : Derivation → Inference → Type 0
 FollowsFrom earlier (assumption t) = Unit {0}
-FollowsFrom earlier (by_rule r ps arguments c) = All (λ n. n < length earlier) ps × IsRight r (map (conclusion_at earlier) ps) arguments c
+FollowsFrom earlier (by_rule r ps arguments c) = All (λ n. n < length earlier) ps
+    × IsRight r (map (conclusion_at earlier) ps) arguments c
 
 -- each follows from those before it
 abbrev pub IsDerivation : Derivation → Type 0
-IsDerivation d = (before : Derivation) (x : Inference) (after : Derivation) → d ≡ before ++ x ∷ after → FollowsFrom before x
+IsDerivation d = (before : Derivation) (x : Inference) (after : Derivation) → d ≡ before ++ x ∷ after
+    → FollowsFrom before x
 
 -- The clause of the first number rests on that of the second: it is the same, or one of its premises rests on it.
 pub data RestsOn (d : Derivation) : ℕ → ℕ → Type 0 where

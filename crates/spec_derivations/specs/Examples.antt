@@ -1,4 +1,5 @@
--- The eight disjunctions of three constants or their negations, of which no truths make all true, and the clause that a search learns first. Terms, with their base clauses.
+-- The eight disjunctions of three constants or their negations, of which no truths make all true, and the clause that a
+-- search learns first. Terms, with their base clauses.
 use Rattle.std.specs.Prelude.{Bool, true, false, List, [], ◌∷◌, codes}
 use Rattle.spec_text.specs.Trees.{none}
 use Rattle.spec_sorts.specs.Terms.{Or, Ite, Equal, Apply, Truth, Number, Symbol, Term, of, negated}
@@ -23,7 +24,8 @@ one_of i j k = of Or (signed_term i p ∷ signed_term j q ∷ signed_term k r �
 
 -- all eight
 abbrev pub eight : List Term
-eight = one_of true true true ∷ one_of true true false ∷ one_of true false true ∷ one_of true false false ∷ one_of false true true ∷ one_of false true false ∷ one_of false false true ∷ one_of false false false ∷ []
+eight = one_of true true true ∷ one_of true true false ∷ one_of true false true ∷ one_of true false false
+    ∷ one_of false true true ∷ one_of false true false ∷ one_of false false true ∷ one_of false false false ∷ []
 
 -- p and q decided: not both
 abbrev pub not_both : Clause

@@ -1,4 +1,5 @@
--- Learned clauses: each says what unit propagation over the clauses before it does not give. Source: Davis, Logemann and Loveland 1962 for propagation.
+-- Learned clauses: each says what unit propagation over the clauses before it does not give. Source: Davis, Logemann
+-- and Loveland 1962 for propagation.
 use Rattle.std.specs.Prelude.{Bool, ◌&&◌, if◌then◌else◌, List, [], ◌∷◌, ◌++◌, Contains}
 use Rattle.std.specs.Bool.{beq}
 use Rattle.spec_sorts.specs.Terms.{same_term}

@@ -1,4 +1,6 @@
--- Lemmas of a theory: inferences that rest on each other alone, over terms that a search speaks of. Source: Nieuwenhuis, Oliveras and Tinelli, Solving SAT and SAT modulo theories, JACM 2006; which terms they may be over is own.
+-- Lemmas of a theory: inferences that rest on each other alone, over terms that a search speaks of. Source:
+-- Nieuwenhuis, Oliveras and Tinelli, Solving SAT and SAT modulo theories, JACM 2006; which terms they may be over is
+-- own.
 use Rattle.std.specs.Prelude.{ℕ, ◌≤◌, List, [], All, Contains}
 use Rattle.spec_sorts.specs.Terms.{True, False, Equal, Term, of, pair, negated}
 use Rattle.spec_derivations.specs.Derivations.{Inference, «assumption», by_rule}

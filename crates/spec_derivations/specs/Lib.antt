@@ -1,4 +1,5 @@
--- What a search over the whole language may answer: derivations, the clauses that it begins with, learned clauses, the budget that they spend, and truths that meet clauses.
+-- What a search over the whole language may answer: derivations, the clauses that it begins with, learned clauses, the
+-- budget that they spend, and truths that meet clauses.
 pub mod Quiet
 pub mod Problems
 pub mod Derivations

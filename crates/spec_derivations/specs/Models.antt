@@ -13,7 +13,8 @@ SatisfiesClauses v cs = All (λ c. list_any (term_true_by v) c ≡ true) cs
 
 -- the head takes the arguments, and these and the term are of sort Bool
 abbrev pub joins_formulas : Term → Bool
-joins_formulas (app h ts) = head_takes [] h (map sort_of (list_of ts)) && all_same Truth (map sort_of (list_of ts)) && same_sort Truth (sort_of (app h ts))
+joins_formulas (app h ts) = head_takes [] h (map sort_of (list_of ts)) && all_same Truth (map sort_of (list_of ts))
+    && same_sort Truth (sort_of (app h ts))
 
 -- the value that the truths give a term of sort Bool
 abbrev pub value_by : Truths → Term → Value

@@ -1,6 +1,8 @@
--- What a search over linear arithmetic speaks of in addition: the orders of the sides of each equality of numbers. Source: Alethe specification, rule `la_disequality`; which orders a search speaks of is own.
+-- What a search over linear arithmetic speaks of in addition: the orders of the sides of each equality of numbers.
+-- Source: Alethe specification, rule `la_disequality`; which orders a search speaks of is own.
 use Rattle.std.specs.Prelude.{List, [], ◌∷◌, ◌++◌, map, flat_map, if◌then◌else◌}
-use Rattle.spec_sorts.specs.Terms.{Number, Or, Equal, AtMost, Term, app, nil, cons, of, pair, negated, same_sort, sort_of}
+use Rattle.spec_sorts.specs.Terms.{Number, Or, Equal, AtMost, Term, app, nil, cons, of, pair, negated, same_sort}
+use Rattle.spec_sorts.specs.Terms.{sort_of}
 use Rattle.spec_sorts.specs.Subterms.{subterms_of}
 use Rattle.spec_sorts.specs.Literals.{Clause}
 use Rattle.spec_derivations.specs.Problems.{Problem}
@@ -15,13 +17,16 @@ abbrev pub order_facts : Term → List Term
 order_facts (app Equal (cons s (cons t nil))) = if same_sort Number (sort_of s) then order_fact s t ∷ [] else []
 order_facts t = []
 
--- the clauses of an equality of numbers: that term alone, which is always true, and where the sides are equal each is at most the other
+-- the clauses of an equality of numbers: that term alone, which is always true, and where the sides are equal each is
+-- at most the other
 abbrev pub order_clauses : Term → List Clause
 order_clauses (app Equal (cons s (cons t nil))) =
-    if same_sort Number (sort_of s) then (order_fact s t ∷ []) ∷ (negated (pair Equal s t) ∷ pair AtMost s t ∷ []) ∷ (negated (pair Equal s t) ∷ pair AtMost t s ∷ []) ∷ [] else []
+    if same_sort Number (sort_of s) then (order_fact s t ∷ []) ∷ (negated (pair Equal s t) ∷ pair AtMost s t ∷ [])
+    ∷ (negated (pair Equal s t) ∷ pair AtMost t s ∷ []) ∷ [] else []
 order_clauses t = []
 
--- the terms that a search over linear arithmetic speaks of: those of any search, and the orders of its equalities of numbers
+-- the terms that a search over linear arithmetic speaks of: those of any search, and the orders of its equalities of
+-- numbers
 abbrev pub ordered_terms : Problem → List Term
 ordered_terms p = spoken_terms p ++ flat_map order_facts (search_terms p)
 
@@ -33,6 +38,7 @@ whole_terms p = subterms_of (ordered_terms p)
 abbrev pub whole_clauses_of : Term → List Clause
 whole_clauses_of t = defining_clauses t ++ order_clauses t
 
--- the clauses that such a search begins with: that of each asserted term alone, and those of all terms that it speaks of
+-- the clauses that such a search begins with: that of each asserted term alone, and those of all terms that it speaks
+-- of
 abbrev pub whole_clauses : Problem → List Clause
 whole_clauses p = map (λ t. t ∷ []) p.asserted ++ flat_map whole_clauses_of (whole_terms p)

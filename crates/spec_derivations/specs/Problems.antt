@@ -32,4 +32,8 @@ known_subterms p = subterms_of (known_terms p)
 
 -- a check with these interface equalities
 abbrev pub problem_of : Check → List Term → Problem
-problem_of c interface = record { asserted = terms_asserted (assertions_of c.stack); assumed = terms_asserted c.assumptions; interface = interface }
+problem_of c interface = record {
+  asserted = terms_asserted (assertions_of c.stack);
+  assumed = terms_asserted c.assumptions;
+  interface = interface;
+}

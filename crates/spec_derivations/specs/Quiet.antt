@@ -1,10 +1,12 @@
--- Where propagation is quiet, over literals of any kind with a complement. Source: Davis, Logemann and Loveland 1962 for propagation.
+-- Where propagation is quiet, over literals of any kind with a complement. Source: Davis, Logemann and Loveland 1962
+-- for propagation.
 use Rattle.std.specs.Prelude.{◌≢◌, ◌⊎◌, List, Contains}
 
 -- nothing follows from a clause where these literals hold: one of its own holds, or two of its own are open
 abbrev pub ImpliesNothing : {L : Type 0} → (L → L) → List L → List L → Type 0
 ImpliesNothing {L} negation held clause = ((m : L) × Contains clause m × Contains held m)
-    ⊎ ((m : L) × (n : L) × Contains clause m × Contains clause n × (m ≢ n) × (Contains held (negation m) → ⊥) × (Contains held (negation n) → ⊥))
+    ⊎ ((m : L) × (n : L) × Contains clause m × Contains clause n × (m ≢ n) × (Contains held (negation m) → ⊥)
+    × (Contains held (negation n) → ⊥))
 
 -- nothing follows from any of the clauses
 abbrev pub IsQuiet : {L : Type 0} → (L → L) → List (List L) → List L → Type 0

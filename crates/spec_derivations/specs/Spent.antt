@@ -19,11 +19,14 @@ pub record IsLearnedFrom (p : Problem) (d : Derivation) (clause : List Literal) 
 -- What a literal of a learned clause may be over.
 pub data IsAtomOf (p : Problem) : Term → Type 0 where
   -- a subterm of sort Bool, of the check's terms or of the interface equalities, other than the truth values
-  subterm : (t : Term) → Contains (known_subterms p) t → sort_of t ≡ Truth → t ≢ of True [] → t ≢ of False [] → IsAtomOf p t
+  subterm : (t : Term) → Contains (known_subterms p) t → sort_of t ≡ Truth → t ≢ of True [] → t ≢ of False []
+      → IsAtomOf p t
   -- the equality of a choice between terms of another sort with the first of them
-  with_first : (c s t : Term) → Contains (known_subterms p) (of Ite (c ∷ s ∷ t ∷ [])) → sort_of s ≢ Truth → IsAtomOf p (pair Equal (of Ite (c ∷ s ∷ t ∷ [])) s)
+  with_first : (c s t : Term) → Contains (known_subterms p) (of Ite (c ∷ s ∷ t ∷ [])) → sort_of s ≢ Truth
+      → IsAtomOf p (pair Equal (of Ite (c ∷ s ∷ t ∷ [])) s)
   -- or with the second
-  with_second : (c s t : Term) → Contains (known_subterms p) (of Ite (c ∷ s ∷ t ∷ [])) → sort_of s ≢ Truth → IsAtomOf p (pair Equal (of Ite (c ∷ s ∷ t ∷ [])) t)
+  with_second : (c s t : Term) → Contains (known_subterms p) (of Ite (c ∷ s ∷ t ∷ [])) → sort_of s ≢ Truth
+      → IsAtomOf p (pair Equal (of Ite (c ∷ s ∷ t ∷ [])) t)
   -- an order of the sides of an equality of numbers that is one
   forth : (s t : Term) → IsAtomOf p (pair Equal s t) → sort_of s ≡ Number → IsAtomOf p (pair AtMost s t)
   -- or the order the other way
@@ -45,7 +48,8 @@ pub record AreLearned (p : Problem) (d : Derivation) (learned : List (List Liter
   pub new : AreNew (map literals_of (base_clauses p)) learned
 
 -- The budget is spent on a check of these terms: the list of learned clauses has its length, which the reason carries.
-pub record IsConflictBudgetSpent (p : Problem) (d : Derivation) (limit carried : ℕ) (learned : List (List Literal)) : Type 0 where
+pub record IsConflictBudgetSpent (p : Problem) (d : Derivation) (limit carried : ℕ)
+    (learned : List (List Literal)) : Type 0 where
   -- the list has so many clauses as the budget allows
   pub full : length learned ≡ limit
   -- the reason says so

@@ -1,4 +1,5 @@
--- The congruence of literals over listed terms. Source: Nelson and Oppen, Fast decision procedures based on congruence closure, JACM 1980; that a literal's term is equal to a truth value is own.
+-- The congruence of literals over listed terms. Source: Nelson and Oppen, Fast decision procedures based on congruence
+-- closure, JACM 1980; that a literal's term is equal to a truth value is own.
 use Rattle.std.specs.Prelude.{◌⊎◌, Bool, true, false, List, [], Contains}
 use Rattle.spec_sorts.specs.Terms.{True, False, Head, Term, Terms, app, nil, cons, of}
 use Rattle.spec_sorts.specs.Literals.{Literal}
@@ -14,7 +15,8 @@ abbrev pub signed_literal : Term → Bool → Literal
 signed_literal t b = record { atom = t; positive = b }
 
 mutual
-  -- Two terms are equal because of what is held: the least relation that holds the sides of held equalities, and each held literal's
+  -- Two terms are equal because of what is held: the least relation that holds the sides of held equalities, and each
+  -- held literal's
   -- term with its truth value; that is an equivalence; and that holds listed terms with one head and equal arguments.
   pub data IsCongruent (listed : List Term) (held : List Literal) : Term → Term → Type 0 where
     -- the sides of a held equality

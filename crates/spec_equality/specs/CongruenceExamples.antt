@@ -7,7 +7,8 @@ use Rattle.spec_equality.specs.Congruence.{signed_literal}
 
 -- (f t) for a term of a declared sort
 abbrev pub f : Term → Term
-f t = of (Apply (record { name = codes "f"; parameters = Declared (codes "S") ∷ []; result = Declared (codes "S") })) (t ∷ [])
+f t = of (Apply (record { name = codes "f"; parameters = Declared (codes "S") ∷ []; result = Declared (codes "S") }))
+    (t ∷ [])
 
 -- (h t) for a term of sort Bool
 abbrev pub h : Term → Term

@@ -1,4 +1,5 @@
--- The rules of equality and functions, each by what it asks of premises and clause. Source: Alethe specification, rules of equality; the two rules of `ite`, order and further reasons where they are free, are own.
+-- The rules of equality and functions, each by what it asks of premises and clause. Source: Alethe specification, rules
+-- of equality; the two rules of `ite`, order and further reasons where they are free, are own.
 use Rattle.std.specs.Prelude.{◌≡◌, ◌≢◌, ◌⊎◌, List, [], ◌∷◌, ◌++◌, map, codes, true}
 use Rattle.std.specs.List.{list_any}
 use Rattle.spec_text.specs.Bytes.{Name}
@@ -40,7 +41,8 @@ abbrev pub IsTransitive : List Clause → Clause → Type 0
 IsTransitive [] clause = (e : EndsEqual clause) × (e.literals ≢ []) × Lead (map denied e.literals) e.one e.other
 IsTransitive premises clause = ⊥
 
--- no premise, and (cl (not (= t1 u1)) .. (not (= tn un)) (= (f t1 .. tn) (f u1 .. un))), the negated equalities in any order, maybe with other literals, and without those of equal sides
+-- no premise, and (cl (not (= t1 u1)) .. (not (= tn un)) (= (f t1 .. tn) (f u1 .. un))), the negated equalities in any
+-- order, maybe with other literals, and without those of equal sides
 abbrev pub IsCongruenceRule : List Clause → Clause → Type 0
 IsCongruenceRule [] clause = (e : EndsEqual clause) × HaveJoinedArguments (map denied e.literals) e.one e.other
 IsCongruenceRule premises clause = ⊥
@@ -59,17 +61,20 @@ IsSymmetric premises clause = ⊥
 
 -- premises (cl (= t1 t2)) .. (cl (= tm tn)), at least one, and (cl (= t1 tn))
 abbrev pub IsChained : List Clause → Clause → Type 0
-IsChained premises (e ∷ []) = (t : Term) × (u : Term) × (e ≡ equal t u) × (premises ≢ []) × Lead (map alone premises) t u
+IsChained premises (e ∷ []) = (t : Term) × (u : Term) × (e ≡ equal t u) × (premises ≢ [])
+    × Lead (map alone premises) t u
 IsChained premises clause = ⊥
 
--- premises (cl (= t1 u1)) .. (cl (= tn un)) and (cl (= (f t1 .. tn) (f u1 .. un))), the premises in any order, maybe with others, and without those of equal sides
+-- premises (cl (= t1 u1)) .. (cl (= tn un)) and (cl (= (f t1 .. tn) (f u1 .. un))), the premises in any order, maybe
+-- with others, and without those of equal sides
 abbrev pub IsJoined : List Clause → Clause → Type 0
 IsJoined premises (e ∷ []) = (t : Term) × (u : Term) × (e ≡ equal t u) × HaveJoinedArguments (map alone premises) t u
 IsJoined premises clause = ⊥
 
 -- no premise, and (cl (not c) (= (ite c s t) s)), s of another sort than Bool
 abbrev pub IsThen : List Clause → Clause → Type 0
-IsThen [] (l ∷ e ∷ []) = (c : Term) × (s : Term) × (t : Term) × (l ≡ negated c) × (e ≡ equal (of Ite (c ∷ s ∷ t ∷ [])) s) × (sort_of s ≢ Truth)
+IsThen [] (l ∷ e ∷ []) = (c : Term) × (s : Term) × (t : Term) × (l ≡ negated c)
+    × (e ≡ equal (of Ite (c ∷ s ∷ t ∷ [])) s) × (sort_of s ≢ Truth)
 IsThen premises clause = ⊥
 
 -- no premise, and (cl c (= (ite c s t) t)), t of another sort than Bool
@@ -107,7 +112,8 @@ equality_name rules.IteElse = codes "x_ite_else"
 
 -- all rules of equality
 abbrev pub every_equality_rule : List EqualityRule
-every_equality_rule = rules.EqReflexive ∷ rules.EqTransitive ∷ rules.EqCongruent ∷ rules.EqCongruentPred ∷ rules.Refl ∷ rules.Symm ∷ rules.Trans ∷ rules.Cong ∷ rules.DistinctElim ∷ rules.IteThen ∷ rules.IteElse ∷ []
+every_equality_rule = rules.EqReflexive ∷ rules.EqTransitive ∷ rules.EqCongruent ∷ rules.EqCongruentPred ∷ rules.Refl
+    ∷ rules.Symm ∷ rules.Trans ∷ rules.Cong ∷ rules.DistinctElim ∷ rules.IteThen ∷ rules.IteElse ∷ []
 
 -- one of the clause's terms has the value true
 abbrev pub IsTrueClause : Interpretation → Clause → Type 0

@@ -40,13 +40,25 @@ q = constant_term (constant (codes "q") Truth)
 
 -- (f t u) of the declared sort, (g t u) of it too, and (r t u) of sort Bool
 abbrev pub f : Term → Term → Term
-f t u = of (Apply (record { name = codes "f"; parameters = Declared (codes "S") ∷ Declared (codes "S") ∷ []; result = Declared (codes "S") })) (t ∷ u ∷ [])
+f t u = of (Apply (record {
+  name = codes "f";
+  parameters = Declared (codes "S") ∷ Declared (codes "S") ∷ [];
+  result = Declared (codes "S");
+})) (t ∷ u ∷ [])
 
 abbrev pub g : Term → Term → Term
-g t u = of (Apply (record { name = codes "g"; parameters = Declared (codes "S") ∷ Declared (codes "S") ∷ []; result = Declared (codes "S") })) (t ∷ u ∷ [])
+g t u = of (Apply (record {
+  name = codes "g";
+  parameters = Declared (codes "S") ∷ Declared (codes "S") ∷ [];
+  result = Declared (codes "S");
+})) (t ∷ u ∷ [])
 
 abbrev pub r : Term → Term → Term
-r t u = of (Apply (record { name = codes "r"; parameters = Declared (codes "S") ∷ Declared (codes "S") ∷ []; result = Truth })) (t ∷ u ∷ [])
+r t u = of (Apply (record {
+  name = codes "r";
+  parameters = Declared (codes "S") ∷ Declared (codes "S") ∷ [];
+  result = Truth;
+})) (t ∷ u ∷ [])
 
 -- (ite p a b), and (ite p q p)
 abbrev pub choice : Term

@@ -1,4 +1,5 @@
--- Equalities that a step gives as reasons, and what follows from them. Source: Alethe specification, rules of equality; that a reason may be in either direction is own.
+-- Equalities that a step gives as reasons, and what follows from them. Source: Alethe specification, rules of equality;
+-- that a reason may be in either direction is own.
 use Rattle.std.specs.Prelude.{◌≡◌, ◌≢◌, ◌⊎◌, ⊤, List, [], ◌∷◌, Option, Some, None, Contains}
 use Rattle.spec_sorts.specs.Terms.{Not, Equal, Term, app, nil, cons, list_of, pair}
 use Rattle.spec_sorts.specs.Literals.{Clause}
@@ -38,4 +39,5 @@ AreJoined reasons _ _ = ⊥
 
 -- the terms have one head and arguments, at least one, that are joined
 abbrev pub HaveJoinedArguments : List (Option Term) → Term → Term → Type 0
-HaveJoinedArguments reasons (app h ts) (app g us) = (h ≡ g) × (list_of ts ≢ []) × AreJoined reasons (list_of ts) (list_of us)
+HaveJoinedArguments reasons (app h ts) (app g us) = (h ≡ g) × (list_of ts ≢ [])
+    × AreJoined reasons (list_of ts) (list_of us)

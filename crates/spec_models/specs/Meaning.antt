@@ -1,5 +1,7 @@
--- What the text of a model means. Source: SMT-LIB 2.6, sections 3.6, 4.1.8 and 5.3; the elements of a declared sort are own.
-use Rattle.std.specs.Prelude.{◌≡◌, ℕ, true, false, ◌&&◌, List, [], ◌∷◌, ◌++◌, length, drop, Option, Some, None, Ok, All, codes, if◌then◌else◌}
+-- What the text of a model means. Source: SMT-LIB 2.6, sections 3.6, 4.1.8 and 5.3; the elements of a declared sort are
+-- own.
+use Rattle.std.specs.Prelude.{◌≡◌, ℕ, true, false, ◌&&◌, List, [], ◌∷◌, ◌++◌, length, drop, Option, Some, None, Ok, All}
+use Rattle.std.specs.Prelude.{codes, if◌then◌else◌}
 use Rattle.std.specs.Str.{bytes_eq}
 use Rattle.spec_text.specs.declared.Kind.TheVariants.{Reserved}
 use Rattle.spec_text.specs.Bytes.{Name}
@@ -26,9 +28,11 @@ abbrev pub element_of : Name → Option ℕ → Option Value
 element_of s None = None
 element_of s (Some k) = Some (element s k)
 
--- the element that a list is the text of, by its first item and the others: `as`, the word of an element, and the name of its sort
+-- the element that a list is the text of, by its first item and the others: `as`, the word of an element, and the name
+-- of its sort
 abbrev pub element_in : Tree → Trees → Option Value
-element_in (atom at Reserved w) (more (atom x k e) (more (atom y q s) none)) = if bytes_eq w (codes "as") && (is_symbol k && is_symbol q) then element_of s (element_number e) else None
+element_in (atom at Reserved w) (more (atom x k e) (more (atom y q s) none)) = if bytes_eq w (codes "as")
+    && (is_symbol k && is_symbol q) then element_of s (element_number e) else None
 element_in head us = None
 
 -- an element, or what stands for another value
@@ -42,7 +46,13 @@ unfoldable mutual
   pub model_value : Meaning → Bindings → Tree → Value
   model_value m b (atom at k n) = atom_value m b k n
   model_value m b (list at none end) = truth false
-  model_value m b (list at (more head us) end) = element_or (element_in head us) (elim (form head us) [ applies place n ↦ name_value m b n (model_values m b us) | binds ↦ model_let m b us | annotates ↦ first_model_value m b us | _ ↦ truth false ])
+  model_value m b (list at (more head us) end) =
+      element_or (element_in head us) (elim (form head us) [
+        | applies place n ↦ name_value m b n (model_values m b us)
+        | binds ↦ model_let m b us
+        | annotates ↦ first_model_value m b us
+        | _ ↦ truth false
+      ])
 
   -- the values of trees, in their order
   pub model_values : Meaning → Bindings → Trees → List Value
@@ -56,7 +66,8 @@ unfoldable mutual
 
   -- the bound names with their values, none of them bound in the others' terms
   pub bound_in_model : Meaning → Bindings → Trees → Bindings
-  bound_in_model m b (more (list at (more (atom x k n) (more t none)) end) rest) = (n, model_value m b t) ∷ bound_in_model m b rest
+  bound_in_model m b (more (list at (more (atom x k n) (more t none)) end) rest) =
+      (n, model_value m b t) ∷ bound_in_model m b rest
   bound_in_model m b us = []
 
   -- the value of a term before attributes, which change nothing
@@ -88,10 +99,16 @@ model = record { kept_names = true; may_name = false; own = None }
 -- what a tree defines as it is written, where it is the definition of a function
 abbrev pub definition_in : Tree → Option Parts
 definition_in (list at (more (atom a h w) (more (atom x k n) (more (list c ps d) (more sort (more body none))))) end) =
-    only_if (is_reserved h && bytes_eq w (codes "define-fun")) (record { name = record { at = x; kind = k; bytes = n }; parameters = ps; result = sort; body = body })
+    only_if (is_reserved h && bytes_eq w (codes "define-fun")) (record {
+      name = record { at = x; kind = k; bytes = n };
+      parameters = ps;
+      result = sort;
+      body = body;
+    })
 definition_in t = None
 
--- The parts of a definition give a symbol the table that it has under an interpretation; sorts are those of a signature.
+-- The parts of a definition give a symbol the table that it has under an interpretation; sorts are those of a
+-- signature.
 pub record GivesTable (i : Interpretation) (g : Signature) (s : Symbol) (p : Parts) : Type 0 where
   -- the name is the symbol's
   pub name : is_word s.name p.name ≡ true
@@ -100,7 +117,8 @@ pub record GivesTable (i : Interpretation) (g : Signature) (s : Symbol) (p : Par
   -- the body has its sort
   pub result : sort_in g p.result ≡ Ok s.result
   -- and its value at as many arguments as it has parameters, whatever other names mean
-  pub value : (m : Meaning) (vs : List Value) → length vs ≡ length s.parameters → model_value m (bind (parameters_of s) vs) p.body ≡ table_value i s.name vs
+  pub value : (m : Meaning) (vs : List Value) → length vs ≡ length s.parameters
+      → model_value m (bind (parameters_of s) vs) p.body ≡ table_value i s.name vs
 
 -- a tree defines a symbol as it is under an interpretation
 abbrev pub Defines : Interpretation → Signature → Symbol → Tree → Type 0

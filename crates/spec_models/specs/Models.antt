@@ -1,4 +1,5 @@
--- How tables and models are printed. Source: SMT-LIB 2.6, sections 4.1.8 and 4.2.6; that a table is printed by its rows is own.
+-- How tables and models are printed. Source: SMT-LIB 2.6, sections 4.1.8 and 4.2.6; that a table is printed by its rows
+-- is own.
 use Rattle.std.specs.Prelude.{ℕ, suc, List, [], ◌∷◌, ◌++◌, flat_map, codes}
 use Rattle.spec_text.specs.Bytes.{Name}
 use Rattle.spec_text.specs.Trees.{Tree}
@@ -55,7 +56,8 @@ body_tree (r ∷ rs) default = row_tree r (body_tree rs default)
 
 -- a symbol with its table
 abbrev pub definition_tree : Symbol → Table → Tree
-definition_tree s t = in_list (reserved_tree (codes "define-fun") ∷ symbol_tree s.name ∷ in_list (parameter_trees (parameters_of s)) ∷ sort_tree s.result ∷ body_tree t.rows t.default ∷ [])
+definition_tree s t = in_list (reserved_tree (codes "define-fun") ∷ symbol_tree s.name
+    ∷ in_list (parameter_trees (parameters_of s)) ∷ sort_tree s.result ∷ body_tree t.rows t.default ∷ [])
 
 -- a line of two spaces and what is printed of a tree
 abbrev pub indented : Tree → List ℕ
@@ -72,7 +74,8 @@ model_text i symbols = 40 ∷ 10 ∷ flat_map (definition_line i) symbols ++ 41 
 -- what is printed for rows before the default
 abbrev pub body_front : List TableRow → List ℕ
 body_front [] = []
-body_front (r ∷ rs) = codes "(ite " ++ printed (condition_tree r.arguments) ++ codes " " ++ printed (value_tree r.value) ++ codes " " ++ body_front rs
+body_front (r ∷ rs) = codes "(ite " ++ printed (condition_tree r.arguments) ++ codes " " ++ printed (value_tree r.value)
+    ++ codes " " ++ body_front rs
 
 -- and after it
 abbrev pub body_back : List TableRow → List ℕ

@@ -12,7 +12,8 @@ use Rattle.spec_models.specs.Values.{in_list, word_tree, numeral_tree, fraction_
 
 -- an error with its line and column, both from 1, and its name
 abbrev pub error_text : ℕ → ℕ → List ℕ → List ℕ
-error_text line column name = codes "(error \"" ++ decimal line ++ codes ":" ++ decimal column ++ codes ": " ++ name ++ codes "\")\n"
+error_text line column name =
+    codes "(error \"" ++ decimal line ++ codes ":" ++ decimal column ++ codes ": " ++ name ++ codes "\")\n"
 
 -- a response of one word
 abbrev pub word_of : ResponseWord → List ℕ
@@ -44,7 +45,8 @@ operation_word Div = codes "div"
 
 -- an overflow: the operation, its left operand and its right one, as models print fractions
 abbrev pub overflow_tree : Overflow → Tree
-overflow_tree o = in_list (word_tree (codes "overflow") ∷ word_tree (operation_word o.op) ∷ fraction_tree o.left ∷ fraction_tree o.right ∷ [])
+overflow_tree o = in_list (word_tree (codes "overflow") ∷ word_tree (operation_word o.op) ∷ fraction_tree o.left
+    ∷ fraction_tree o.right ∷ [])
 
 -- a word before a number
 abbrev pub count_tree : Name → ℕ → Tree

@@ -35,16 +35,28 @@ unfolding digits numeral
 pivots_made = refl
 
 -- an operation that leaves the bound, on a whole number and a quotient
-pub product : reason_line (overflow (record { op = Mul; left = record { num = pos 100; den = 1 }; right = record { num = pos 1; den = 3 } })) ≡ codes "(overflow mul 100 (/ 1 3))\n"
+pub product : reason_line (overflow (record {
+  op = Mul;
+  left = record { num = pos 100; den = 1 };
+  right = record { num = pos 1; den = 3 };
+})) ≡ codes "(overflow mul 100 (/ 1 3))\n"
 unfolding numeral
 product = refl
 
 -- on numbers below 0
-pub quotient : reason_line (overflow (record { op = Div; left = record { num = negsuc 4; den = 1 }; right = record { num = negsuc 0; den = 3 } })) ≡ codes "(overflow div (- 5) (/ (- 1) 3))\n"
+pub quotient : reason_line (overflow (record {
+  op = Div;
+  left = record { num = negsuc 4; den = 1 };
+  right = record { num = negsuc 0; den = 3 };
+})) ≡ codes "(overflow div (- 5) (/ (- 1) 3))\n"
 unfolding numeral
 quotient = refl
 
 -- and under its keyword
-pub overflow_unknown : reason_info (overflow (record { op = Sub; left = record { num = pos 0; den = 1 }; right = record { num = pos 2; den = 1 } })) ≡ codes "(:reason-unknown (overflow sub 0 2))\n"
+pub overflow_unknown : reason_info (overflow (record {
+  op = Sub;
+  left = record { num = pos 0; den = 1 };
+  right = record { num = pos 2; den = 1 };
+})) ≡ codes "(:reason-unknown (overflow sub 0 2))\n"
 unfolding numeral
 overflow_unknown = refl

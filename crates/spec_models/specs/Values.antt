@@ -1,5 +1,7 @@
--- How names, sorts and values are printed: each as an s-expression. Source: SMT-LIB 2.6, sections 3.1 to 3.5 and 4.2.6; the elements of a declared sort are own.
-use Rattle.std.specs.Prelude.{ℕ, zero, suc, ◌+◌, ◌/◌, ◌%◌, ◌==◌, Bool, ℤ, pos, negsuc, List, [], ◌∷◌, ◌++◌, codes, nat_eq, true, false, if◌then◌else◌}
+-- How names, sorts and values are printed: each as an s-expression. Source: SMT-LIB 2.6, sections 3.1 to 3.5 and 4.2.6;
+-- the elements of a declared sort are own.
+use Rattle.std.specs.Prelude.{ℕ, zero, suc, ◌+◌, ◌/◌, ◌%◌, ◌==◌, Bool, ℤ, pos, negsuc, List, [], ◌∷◌, ◌++◌, codes}
+use Rattle.std.specs.Prelude.{nat_eq, true, false, if◌then◌else◌}
 use Rattle.spec_text.specs.declared.Kind.TheVariants.{Numeral, Simple, Quoted, Reserved}
 use Rattle.spec_text.specs.Bytes.{Name, is_in_bars}
 use Rattle.spec_text.specs.Lexicon.{Consists}
@@ -61,7 +63,8 @@ whole_tree (negsuc n) = in_list (word_tree (codes "-") ∷ numeral_tree (suc n) 
 
 -- a fraction: a whole number alone, or a quotient
 abbrev pub fraction_tree : Fraction → Tree
-fraction_tree q = if nat_eq q.den 1 then whole_tree q.num else in_list (word_tree (codes "/") ∷ whole_tree q.num ∷ numeral_tree q.den ∷ [])
+fraction_tree q = if nat_eq q.den 1 then whole_tree q.num else in_list (word_tree (codes "/") ∷ whole_tree q.num
+    ∷ numeral_tree q.den ∷ [])
 
 -- the word of an element by its number
 abbrev pub element_word : ℕ → Name

@@ -1,5 +1,6 @@
 -- Operations on fractions whose parts are bounded: the exact result, or an overflow.
-use Rattle.std.specs.Prelude.{ℕ, ◌/◌, ◌^◌, Bool, true, false, ◌&&◌, nat_lt, ℤ, pos, ◌+ℤ◌, ◌*ℤ◌, unsigned_abs, Result, Ok, Err}
+use Rattle.std.specs.Prelude.{ℕ, ◌/◌, ◌^◌, Bool, true, false, ◌&&◌, nat_lt, ℤ, pos, ◌+ℤ◌, ◌*ℤ◌, unsigned_abs, Result}
+use Rattle.std.specs.Prelude.{Ok, Err}
 use Rattle.spec_numbers.specs.Fractions.{Fraction, gcd, plus, minus, times, divide, opposite}
 use Rattle.spec_numbers.specs.declared.Op.{Op}
 use Rattle.spec_numbers.specs.declared.Op.TheVariants.{Add, Sub, Mul, Div}
@@ -19,7 +20,8 @@ common_sum x y = x.num *ℤ pos (y.den / gcd x.den y.den) +ℤ y.num *ℤ pos (x
 -- the sum is within the bound, and so are both numerators over the least common multiple, and their sum
 unfoldable pub sum_fits : Fraction → Fraction → Bool
 sum_fits x y =
-    (is_small (unsigned_abs (x.num *ℤ pos (y.den / gcd x.den y.den))) && is_small (unsigned_abs (y.num *ℤ pos (x.den / gcd x.den y.den))))
+    (is_small (unsigned_abs (x.num *ℤ pos (y.den / gcd x.den y.den)))
+    && is_small (unsigned_abs (y.num *ℤ pos (x.den / gcd x.den y.den))))
     && (is_small (unsigned_abs (common_sum x y)) && fits (plus x y))
 
 -- An operation whose result is out of the bound, with its operands.

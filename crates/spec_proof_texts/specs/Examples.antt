@@ -1,16 +1,18 @@
 -- Refutations as they are printed, and what their lines say.
-use Rattle.std.specs.Prelude.{◌≡◌, refl, ℕ, pos, negsuc, true, false, List, [], ◌∷◌, map, codes}
+use Rattle.std.specs.Prelude.{◌++◌, ◌≡◌, refl, ℕ, pos, negsuc, true, false, List, [], ◌∷◌, map, codes}
 use Rattle.spec_text.specs.declared.Kind.TheVariants.{Numeral}
 use Rattle.spec_text.specs.Trees.{atom, none, more}
 use Rattle.spec_text.specs.Printed.{printed_all}
 use Rattle.spec_numbers.specs.Fractions.{Fraction}
-use Rattle.spec_sorts.specs.Terms.{Truth, Number, Declared, Symbol, True, Not, And, Or, Equal, Ite, Plus, Literal, Apply, Term, of, constant, constant_term, negated, sort_of, same_term}
+use Rattle.spec_sorts.specs.Terms.{Truth, Number, Declared, Symbol, True, Not, And, Or, Equal, Ite, Plus, Literal}
+use Rattle.spec_sorts.specs.Terms.{Apply, Term, of, constant, constant_term, negated, sort_of, same_term}
 use Rattle.spec_proofs.specs.declared.Rule.TheVariants as rules
 use Rattle.spec_rules.specs.Examples.{p}
 use Rattle.spec_derivations.specs.Derivations.{Derivation, «assumption», by_rule}
 use Rattle.spec_models.specs.Values.{trees_of, numeral}
 use Rattle.spec_proof_texts.specs.Decimals.{places, has_decimal, literal_text, literal_tree}
-use Rattle.spec_proof_texts.specs.Lines.{Line, truth, symbol, defined, assumed, defines, assumes, steps, line_text, proof_text}
+use Rattle.spec_proof_texts.specs.Lines.{Line, truth, symbol, defined, assumed, defines, assumes, steps, line_text}
+use Rattle.spec_proof_texts.specs.Lines.{proof_text}
 use Rattle.spec_proof_texts.specs.Meaning.{Told}
 use Rattle.spec_proof_texts.specs.Plans.{Plan, lines_of, counted, counted_inferences}
 use Rattle.spec_proof_texts.specs.ReadBack.{numerals_in}
@@ -21,10 +23,18 @@ refutation =
     defines (record { number = 1; sort = Truth; head = Not; arguments = symbol (codes "p") ∷ [] }) ∷
     assumes 1 (symbol (codes "p")) ∷
     assumes 2 (defined 1) ∷
-    steps (record { number = 1; literals = []; rule = rules.Resolution; premises = assumed 1 ∷ assumed 2 ∷ []; arguments = none }) ∷ []
+    steps (record {
+      number = 1;
+      literals = [];
+      rule = rules.Resolution;
+      premises = assumed 1 ∷ assumed 2 ∷ [];
+      arguments = none;
+    }) ∷ []
 
 -- its text
-pub refutation_text : proof_text refutation ≡ codes "(\n(define-fun @p1 () Bool (not p))\n(assume h1 p)\n(assume h2 @p1)\n(step t1 (cl) :rule resolution :premises (h1 h2))\n)\n"
+pub refutation_text : proof_text refutation
+    ≡ (codes "(\n(define-fun @p1 () Bool (not p))\n(assume h1 p)\n(assume h2 @p1)\n(step t1 (cl) "
+    ++ codes ":rule resolution :premises (h1 h2))\n)\n")
 unfolding numeral
 refutation_text = refl
 
@@ -32,13 +42,15 @@ refutation_text = refl
 abbrev pub refutation_told : Told
 refutation_told = record { terms = negated p ∷ []; assumes = (p ∷ []) ∷ (negated p ∷ []) ∷ []; steps = [] ∷ [] }
 
--- what a search may have found: the disjunction of p and q, which `q p` stands for here, is opened, and something is stated that nothing rests on
+-- what a search may have found: the disjunction of p and q, which `q p` stands for here, is opened, and something is
+-- stated that nothing rests on
 abbrev pub q_p : Term
 q_p = constant_term (constant (codes "q p") Truth)
 
 -- the terms of a table, each after its arguments
 abbrev pub table : List Term
-table = p ∷ q_p ∷ of Or (p ∷ q_p ∷ []) ∷ negated p ∷ of True [] ∷ negated (negated p) ∷ of And (of Or (p ∷ q_p ∷ []) ∷ negated p ∷ of True [] ∷ []) ∷ []
+table = p ∷ q_p ∷ of Or (p ∷ q_p ∷ []) ∷ negated p ∷ of True [] ∷ negated (negated p)
+    ∷ of And (of Or (p ∷ q_p ∷ []) ∷ negated p ∷ of True [] ∷ []) ∷ []
 
 -- inferences, by their numbers
 abbrev pub derivation : Derivation
@@ -52,15 +64,29 @@ derivation =
 
 -- the plan of the last but for the one that nothing rests on
 abbrev pub plan : Plan
-plan = record { terms = counted 1 (false ∷ false ∷ true ∷ true ∷ false ∷ false ∷ true ∷ []); inferences = counted_inferences 1 1 (true ∷ false ∷ true ∷ false ∷ true ∷ true ∷ []) derivation }
+plan = record {
+  terms = counted 1 (false ∷ false ∷ true ∷ true ∷ false ∷ false ∷ true ∷ []);
+  inferences = counted_inferences 1 1 (true ∷ false ∷ true ∷ false ∷ true ∷ true ∷ []) derivation;
+}
 
 -- a name that needs bars has them, and a step without premises has no such keyword
-pub lines_of_a_derivation : proof_text (lines_of table derivation plan) ≡ codes "(\n(define-fun @p1 () Bool (or p |q p|))\n(define-fun @p2 () Bool (not p))\n(define-fun @p3 () Bool (and @p1 @p2 true))\n(assume h1 @p3)\n(step t1 (cl @p1) :rule and :premises (h1))\n(step t2 (cl p |q p|) :rule or :premises (t1))\n(step t3 (cl p |q p| true) :rule weakening :premises (t2))\n)\n"
+pub lines_of_a_derivation : proof_text (lines_of table derivation plan)
+    ≡ (codes "(\n(define-fun @p1 () Bool (or p |q p|))\n(define-fun @p2 () Bool (not p))\n"
+    ++ codes "(define-fun @p3 () Bool (and @p1 @p2 true))\n(assume h1 @p3)\n(step t1 (cl @p1) "
+    ++ codes ":rule and :premises (h1))\n(step t2 (cl p |q p|) :rule or :premises (t1))\n"
+    ++ codes "(step t3 (cl p |q p| true) :rule weakening :premises (t2))\n)\n")
 unfolding numeral same_term sort_of
 lines_of_a_derivation = refl
 
 -- a step without premises has no such keyword, and one with arguments has these last
-pub steps_by_their_parts : line_text (steps (record { number = 12; literals = truth true ∷ []; rule = rules.True; premises = []; arguments = more (atom 0 Numeral (codes "1")) (more (atom 0 Numeral (codes "2")) none) })) ≡ codes "(step t12 (cl true) :rule true :args (1 2))\n"
+pub steps_by_their_parts : line_text (steps (record {
+  number = 12;
+  literals = truth true ∷ [];
+  rule = rules.True;
+  premises = [];
+  arguments = more (atom 0 Numeral (codes "1")) (more (atom 0 Numeral (codes "2")) none);
+}))
+    ≡ codes "(step t12 (cl true) :rule true :args (1 2))\n"
 unfolding numeral
 steps_by_their_parts = refl
 
@@ -102,15 +128,23 @@ abbrev pub sorted_derivation : Derivation
 sorted_derivation = «assumption» equals ∷ []
 
 abbrev pub sorted_plan : Plan
-sorted_plan = record { terms = counted 1 (false ∷ false ∷ false ∷ false ∷ false ∷ true ∷ true ∷ true ∷ true ∷ []); inferences = counted_inferences 1 1 (true ∷ []) sorted_derivation }
+sorted_plan = record {
+  terms = counted 1 (false ∷ false ∷ false ∷ false ∷ false ∷ true ∷ true ∷ true ∷ true ∷ []);
+  inferences = counted_inferences 1 1 (true ∷ []) sorted_derivation;
+}
 
 -- each definition has its term's sort, and a number is a numeral or the shortest decimal
-pub terms_of_other_sorts : proof_text (lines_of sorted_table sorted_derivation sorted_plan) ≡ codes "(\n(define-fun @p1 () Real (+ 0.5 1.25 0.5))\n(define-fun @p2 () |let| (f 20 @p1))\n(define-fun @p3 () |let| (ite p a @p2))\n(define-fun @p4 () Bool (= a @p3))\n(assume h1 @p4)\n)\n"
+pub terms_of_other_sorts : proof_text (lines_of sorted_table sorted_derivation sorted_plan)
+    ≡ (codes "(\n(define-fun @p1 () Real (+ 0.5 1.25 0.5))\n(define-fun @p2 () |let| (f 20 @p1))\n"
+    ++ codes "(define-fun @p3 () |let| (ite p a @p2))\n(define-fun @p4 () Bool (= a @p3))\n"
+    ++ codes "(assume h1 @p4)\n)\n")
 unfolding numeral same_term sort_of places has_decimal literal_text
 terms_of_other_sorts = refl
 
 -- numbers in place, of which the last two have no decimal
-pub numbers_in_place : printed_all (trees_of (map literal_tree (over 0 1 ∷ over 12 1 ∷ over 1 40 ∷ over 1 3 ∷ record { num = negsuc 0; den = 2 } ∷ []))) ≡ codes "0 12 0.025 (/ 1 3) (/ (- 1) 2)"
+pub numbers_in_place : printed_all
+    (trees_of (map literal_tree (over 0 1 ∷ over 12 1 ∷ over 1 40 ∷ over 1 3 ∷ record { num = negsuc 0; den = 2 }
+    ∷ []))) ≡ codes "0 12 0.025 (/ 1 3) (/ (- 1) 2)"
 unfolding numeral places has_decimal literal_text
 numbers_in_place = refl
 

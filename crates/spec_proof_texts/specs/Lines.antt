@@ -1,4 +1,6 @@
--- The lines of a printed proof, and their text: definitions of terms, assumes and steps, each by its number, in one list. Source: Alethe specification, commands; that each term with arguments gets a name, and what the names are, is own.
+-- The lines of a printed proof, and their text: definitions of terms, assumes and steps, each by its number, in one
+-- list. Source: Alethe specification, commands; that each term with arguments gets a name, and what the names are, is
+-- own.
 use Rattle.std.specs.Prelude.{ℕ, Bool, true, false, List, [], ◌∷◌, ◌++◌, map, flat_map, codes}
 use Rattle.spec_text.specs.declared.Kind.TheVariants.{Keyword}
 use Rattle.spec_text.specs.Bytes.{Name}
@@ -114,7 +116,8 @@ term_tree d = in_list (symbol_tree (head_name d.head) ∷ map argument_tree d.ar
 
 -- the definition of a term
 abbrev pub definition_tree : DefinitionLine → Tree
-definition_tree d = in_list (reserved_tree (codes "define-fun") ∷ word_tree (defined_name d.number) ∷ in_list [] ∷ sort_tree d.sort ∷ term_tree d ∷ [])
+definition_tree d = in_list (reserved_tree (codes "define-fun") ∷ word_tree (defined_name d.number) ∷ in_list []
+    ∷ sort_tree d.sort ∷ term_tree d ∷ [])
 
 -- a clause by its literals
 abbrev pub clause_tree : List Argument → Tree
@@ -123,7 +126,9 @@ clause_tree items = in_list (word_tree (codes "cl") ∷ map argument_tree items)
 -- a step
 abbrev pub step_tree : StepLine → Tree
 step_tree s =
-    in_list (word_tree (codes "step") ∷ word_tree (step_name s.number) ∷ clause_tree s.literals ∷ keyword_tree (codes "rule") ∷ word_tree (rule_name s.rule) ∷ premise_trees s.premises ++ given_trees s.arguments)
+    in_list (word_tree (codes "step") ∷ word_tree (step_name s.number) ∷ clause_tree s.literals
+    ∷ keyword_tree (codes "rule") ∷ word_tree (rule_name s.rule) ∷ premise_trees s.premises
+    ++ given_trees s.arguments)
 
 -- a line
 abbrev pub line_tree : Line → Tree

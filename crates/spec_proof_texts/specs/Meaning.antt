@@ -1,5 +1,7 @@
--- What the lines of a proof say under a signature, and when they are a proof of what is asserted. Source: Alethe specification, proofs as lists of commands; to number them is own.
-use Rattle.std.specs.Prelude.{◌≡◌, ◌≢◌, ℕ, zero, suc, ◌+◌, ◌≤◌, Bool, true, false, List, [], ◌∷◌, ◌++◌, length, map, Option, Some, None, All, Contains}
+-- What the lines of a proof say under a signature, and when they are a proof of what is asserted. Source: Alethe
+-- specification, proofs as lists of commands; to number them is own.
+use Rattle.std.specs.Prelude.{◌≡◌, ◌≢◌, ℕ, zero, suc, ◌+◌, ◌≤◌, Bool, true, false, List, [], ◌∷◌, ◌++◌, length, map}
+use Rattle.std.specs.Prelude.{Option, Some, None, All, Contains}
 use Rattle.std.specs.List.{slice_get}
 use Rattle.spec_text.specs.declared.Fault.{Fault}
 use Rattle.spec_text.specs.Lexemes.{word}
@@ -8,14 +10,16 @@ use Rattle.spec_text.specs.Trees.{Tree, Trees, atom, list, none, more}
 use Rattle.spec_text.specs.Shapes.{only_if}
 use Rattle.spec_text.specs.Faults.{nesting_limit}
 use Rattle.spec_text.specs.Readings.{depth_all}
-use Rattle.spec_sorts.specs.Terms.{Sort, Truth, Symbol, Head, True, False, Times, Divide, Literal, Apply, Term, of, constant_term, sort_of, head_takes}
+use Rattle.spec_sorts.specs.Terms.{Sort, Truth, Symbol, Head, True, False, Times, Divide, Literal, Apply, Term, of}
+use Rattle.spec_sorts.specs.Terms.{constant_term, sort_of, head_takes}
 use Rattle.spec_sorts.specs.Theory.{product_fault, quotient_fault}
 use Rattle.spec_sorts.specs.Signatures.{Known, declared, Signature, known_as}
 use Rattle.spec_sorts.specs.Literals.{Clause}
 use Rattle.spec_rules.specs.Rules.{IsRight}
 use Rattle.spec_models.specs.Meaning.{IsSortIn}
 use Rattle.spec_proof_texts.specs.Decimals.{is_decimal}
-use Rattle.spec_proof_texts.specs.Lines.{Argument, truth, number, symbol, defined, Reference, assumed, stepped, DefinitionLine, StepLine, Line, defines, assumes, steps}
+use Rattle.spec_proof_texts.specs.Lines.{Argument, truth, number, symbol, defined, Reference, assumed, stepped}
+use Rattle.spec_proof_texts.specs.Lines.{DefinitionLine, StepLine, Line, defines, assumes, steps}
 
 -- What is known after lines, each by its number, from 1.
 pub record Told : Type 0 where
@@ -103,7 +107,8 @@ pub record TakesAll (g : Signature) (h : Head) (ts : List Term) : Type 0 where
   -- and refuses none
   pub linear : linear_fault h ts ≡ None
 
--- A definition under the next number: a head before arguments that are known and that it takes, a term of the sort that is printed.
+-- A definition under the next number: a head before arguments that are known and that it takes, a term of the sort that
+-- is printed.
 pub record IsDefinition (g : Signature) (k : Told) (d : DefinitionLine) (t : Term) : Type 0 where
   -- the number is the next
   pub number : d.number ≡ length k.terms + 1
@@ -180,9 +185,11 @@ IsLineAfter g asserted k (steps s) next = (x : IsStep g k s) × (next ≡ with_s
 -- each line is right after those before it, and after all of them this is known
 abbrev pub AreLinesAfter : Signature → List Term → Told → List Line → Told → Type 0
 AreLinesAfter g asserted k [] end = end ≡ k
-AreLinesAfter g asserted k (l ∷ ls) end = (next : Told) × IsLineAfter g asserted k l next × AreLinesAfter g asserted next ls end
+AreLinesAfter g asserted k (l ∷ ls) end = (next : Told) × IsLineAfter g asserted k l next
+    × AreLinesAfter g asserted next ls end
 
--- The lines are a proof from what is asserted: each is right after those before it, and the last is a step with the empty clause.
+-- The lines are a proof from what is asserted: each is right after those before it, and the last is a step with the
+-- empty clause.
 pub record AreRightLines (g : Signature) (asserted : List Term) (lines : List Line) : Type 0 where
   -- what is known after them
   pub end : Told

@@ -1,12 +1,18 @@
--- Which lines a derivation has: a definition for each term with arguments that they need, and each inference that the last one rests on. Source: Alethe specification, proofs as lists of commands; where definitions stand, and the numbers, are own.
-use Rattle.std.specs.Prelude.{◌≡◌, ℕ, suc, ◌+◌, Bool, true, false, ◌&&◌, List, [], ◌∷◌, ◌++◌, length, map, Option, Some, None, Contains, get_or, if◌then◌else◌}
+-- Which lines a derivation has: a definition for each term with arguments that they need, and each inference that the
+-- last one rests on. Source: Alethe specification, proofs as lists of commands; where definitions stand, and the
+-- numbers, are own.
+use Rattle.std.specs.Prelude.{◌≡◌, ℕ, suc, ◌+◌, Bool, true, false, ◌&&◌, List, [], ◌∷◌, ◌++◌, length, map, Option, Some}
+use Rattle.std.specs.Prelude.{None, Contains, get_or, if◌then◌else◌}
 use Rattle.std.specs.List.{slice_get}
 use Rattle.spec_sorts.specs.Terms.{True, Literal, Apply, Term, app, nil, cons, list_of, sort_of, same_term}
 use Rattle.spec_sorts.specs.Subsets.{arguments_of}
-use Rattle.spec_derivations.specs.Derivations.{Inference, «assumption», by_rule, Derivation, conclusion_at, inference_at, RestsOn}
-use Rattle.spec_proof_texts.specs.Lines.{Argument, truth, number, symbol, defined, Reference, assumed, stepped, Line, defines, assumes, steps}
+use Rattle.spec_derivations.specs.Derivations.{Inference, «assumption», by_rule, Derivation, conclusion_at}
+use Rattle.spec_derivations.specs.Derivations.{inference_at, RestsOn}
+use Rattle.spec_proof_texts.specs.Lines.{Argument, truth, number, symbol, defined, Reference, assumed, stepped, Line}
+use Rattle.spec_proof_texts.specs.Lines.{defines, assumes, steps}
 
--- The numbers under which terms and inferences are printed, each list by their places; none for what is not printed, or printed in place.
+-- The numbers under which terms and inferences are printed, each list by their places; none for what is not printed, or
+-- printed in place.
 pub record Plan : Type 0 where
   -- of the terms, the numbers of their definitions
   pub terms : List (Option ℕ)
@@ -36,7 +42,8 @@ argument_for terms numbers u = argument_by (number_of terms numbers u) u
 
 -- the definition of a term, where it has a number
 abbrev pub definition_by : (Term → Argument) → Option ℕ → Term → List Line
-definition_by name (Some n) (app h ts) = defines (record { number = n; sort = sort_of (app h ts); head = h; arguments = map name (list_of ts) }) ∷ []
+definition_by name (Some n) (app h ts) =
+    defines (record { number = n; sort = sort_of (app h ts); head = h; arguments = map name (list_of ts) }) ∷ []
 definition_by name None t = []
 
 -- the definitions of terms, in their order
@@ -61,7 +68,8 @@ reference_for d numbers p = reference_by (inference_at d p) (number_or_zero (get
 -- the line of an inference, where it has a number
 abbrev pub inference_by : (Term → Argument) → (ℕ → Reference) → Option ℕ → Inference → List Line
 inference_by name refer (Some n) («assumption» t) = assumes n (name t) ∷ []
-inference_by name refer (Some n) (by_rule r ps given c) = steps (record { number = n; literals = map name c; rule = r; premises = map refer ps; arguments = given }) ∷ []
+inference_by name refer (Some n) (by_rule r ps given c) =
+    steps (record { number = n; literals = map name c; rule = r; premises = map refer ps; arguments = given }) ∷ []
 inference_by name refer None x = []
 
 -- the lines of inferences, in their order
@@ -121,7 +129,8 @@ pub record ArePrinted (terms : List Term) (d : Derivation) (n : ℕ) (marks : Li
   -- and nothing else
   pub only : (k : ℕ) (t : Term) → slice_get terms k ≡ Some t → get_or marks k false ≡ true → IsPrinted d n t
 
--- The plan of an inference: what it rests on is printed, the terms with arguments that this needs are defined, and nothing else; numbers begin with 1.
+-- The plan of an inference: what it rests on is printed, the terms with arguments that this needs are defined, and
+-- nothing else; numbers begin with 1.
 pub record IsPlan (terms : List Term) (d : Derivation) (n : ℕ) (plan : Plan) : Type 0 where
   -- which inferences are printed
   pub rests : List Bool

@@ -1,4 +1,5 @@
--- Derivations that can be printed: the terms that they need, in a row where each is after its arguments, can be read under a signature.
+-- Derivations that can be printed: the terms that they need, in a row where each is after its arguments, can be read
+-- under a signature.
 use Rattle.std.specs.Prelude.{◌≡◌, ℕ, ◌<◌, true, List, Contains, Some, None}
 use Rattle.std.specs.List.{slice_get}
 use Rattle.spec_sorts.specs.Terms.{Truth, Head, Literal, Term, app, sort_of}
@@ -26,7 +27,8 @@ pub record ArePrintable (g : Signature) (terms : List Term) (d : Derivation) (n 
   -- no term stands twice
   pub apart : (i j : ℕ) (t : Term) → slice_get terms i ≡ Some t → slice_get terms j ≡ Some t → i ≡ j
   -- the arguments of each are before it
-  pub before : (k : ℕ) (t u : Term) → slice_get terms k ≡ Some t → Contains (arguments_of t) u → (j : ℕ) × (j < k) × (slice_get terms j ≡ Some u)
+  pub before : (k : ℕ) (t u : Term) → slice_get terms k ≡ Some t → Contains (arguments_of t) u → (j : ℕ) × (j < k)
+      × (slice_get terms j ≡ Some u)
   -- each that is needed can be printed
   pub each : (t : Term) → IsPrinted d n t → IsPrintable g t
 
@@ -37,7 +39,8 @@ HasGiven (by_rule r ps given c) = AreGiven given
 
 -- the terms of its clause are some of these, and of sort Bool
 abbrev pub ConcludesOver : List Term → Inference → Type 0
-ConcludesOver terms x = (u : Term) → Contains (conclusion x) u → ((j : ℕ) × (slice_get terms j ≡ Some u)) × (sort_of u ≡ Truth)
+ConcludesOver terms x = (u : Term) → Contains (conclusion x) u → ((j : ℕ) × (slice_get terms j ≡ Some u))
+    × (sort_of u ≡ Truth)
 
 -- each inference is over these terms, and has arguments that can be printed
 abbrev pub AllConcludeOver : List Term → Derivation → Type 0
@@ -48,7 +51,8 @@ abbrev pub HasText : Head → Type 0
 HasText (Literal q) = is_decimal q ≡ true
 HasText h = Unit {0}
 
--- A term whose head, beside taking its arguments, can be read before them: what is read has to be linear, and its numbers decimals.
+-- A term whose head, beside taking its arguments, can be read before them: what is read has to be linear, and its
+-- numbers decimals.
 pub record IsReadable (t : Term) : Type 0 where
   -- the head has a text
   pub text : HasText (head_of t)

@@ -1,4 +1,5 @@
--- Terms that can be read back from a proof, whole: what is read has to be linear, and its numbers decimals. Signatures whose definitions stand for such terms. Source: SMT-LIB 2.6, section 3.1 and theory Reals; what is linear is own.
+-- Terms that can be read back from a proof, whole: what is read has to be linear, and its numbers decimals. Signatures
+-- whose definitions stand for such terms. Source: SMT-LIB 2.6, section 3.1 and theory Reals; what is linear is own.
 use Rattle.std.specs.Prelude.{All}
 use Rattle.spec_sorts.specs.Terms.{Term, Terms, app, nil, cons}
 use Rattle.spec_sorts.specs.Signatures.{Declaration, of_sort, of_function, declared, defined, Signature}

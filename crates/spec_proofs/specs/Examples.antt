@@ -8,5 +8,14 @@ use Rattle.spec_text.specs.Readings.{depth_all}
 use Rattle.spec_proofs.specs.Texts.{complete, AreCommands}
 
 -- commands in one list, after which nothing stands
-pub in_one_list : (end at close : ℕ) (xs : List (ℕ × Lexeme)) (ts : Trees) → xs ≡ (at, opens) ∷ spelled_all ts ++ (close, closes) ∷ [] → 1 + depth_all ts ≤ nesting_limit → AreCommands true end xs ts complete
-in_one_list end at close xs ts e within = (at, spelled_all ts ++ (close, closes) ∷ [], (close, closes) ∷ [], e, record { split = refl; within = within }, inl (close, [], refl, refl))
+pub in_one_list : (end at close : ℕ) (xs : List (ℕ × Lexeme)) (ts : Trees) → xs ≡ (at, opens) ∷ spelled_all ts
+    ++ (close, closes) ∷ [] → 1 + depth_all ts ≤ nesting_limit → AreCommands true end xs ts complete
+in_one_list end at close xs ts e within = (
+  at,
+  spelled_all ts ++ (close, closes) ∷ [],
+  (close, closes) ∷ [],
+  e,
+  record { split = refl; within = within },
+  inl
+      (close, [], refl, refl),
+)

@@ -5,7 +5,9 @@ use Rattle.spec_text.specs.declared.Fault.TheVariants as faults
 use Rattle.spec_text.specs.Places.{name_of}
 use Rattle.spec_text.specs.Faults.{Located}
 use Rattle.spec_proofs.specs.declared.ProofKind.{ProofKind}
-use Rattle.spec_proofs.specs.declared.ProofKind.TheVariants.{Lexical, BadShape, TwiceName, UnknownPremise, UnknownRule, NotAsserted, RuleFails, NoEmptyClause, Wide, Term, NoSuchCheck}
+use Rattle.spec_proofs.specs.declared.ProofKind.TheVariants.{Lexical, BadShape, TwiceName, UnknownPremise, UnknownRule}
+use Rattle.spec_proofs.specs.declared.ProofKind.TheVariants.{NotAsserted, RuleFails, NoEmptyClause, Wide, Term}
+use Rattle.spec_proofs.specs.declared.ProofKind.TheVariants.{NoSuchCheck}
 
 -- the name that is printed
 abbrev pub fault_name : ProofKind → List ℕ

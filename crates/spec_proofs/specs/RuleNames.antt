@@ -70,7 +70,16 @@ rule_name rules.LaTotality = codes "la_totality"
 
 -- all rules
 abbrev pub every_rule : List Rule
-every_rule = rules.Or ∷ rules.Contraction ∷ rules.Reordering ∷ rules.Weakening ∷ rules.Resolution ∷ rules.ThResolution ∷ rules.True ∷ rules.False ∷ rules.AndPos ∷ rules.AndNeg ∷ rules.OrPos ∷ rules.OrNeg ∷ rules.ImpliesPos ∷ rules.ImpliesNeg1 ∷ rules.ImpliesNeg2 ∷ rules.EquivPos1 ∷ rules.EquivPos2 ∷ rules.EquivNeg1 ∷ rules.EquivNeg2 ∷ rules.XorPos1 ∷ rules.XorPos2 ∷ rules.XorNeg1 ∷ rules.XorNeg2 ∷ rules.ItePos1 ∷ rules.ItePos2 ∷ rules.IteNeg1 ∷ rules.IteNeg2 ∷ rules.NotNot ∷ rules.And ∷ rules.NotAnd ∷ rules.NotOr ∷ rules.Implies ∷ rules.NotImplies1 ∷ rules.NotImplies2 ∷ rules.Equiv1 ∷ rules.Equiv2 ∷ rules.NotEquiv1 ∷ rules.NotEquiv2 ∷ rules.Xor1 ∷ rules.Xor2 ∷ rules.NotXor1 ∷ rules.NotXor2 ∷ rules.Ite1 ∷ rules.Ite2 ∷ rules.NotIte1 ∷ rules.NotIte2 ∷ rules.EqReflexive ∷ rules.EqTransitive ∷ rules.EqCongruent ∷ rules.EqCongruentPred ∷ rules.Refl ∷ rules.Symm ∷ rules.Trans ∷ rules.Cong ∷ rules.DistinctElim ∷ rules.IteThen ∷ rules.IteElse ∷ rules.LaGeneric ∷ rules.LaDisequality ∷ rules.LaTotality ∷ []
+every_rule = rules.Or ∷ rules.Contraction ∷ rules.Reordering ∷ rules.Weakening ∷ rules.Resolution ∷ rules.ThResolution
+    ∷ rules.True ∷ rules.False ∷ rules.AndPos ∷ rules.AndNeg ∷ rules.OrPos ∷ rules.OrNeg ∷ rules.ImpliesPos
+    ∷ rules.ImpliesNeg1 ∷ rules.ImpliesNeg2 ∷ rules.EquivPos1 ∷ rules.EquivPos2 ∷ rules.EquivNeg1 ∷ rules.EquivNeg2
+    ∷ rules.XorPos1 ∷ rules.XorPos2 ∷ rules.XorNeg1 ∷ rules.XorNeg2 ∷ rules.ItePos1 ∷ rules.ItePos2 ∷ rules.IteNeg1
+    ∷ rules.IteNeg2 ∷ rules.NotNot ∷ rules.And ∷ rules.NotAnd ∷ rules.NotOr ∷ rules.Implies ∷ rules.NotImplies1
+    ∷ rules.NotImplies2 ∷ rules.Equiv1 ∷ rules.Equiv2 ∷ rules.NotEquiv1 ∷ rules.NotEquiv2 ∷ rules.Xor1 ∷ rules.Xor2
+    ∷ rules.NotXor1 ∷ rules.NotXor2 ∷ rules.Ite1 ∷ rules.Ite2 ∷ rules.NotIte1 ∷ rules.NotIte2 ∷ rules.EqReflexive
+    ∷ rules.EqTransitive ∷ rules.EqCongruent ∷ rules.EqCongruentPred ∷ rules.Refl ∷ rules.Symm ∷ rules.Trans
+    ∷ rules.Cong ∷ rules.DistinctElim ∷ rules.IteThen ∷ rules.IteElse ∷ rules.LaGeneric ∷ rules.LaDisequality
+    ∷ rules.LaTotality ∷ []
 
 -- the rows of a table of names for these rules
 abbrev pub named_rows : List Rule → List (Name × Rule)

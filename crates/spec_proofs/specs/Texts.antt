@@ -1,5 +1,7 @@
--- The commands of a proof's text: after the word `unsat` or without it, one after the other, or in one list. Source: Alethe specification, proofs; the word and the list are own.
-use Rattle.std.specs.Prelude.{◌≡◌, ℕ, Bool, true, false, ◌⊎◌, List, [], ◌∷◌, ◌++◌, length, Option, Some, None, codes, if◌then◌else◌}
+-- The commands of a proof's text: after the word `unsat` or without it, one after the other, or in one list. Source:
+-- Alethe specification, proofs; the word and the list are own.
+use Rattle.std.specs.Prelude.{◌≡◌, ℕ, Bool, true, false, ◌⊎◌, List, [], ◌∷◌, ◌++◌, length, Option, Some, None, codes}
+use Rattle.std.specs.Prelude.{if◌then◌else◌}
 use Rattle.std.specs.Str.{bytes_eq}
 use Rattle.spec_text.specs.Lexemes.{Lexeme, opens, closes, word, lexemes}
 use Rattle.spec_text.specs.Trees.{Tree, Trees, none, more, spelled_all, offset_of}
@@ -11,7 +13,8 @@ use Rattle.spec_proofs.specs.Faults.{Fault, fault_at, text_fault}
 
 -- the lexemes without a first word `unsat`
 abbrev pub behind_unsat : List (ℕ × Lexeme) → List (ℕ × Lexeme)
-behind_unsat ((at, word k n) ∷ xs) = if is_symbol k then (if bytes_eq n (codes "unsat") then xs else (at, word k n) ∷ xs) else (at, word k n) ∷ xs
+behind_unsat ((at, word k n) ∷ xs) = if is_symbol k then (if bytes_eq n (codes "unsat") then xs else (at, word k n)
+    ∷ xs) else (at, word k n) ∷ xs
 behind_unsat xs = xs
 
 -- a first list whose first item is a list, or which is empty
@@ -39,16 +42,19 @@ EndsRow end rest (left_over at) = ⊥
 abbrev pub EndsBehind : ℕ → List (ℕ × Lexeme) → Ending → Type 0
 EndsBehind end after complete = after ≡ []
 EndsBehind end after (broken f) = IsBroken end 0 after f
-EndsBehind end after (left_over at) = (t : Tree) × (rest : List (ℕ × Lexeme)) × AreTrees 0 after (more t none) rest × (offset_of t ≡ at)
+EndsBehind end after (left_over at) = (t : Tree) × (rest : List (ℕ × Lexeme)) × AreTrees 0 after (more t none) rest
+    × (offset_of t ≡ at)
 
 -- after commands that are in a list: its end and what is after it, or what cannot be read
 abbrev pub EndsList : ℕ → List (ℕ × Lexeme) → Ending → Type 0
-EndsList end rest e = ((at : ℕ) × (after : List (ℕ × Lexeme)) × (rest ≡ (at, closes) ∷ after) × EndsBehind end after e) ⊎ ((f : Located) × IsBroken end 1 rest f × (e ≡ broken f))
+EndsList end rest e = ((at : ℕ) × (after : List (ℕ × Lexeme)) × (rest ≡ (at, closes) ∷ after) × EndsBehind end after e)
+    ⊎ ((f : Located) × IsBroken end 1 rest f × (e ≡ broken f))
 
 -- the lexemes are these commands with this ending, in a list or not
 abbrev pub AreCommands : Bool → ℕ → List (ℕ × Lexeme) → Trees → Ending → Type 0
 AreCommands false end xs ts e = (rest : List (ℕ × Lexeme)) × AreTrees 0 xs ts rest × EndsRow end rest e
-AreCommands true end xs ts e = (at : ℕ) × (inner : List (ℕ × Lexeme)) × (rest : List (ℕ × Lexeme)) × (xs ≡ (at, opens) ∷ inner) × AreTrees 1 inner ts rest × EndsList end rest e
+AreCommands true end xs ts e = (at : ℕ) × (inner : List (ℕ × Lexeme)) × (rest : List (ℕ × Lexeme))
+    × (xs ≡ (at, opens) ∷ inner) × AreTrees 1 inner ts rest × EndsList end rest e
 
 -- the lexemes are these commands and nothing else, in a list or not, however deep they are nested
 abbrev pub AreAllCommands : Bool → List (ℕ × Lexeme) → Trees → Type 0

@@ -4,7 +4,8 @@ use Rattle.spec_text.specs.Bytes.{Name}
 use Rattle.spec_sorts.specs.Terms.{Term}
 use Rattle.spec_sorts.specs.Values.{Value, Interpretation, table_value}
 use Rattle.spec_sorts.specs.TermValues.{value_at}
-use Rattle.spec_sorts.specs.Signatures.{Known, declared, defined, Declaration, of_sort, of_function, Signature, known_as}
+use Rattle.spec_sorts.specs.Signatures.{Known, declared, defined, Declaration, of_sort, of_function, Signature}
+use Rattle.spec_sorts.specs.Signatures.{known_as}
 use Rattle.spec_sorts.specs.Meaning as meaning
 use Rattle.spec_sorts.specs.Meaning.{Meaning, value_of, bind, meaning_of}
 use Rattle.spec_reading.specs.Reading.{Bound}
@@ -24,13 +25,15 @@ Agrees i m (of_function k ∷ ds) = AgreesAt i m k × Agrees i m ds
 abbrev pub values_bound : Interpretation → List Value → Bound → meaning.Bindings
 values_bound i ps b = map (λ (p : Name × Term). (p.0, value_at i ps p.1)) b
 
--- the name of a function is new after other declarations, and the body of a definition has its term's value, whatever the arguments and the interpretation are
+-- the name of a function is new after other declarations, and the body of a definition has its term's value, whatever
+-- the arguments and the interpretation are
 abbrev pub IsSoundAfter : Signature → Declaration → Type 0
 IsSoundAfter before (of_sort n s) = Unit {0}
 IsSoundAfter before (of_function (declared f)) = known_as before f.name ≡ None
 IsSoundAfter before (of_function (defined d)) =
     (known_as before d.name ≡ None)
-    × ((i : Interpretation) (vs : List Value) → length vs ≡ length d.parameters → value_of (meaning_of i before) (bind d.parameters vs) d.body ≡ value_at i vs d.term)
+    × ((i : Interpretation) (vs : List Value) → length vs ≡ length d.parameters
+    → value_of (meaning_of i before) (bind d.parameters vs) d.body ≡ value_at i vs d.term)
 
 -- each of the declarations is sound after those before it, and after others
 abbrev pub AreSoundAfter : Signature → Signature → Type 0

@@ -1,4 +1,5 @@
--- Definitions of functions: their parameters and bodies. Source: SMT-LIB 2.6, section 4.2.3; the order of faults is own.
+-- Definitions of functions: their parameters and bodies. Source: SMT-LIB 2.6, section 4.2.3; the order of faults is
+-- own.
 use Rattle.std.specs.Prelude.{ℕ, suc, Some, List, [], ◌∷◌, ◌++◌, Ok}
 use Rattle.spec_text.specs.Bytes.{Name}
 use Rattle.spec_text.specs.Shapes.{Word}

@@ -1,5 +1,6 @@
 -- New names, and names that occur in a text. Source: SMT-LIB 2.6, sections 3.1, 3.6 and 4.2.3.
-use Rattle.std.specs.Prelude.{Bool, true, false, not, ◌&&◌, ◌||◌, List, [], ◌∷◌, Option, Some, None, Ok, codes, if◌then◌else◌}
+use Rattle.std.specs.Prelude.{Bool, true, false, not, ◌&&◌, ◌||◌, List, [], ◌∷◌, Option, Some, None, Ok, codes}
+use Rattle.std.specs.Prelude.{if◌then◌else◌}
 use Rattle.std.specs.Str.{bytes_eq}
 use Rattle.spec_text.specs.declared.Kind.{Kind}
 use Rattle.spec_text.specs.declared.Fault.TheVariants.{Twice, Reserved}
@@ -89,7 +90,12 @@ unfoldable mutual
   pub mentions : List Name → Tree → Bool
   mentions ns (atom at k n) = is_mentioned ns k n
   mentions ns (list at none end) = false
-  mentions ns (list at (more head us) end) = elim (form head us) [ applies place n ↦ among ns n || any_mentions ns us | binds ↦ let_mentions ns us | annotates ↦ first_mentions ns us | _ ↦ false ]
+  mentions ns (list at (more head us) end) = elim (form head us) [
+    | applies place n ↦ among ns n || any_mentions ns us
+    | binds ↦ let_mentions ns us
+    | annotates ↦ first_mentions ns us
+    | _ ↦ false
+  ]
 
   -- in one of several terms
   pub any_mentions : List Name → Trees → Bool
@@ -103,10 +109,12 @@ unfoldable mutual
 
   -- in bindings and their body
   pub let_mentions : List Name → Trees → Bool
-  let_mentions ns (more (list at bindings end) (more body none)) = binding_mentions ns bindings || mentions (without ns (names_bound bindings)) body
+  let_mentions ns (more (list at bindings end) (more body none)) = binding_mentions ns bindings
+      || mentions (without ns (names_bound bindings)) body
   let_mentions ns ts = false
 
   -- in a term that is bound
   pub binding_mentions : List Name → Trees → Bool
-  binding_mentions ns (more (list at (more (atom x k n) (more t none)) end) rest) = mentions ns t || binding_mentions ns rest
+  binding_mentions ns (more (list at (more (atom x k n) (more t none)) end) rest) =
+      mentions ns t || binding_mentions ns rest
   binding_mentions ns ts = false

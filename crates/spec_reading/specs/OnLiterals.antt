@@ -15,5 +15,6 @@ use Rattle.spec_sorts.specs.Subterms.{with_subterms}
 
 -- what is read of a text, and what is counted of it
 unfoldable pub reading_on_literals : ⊤
-unfolding lexemes first_piece string_body ◌>>=◌ require built gcd literal_value sort_of same_term filled is_constant is_divisor is_zero_divisor mentions sorts_in made_by reading parameters_in definitions_in with_subterms
+unfolding lexemes first_piece string_body ◌>>=◌ require built gcd literal_value sort_of same_term filled is_constant
+    is_divisor is_zero_divisor mentions sorts_in made_by reading parameters_in definitions_in with_subterms
 reading_on_literals = tt

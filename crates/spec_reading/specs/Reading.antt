@@ -1,9 +1,12 @@
--- The term that a text is read as, or its first fault: its shape, then a reserved word as its head, then the arguments from left to right, then its own name, number of arguments, sorts, and what is linear. Source: SMT-LIB 2.6, section 3.6; the order of faults is own.
+-- The term that a text is read as, or its first fault: its shape, then a reserved word as its head, then the arguments
+-- from left to right, then its own name, number of arguments, sorts, and what is linear. Source: SMT-LIB 2.6, section
+-- 3.6; the order of faults is own.
 use Rattle.std.specs.Prelude.{ℕ, Bool, not, ◌&&◌, ◌||◌, List, [], ◌∷◌, ◌++◌, length, map, Option, Some, None, Ok, ◌==◌}
 use Rattle.spec_text.specs.declared.Kind.{Kind}
 use Rattle.spec_text.specs.declared.Kind.TheVariants.{Numeral, Decimal, Simple, Quoted, Reserved as word_kind}
 use Rattle.spec_text.specs.declared.Fault.{Fault}
-use Rattle.spec_text.specs.declared.Fault.TheVariants.{BadShape, UnknownSymbol, Reserved, WrongCount, WrongSort, NumberWide}
+use Rattle.spec_text.specs.declared.Fault.TheVariants.{BadShape, UnknownSymbol, Reserved, WrongCount, WrongSort}
+use Rattle.spec_text.specs.declared.Fault.TheVariants.{NumberWide}
 use Rattle.spec_text.specs.Bytes.{Name}
 use Rattle.spec_text.specs.Shapes.{Word}
 use Rattle.spec_text.specs.Answers.{Answer, ◌>>=◌, refused, require}
@@ -72,7 +75,8 @@ abbrev pub by_known : Known → ℕ → List Term → Answer Term
 by_known (declared f) at ts = with_sorts f.parameters at ts (of (Apply f) ts)
 by_known (defined d) at ts = with_sorts (sorts_taken d) at ts (filled ts d.term)
 
--- by what the name is: bound, which hides all others, a theory's, one of the signature, or none, which is a fault at the name
+-- by what the name is: bound, which hides all others, a theory's, one of the signature, or none, which is a fault at
+-- the name
 abbrev pub applied_as : Option Term → Option Rule → Option Known → ℕ → ℕ → List Term → Answer Term
 applied_as (Some t) r k place at ts = with_sorts [] at ts t
 applied_as None (Some r) k place at ts = by_rule r at ts
@@ -124,9 +128,16 @@ made_by w s t (x ∷ xs) =
 abbrev pub bound_names : Bound → List Name
 bound_names b = map (λ (p : Name × Term). p.0) b
 
--- a term with attributes, by the offset of the whole, the text and the term: it may get a name where no bound name is free in it
+-- a term with attributes, by the offset of the whole, the text and the term: it may get a name where no bound name is
+-- free in it
 abbrev pub annotated_as : Setting → Bound → ℕ → Tree → Term → Annotated
-annotated_as w b at t u = record { at = at; text = t; term = u; may_name = w.may_name && not (mentions (bound_names b) t) }
+annotated_as w b at t u = record {
+  at = at;
+  text = t;
+  term = u;
+  may_name = w.may_name
+      && not (mentions (bound_names b) t);
+}
 
 unfoldable mutual
   -- what a text is read as, with a signature and bound names

@@ -17,7 +17,8 @@ sort_found at None = refused at UnknownSort
 
 -- the sort of a name: a theory's, or one of the signature
 abbrev pub sort_named : Signature → ℕ → Name → Answer Sort
-sort_named s at n = if bytes_eq n (codes "Bool") then Ok Truth else if bytes_eq n (codes "Real") then Ok Number else sort_found at (sort_as s n)
+sort_named s at n = if bytes_eq n (codes "Bool") then Ok Truth else if bytes_eq n (codes "Real") then Ok Number else
+    sort_found at (sort_as s n)
 
 -- the sort of an atom
 abbrev pub atom_sort : Signature → ℕ → Kind → Name → Answer Sort

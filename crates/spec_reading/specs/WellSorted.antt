@@ -2,7 +2,8 @@
 use Rattle.std.specs.Prelude.{◌≡◌, List, All, Contains}
 use Rattle.spec_sorts.specs.Terms.{Symbol, sort_of}
 use Rattle.spec_sorts.specs.WellSorted.{IsWellSorted}
-use Rattle.spec_sorts.specs.Signatures.{Definition, declared, defined, Declaration, of_sort, of_function, Signature, symbols_in}
+use Rattle.spec_sorts.specs.Signatures.{Definition, declared, defined, Declaration, of_sort, of_function, Signature}
+use Rattle.spec_sorts.specs.Signatures.{symbols_in}
 use Rattle.spec_reading.specs.Reading.{sorts_taken}
 
 -- a definition over symbols

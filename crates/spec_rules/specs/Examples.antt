@@ -2,7 +2,8 @@
 use Rattle.std.specs.Prelude.{◌≡◌, Bool, true, false, List, [], ◌∷◌, Some, codes}
 use Rattle.spec_text.specs.Bytes.{Name}
 use Rattle.spec_text.specs.Trees.{Trees}
-use Rattle.spec_sorts.specs.Terms.{Truth, Number, Declared, And, Or, Xor, Implies, Equal, Ite, Less, Term, of, constant, constant_term}
+use Rattle.spec_sorts.specs.Terms.{Truth, Number, Declared, And, Or, Xor, Implies, Equal, Ite, Less, Term, of, constant}
+use Rattle.spec_sorts.specs.Terms.{constant_term}
 use Rattle.spec_sorts.specs.Literals.{Clause}
 use Rattle.spec_proofs.specs.declared.Rule.{Rule}
 use Rattle.spec_rules.specs.Schemes.{Kind, states, turns, kind_of}
@@ -24,11 +25,13 @@ pub record IsOnlyBy (name : Name) (premises : List Clause) (clause : Clause) : T
   -- it takes the step, whatever its arguments are
   pub right : (arguments : Trees) → IsRight rule premises arguments clause
   -- no other does
-  pub alone : (other : Rule) (arguments : Trees) → has_scheme (kind_of other) ≡ true → IsRight other premises arguments clause → other ≡ rule
+  pub alone : (other : Rule) (arguments : Trees) → has_scheme (kind_of other) ≡ true
+      → IsRight other premises arguments clause → other ≡ rule
 
 -- no rule with a scheme takes the step
 abbrev pub IsByNone : List Clause → Clause → Type 0
-IsByNone premises clause = (rule : Rule) (arguments : Trees) → has_scheme (kind_of rule) ≡ true → IsRight rule premises arguments clause → ⊥
+IsByNone premises clause = (rule : Rule) (arguments : Trees) → has_scheme (kind_of rule) ≡ true
+    → IsRight rule premises arguments clause → ⊥
 
 -- three constants of sort Bool
 abbrev pub p : Term

@@ -1,4 +1,5 @@
--- The rules by which a step follows from earlier clauses. Source: Alethe specification, rules; where a rule takes more than is written there, own.
+-- The rules by which a step follows from earlier clauses. Source: Alethe specification, rules; where a rule takes more
+-- than is written there, own.
 use Rattle.std.specs.Prelude.{List, [], ◌∷◌, Contains}
 use Rattle.spec_sorts.specs.Terms.{Or, Not, Term, app, nil, cons, list_of, negated}
 use Rattle.spec_text.specs.Trees.{Trees}
@@ -8,7 +9,8 @@ use Rattle.spec_arithmetic.specs.ArithmeticRules.{IsArithmetic, IsWideArithmetic
 use Rattle.spec_proofs.specs.declared.Rule.{Rule}
 use Rattle.spec_proofs.specs.Resolution.{IsWithin}
 use Rattle.spec_rules.specs.Clauses.{IsResolvent}
-use Rattle.spec_rules.specs.Schemes.{Scheme, Kind, opens, keeps, resolves, states, turns, equates, calculates, clauses_by, kind_of}
+use Rattle.spec_rules.specs.Schemes.{Scheme, Kind, opens, keeps, resolves, states, turns, equates, calculates}
+use Rattle.spec_rules.specs.Schemes.{clauses_by, kind_of}
 
 -- one premise, whose one literal is a disjunction; each of its arguments is a literal of the clause
 abbrev pub IsOr : List Clause → Clause → Type 0

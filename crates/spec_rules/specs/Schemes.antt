@@ -1,6 +1,8 @@
--- The rules as a table: what a rule asks of a step, and the clauses that terms give. Source: Alethe specification, rules.
+-- The rules as a table: what a rule asks of a step, and the clauses that terms give. Source: Alethe specification,
+-- rules.
 use Rattle.std.specs.Prelude.{ℕ, Bool, true, false, ◌&&◌, List, [], ◌∷◌, map, slice_index_or, if◌then◌else◌}
-use Rattle.spec_sorts.specs.Terms.{Head, True, False, Not, And, Or, Xor, Implies, Equal, Ite, Truth, Term, app, nil, cons, list_of, no_term, negated, sort_of, all_same, head_takes, same_head}
+use Rattle.spec_sorts.specs.Terms.{Head, True, False, Not, And, Or, Xor, Implies, Equal, Ite, Truth, Term, app, nil}
+use Rattle.spec_sorts.specs.Terms.{cons, list_of, no_term, negated, sort_of, all_same, head_takes, same_head}
 use Rattle.spec_sorts.specs.Subsets.{arguments_of}
 use Rattle.spec_sorts.specs.Literals.{Clause}
 use Rattle.spec_equality.specs.declared.EqualityRule.{EqualityRule}
@@ -47,11 +49,13 @@ rests_of Innermost ts = innermost ts
 
 -- the term has that head, which takes its arguments, and these are all of sort Bool
 abbrev pub is_formula_of : Head → Term → Bool
-is_formula_of h (app g ts) = same_head h g && head_takes [] g (map sort_of (list_of ts)) && all_same Truth (map sort_of (list_of ts))
+is_formula_of h (app g ts) = same_head h g && head_takes [] g (map sort_of (list_of ts))
+    && all_same Truth (map sort_of (list_of ts))
 
 -- the clauses that a term gives by a scheme
 abbrev pub clauses_by : Scheme → Term → List Clause
-clauses_by s t = if is_formula_of s.head t then map (λ ls. signed_term s.positive t ∷ ls) (rests_of s.rest (arguments_of t)) else []
+clauses_by s t = if is_formula_of s.head t then map (λ ls. signed_term s.positive t ∷ ls)
+    (rests_of s.rest (arguments_of t)) else []
 
 -- What a rule asks of a step.
 pub data Kind : Type 0 where
@@ -163,7 +167,9 @@ not_not = refuted Not Innermost
 
 -- the schemes of the rules without premises
 abbrev pub schemes : List Scheme
-schemes = true_scheme ∷ false_scheme ∷ and_pos ∷ and_neg ∷ or_pos ∷ or_neg ∷ implies_pos ∷ implies_neg1 ∷ implies_neg2 ∷ equiv_pos1 ∷ equiv_pos2 ∷ equiv_neg1 ∷ equiv_neg2 ∷ xor_pos1 ∷ xor_pos2 ∷ xor_neg1 ∷ xor_neg2 ∷ ite_pos1 ∷ ite_pos2 ∷ ite_neg1 ∷ ite_neg2 ∷ not_not ∷ []
+schemes = true_scheme ∷ false_scheme ∷ and_pos ∷ and_neg ∷ or_pos ∷ or_neg ∷ implies_pos ∷ implies_neg1 ∷ implies_neg2
+    ∷ equiv_pos1 ∷ equiv_pos2 ∷ equiv_neg1 ∷ equiv_neg2 ∷ xor_pos1 ∷ xor_pos2 ∷ xor_neg1 ∷ xor_neg2 ∷ ite_pos1
+    ∷ ite_pos2 ∷ ite_neg1 ∷ ite_neg2 ∷ not_not ∷ []
 
 -- what each rule asks of a step
 abbrev pub kind_of : Rule → Kind

@@ -84,10 +84,14 @@ pub record IsKeptOf (limits : Limits) (p : Problem) (k : Kept) : Type 0 where
   -- and each of them is derived, over the problem's atoms, and was new
   pub learns : AreLearned p k.derivation k.learned
 
--- what was found shows this of a check: a model makes true what it asks about; a proof that no interpretation does; a budget of
--- conflicts is spent on it; an operation leaves the bound where the exchanges lead, or all but the last, or before there are any; or the
--- budget of exchanges is spent on them, and a further one is needed where they lead. Of both the runs are few, and the clauses that were
--- learned may be. Where it was given up, the search may have spoken of interface equalities, of terms that functions and arithmetic share.
+-- what was found shows this of a check: a model makes true what it asks about; a proof that no interpretation does; a
+-- budget of
+-- conflicts is spent on it; an operation leaves the bound where the exchanges lead, or all but the last, or before
+-- there are any; or the
+-- budget of exchanges is spent on them, and a further one is needed where they lead. Of both the runs are few, and the
+-- clauses that were
+-- learned may be. Where it was given up, the search may have spoken of interface equalities, of terms that functions
+-- and arithmetic share.
 abbrev pub Justifies : Limits → Check → Found → Type 0
 Justifies limits c (model i) = IsModelOf c i
 Justifies limits c (proof text) = IsProofOf c text

@@ -1,5 +1,5 @@
 -- Small scripts with what is written for them, where so much was found at their checks.
-use Rattle.std.specs.Prelude.{◌≡◌, refl, ◌^◌, pos, ℕ, true, false, List, [], ◌∷◌, Ok, Err, codes, if◌then◌else◌}
+use Rattle.std.specs.Prelude.{◌++◌, ◌≡◌, refl, ◌^◌, pos, ℕ, true, false, List, [], ◌∷◌, Ok, Err, codes, if◌then◌else◌}
 use Rattle.std.specs.Str.{bytes_eq}
 use Rattle.spec_text.specs.Bytes.{among}
 use Rattle.spec_text.specs.Answers.{Answer}
@@ -14,7 +14,8 @@ use Rattle.spec_commands.specs.Examples.{lines}
 use Rattle.spec_models.specs.Values.{numeral}
 use Rattle.spec_simplex.specs.Overflows.{IsOverflow}
 use Rattle.spec_sessions.specs.Evidence.{Limits, Kept, Found, proof, overflowed, out_of_pivots}
-use Rattle.spec_sessions.specs.Responses.{certify, success, not_supported, answered, said, ended, rejected, Answered, text_for}
+use Rattle.spec_sessions.specs.Responses.{certify, success, not_supported, answered, said, ended, rejected, Answered}
+use Rattle.spec_sessions.specs.Responses.{text_for}
 
 -- what is meant by default
 abbrev pub limits : Limits
@@ -56,7 +57,11 @@ always v = record { rows = []; default = v }
 
 -- the symbol `p` is true, `f` is 0 at all arguments, as `x` is, `c` the first element of `U`, and all others are false
 abbrev pub tables : Interpretation
-tables = record { table = λ n. if bytes_eq n (codes "p") then always (truth true) else if among (codes "f" ∷ codes "x" ∷ []) n then always (number zero_fraction) else if bytes_eq n (codes "c") then always (element (codes "U") 0) else always (truth false) }
+tables = record {
+  table = λ n. if bytes_eq n (codes "p") then always (truth true) else if among (codes "f" ∷ codes "x"
+      ∷ []) n then always (number zero_fraction) else if bytes_eq n (codes "c") then always (element (codes "U") 0) else
+      always (truth false);
+}
 
 -- checks where nothing is asserted, and one after the end of the script
 abbrev pub checks_alone : List ℕ
@@ -97,7 +102,8 @@ refusals_written = lines (
     codes "(error \"7:1: WrongMode\")" ∷
     codes "sat" ∷ [])
 
--- numbers that are too wide, products and quotients that are not linear, checks over numbers, and one of a function that
+-- numbers that are too wide, products and quotients that are not linear, checks over numbers, and one of a function
+-- that
 -- gives a number
 abbrev pub numbers : List ℕ
 numbers = lines (
@@ -125,7 +131,8 @@ numbers_written = lines (
 
 -- strings, and the option that is turned off between them
 abbrev pub strings : List ℕ
-strings = codes "(echo \"say \"\"p\"\"\")(set-info :status sat)(set-option :print-success false)(set-info :a)(echo \"\")"
+strings = (codes "(echo \"say \"\"p\"\"\")(set-info :status sat)(set-option :print-success false)"
+    ++ codes "(set-info :a)(echo \"\")")
 
 -- what is written for them
 abbrev pub strings_written : List ℕ
@@ -218,10 +225,14 @@ unfolding gcd multiplied fits is_small times
 square_leaves_the_bound = refl
 
 -- what is written for a check that was given up for it, and for one whose pivots are spent
-pub square_written : (c : Check) (k : Kept) → text_for certify [] true (answered (record { check = c; found = overflowed square k })) ≡ codes "unknown\n(overflow mul 18446744073709551616 18446744073709551616)\n"
+pub square_written : (c : Check) (k : Kept)
+    → text_for certify [] true (answered (record { check = c; found = overflowed square k }))
+    ≡ codes "unknown\n(overflow mul 18446744073709551616 18446744073709551616)\n"
 unfolding numeral
 square_written c k = refl
 
-pub pivots_written : (c : Check) (k : Kept) → text_for certify [] true (answered (record { check = c; found = out_of_pivots limits.pivots k })) ≡ codes "unknown\n(pivots 10000000)\n"
+pub pivots_written : (c : Check) (k : Kept)
+    → text_for certify [] true (answered (record { check = c; found = out_of_pivots limits.pivots k }))
+    ≡ codes "unknown\n(pivots 10000000)\n"
 unfolding numeral
 pivots_written c k = refl

@@ -1,4 +1,5 @@
--- What the answers of checks mean. Source: SMT-LIB 2.6, section 4.2.5; that the text of a proof, or of a model, means so much is own.
+-- What the answers of checks mean. Source: SMT-LIB 2.6, section 4.2.5; that the text of a proof, or of a model, means
+-- so much is own.
 use Rattle.std.specs.Prelude.{◌≡◌, ◌≤◌, ◌^◌, ℕ, suc, false, List, [], ◌∷◌, ◌++◌, All}
 use Rattle.spec_text.specs.Readings.{is_long}
 use Rattle.spec_text.specs.Trees.{Trees, list, none, more, IsRead}
@@ -15,7 +16,8 @@ use Rattle.spec_models.specs.Meaning.{DefineAll}
 use Rattle.spec_checking.specs.Good.{IsGood}
 use Rattle.spec_checking.specs.Accepted.{IsAccepted}
 use Rattle.spec_proof_texts.specs.ReadBack.{AreScriptNames, numerals_in}
-use Rattle.spec_sessions.specs.Evidence.{Limits, Found, model, proof, spent, overflowed, out_of_pivots, Checked, IsModelOf, Justifies}
+use Rattle.spec_sessions.specs.Evidence.{Limits, Found, model, proof, spent, overflowed, out_of_pivots, Checked}
+use Rattle.spec_sessions.specs.Evidence.{IsModelOf, Justifies}
 
 -- What commands leave for a check under a limit on terms and names.
 pub record IsKeptCheck (limit : ℕ) (c : Check) : Type 0 where
@@ -60,10 +62,12 @@ pub record ProofMeans (limit : ℕ) (text : List ℕ) (k : ℕ) (p : List ℕ) :
   pub no_model : HasNoModel limit text k
   -- it is good of that check, whatever the limits of the checker are
   pub good : IsGood limit text k p
-  -- it is accepted of that check, if it is no longer than a text may be and has few numbers, and the limit is that of the checker
+  -- it is accepted of that check, if it is no longer than a text may be and has few numbers, and the limit is that of
+  -- the checker
   pub accepted : limit ≡ term_limit → is_long p ≡ false → HasFewNumerals p → IsAccepted text k p
   -- so it is after the line of the answer
-  pub answered : limit ≡ term_limit → is_long (word_line Unsat ++ p) ≡ false → HasFewNumerals p → IsAccepted text k (word_line Unsat ++ p)
+  pub answered : limit ≡ term_limit → is_long (word_line Unsat ++ p) ≡ false → HasFewNumerals p
+      → IsAccepted text k (word_line Unsat ++ p)
 
 -- what was found means this of the k-th check of a text
 abbrev pub FindingMeans : Limits → (text : List ℕ) → ℕ → Check → Found → Type 0

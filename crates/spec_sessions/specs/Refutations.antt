@@ -1,4 +1,5 @@
--- What shows that a check has no model: the printed proof of an empty clause. Source: Alethe specification, proofs as lists of commands.
+-- What shows that a check has no model: the printed proof of an empty clause. Source: Alethe specification, proofs as
+-- lists of commands.
 use Rattle.std.specs.Prelude.{◌≡◌, ℕ, List, []}
 use Rattle.spec_sorts.specs.Terms.{Term}
 use Rattle.spec_commands.specs.Stack.{signature_of, terms_asserted}
@@ -8,8 +9,10 @@ use Rattle.spec_proof_texts.specs.Lines.{Line, proof_text}
 use Rattle.spec_proof_texts.specs.Plans.{Plan, lines_of, IsPlan}
 use Rattle.spec_proof_texts.specs.Printable.{ArePrintable, AllConcludeOver}
 
--- The text is the proof of an empty clause that is derived from what the check asks about: each term with arguments that it needs is
--- defined once, before its first use, and of the clauses those that the empty one rests on are printed, each after its premises.
+-- The text is the proof of an empty clause that is derived from what the check asks about: each term with arguments
+-- that it needs is
+-- defined once, before its first use, and of the clauses those that the empty one rests on are printed, each after its
+-- premises.
 pub record IsProofOf (c : Check) (text : List ℕ) : Type 0 where
   -- terms, each after its arguments
   pub terms : List Term

@@ -1,4 +1,5 @@
--- What commands are answered, and what is written for that. Source: SMT-LIB 2.6, sections 3.9 and 4.2; the evidence after an answer is own.
+-- What commands are answered, and what is written for that. Source: SMT-LIB 2.6, sections 3.9 and 4.2; the evidence
+-- after an answer is own.
 use Rattle.std.specs.Prelude.{◌≡◌, ℕ, Bool, true, false, List, [], ◌∷◌, ◌++◌, Ok, Err, if◌then◌else◌}
 use Rattle.spec_text.specs.Places.{line_of, column_of, name_of}
 use Rattle.spec_text.specs.Faults.{Located}
@@ -10,7 +11,8 @@ use Rattle.spec_commands.specs.Checks.{Check}
 use Rattle.spec_models.specs.declared.ResponseWord.TheVariants.{Success, Unsupported, Sat, Unsat, Unknown}
 use Rattle.spec_models.specs.Replies.{conflicts, pivots, overflow, error_text, word_line, reason_line}
 use Rattle.spec_models.specs.Models.{model_text}
-use Rattle.spec_sessions.specs.Evidence.{Limits, Found, model, proof, spent, overflowed, out_of_pivots, Checked, Justifies}
+use Rattle.spec_sessions.specs.Evidence.{Limits, Found, model, proof, spent, overflowed, out_of_pivots, Checked}
+use Rattle.spec_sessions.specs.Evidence.{Justifies}
 
 -- How much is written.
 pub data Mode : Type 0 where

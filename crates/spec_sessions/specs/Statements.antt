@@ -14,7 +14,8 @@ abbrev pub OnTranscript : Limits → Mode → List ℕ → Bool → (List ℕ �
 OnTranscript limits mode text refused P =
     (all : List ℕ) × (t : IsTranscript limits mode text all refused) × AnswersSay limits text t.answers × P all
 
--- P is true of what is to be written for the first of the text's commands, any number of them, and what these answers say
+-- P is true of what is to be written for the first of the text's commands, any number of them, and what these answers
+-- say
 -- is so
 abbrev pub OnBegun : Limits → Mode → List ℕ → (List ℕ → Type 0) → Type 0
 OnBegun limits mode text P =

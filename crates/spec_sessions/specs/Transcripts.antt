@@ -1,4 +1,5 @@
--- What is written for a script. Source: SMT-LIB 2.6, section 4.2; that a run goes on after a command that is refused is one of the standard's two ways.
+-- What is written for a script. Source: SMT-LIB 2.6, section 4.2; that a run goes on after a command that is refused is
+-- one of the standard's two ways.
 use Rattle.std.specs.Prelude.{◌≡◌, ℕ, Bool, true, false, ◌||◌, List, [], ◌∷◌, ◌++◌, flat_map, Option, Some, None, ◌⊎◌}
 use Rattle.std.specs.List.{list_any}
 use Rattle.spec_text.specs.Faults.{Located}
@@ -6,7 +7,8 @@ use Rattle.spec_text.specs.Trees.{Trees, none, more}
 use Rattle.spec_text.specs.Readings.{kept, IsReadUpTo}
 use Rattle.spec_commands.specs.Stack.{Stack, empty_stack}
 use Rattle.spec_sessions.specs.Evidence.{Limits, Checked}
-use Rattle.spec_sessions.specs.Responses.{Mode, Response, answered, ended, Answered, Answers, response_text, fault_text, is_rejected, is_end}
+use Rattle.spec_sessions.specs.Responses.{Mode, Response, answered, ended, Answered, Answers, response_text, fault_text}
+use Rattle.spec_sessions.specs.Responses.{is_rejected, is_end}
 
 -- after a command that ends the script nothing is answered
 abbrev pub Follows : Response → (List Answered → Type 0) → List Answered → Type 0
@@ -48,7 +50,8 @@ abbrev pub is_fault : Option Located → Bool
 is_fault None = false
 is_fault (Some f) = true
 
--- The text's commands were answered so, and this was written. The last says whether a command was refused, or a fault ended the run. Lines and columns are counted in the bytes that are read, where all faults stand.
+-- The text's commands were answered so, and this was written. The last says whether a command was refused, or a fault
+-- ended the run. Lines and columns are counted in the bytes that are read, where all faults stand.
 pub record IsTranscript (limits : Limits) (mode : Mode) (text : List ℕ) (out : List ℕ) (refused : Bool) : Type 0 where
   -- the commands
   pub commands : Trees
@@ -65,7 +68,8 @@ pub record IsTranscript (limits : Limits) (mode : Mode) (text : List ℕ) (out :
   -- whether one was refused
   pub told : refused ≡ (list_any (λ (a : Answered). is_rejected a.response) answers || is_fault (closing answers end))
 
--- The first of the text's commands were answered so, or all of them and the line of a fault that ended the run; this was written for them.
+-- The first of the text's commands were answered so, or all of them and the line of a fault that ended the run; this
+-- was written for them.
 pub record IsBegun (limits : Limits) (mode : Mode) (text : List ℕ) (out : List ℕ) : Type 0 where
   -- the commands
   pub commands : Trees
@@ -78,7 +82,8 @@ pub record IsBegun (limits : Limits) (mode : Mode) (text : List ℕ) (out : List
   -- it is what they are to be answered
   pub begins : Begins limits empty_stack commands answers
   -- it is written, and nothing else but, where all were answered, the line of a fault that ends the run
-  pub written : (out ≡ answers_text mode (kept text) answers) ⊎ (Runs limits empty_stack commands answers × (out ≡ answers_text mode (kept text) answers ++ closing_text (kept text) (closing answers end)))
+  pub written : (out ≡ answers_text mode (kept text) answers) ⊎ (Runs limits empty_stack commands answers
+      × (out ≡ answers_text mode (kept text) answers ++ closing_text (kept text) (closing answers end)))
 
 -- a check more before it, where it was one
 abbrev pub with_check : Response → List Checked → List Checked

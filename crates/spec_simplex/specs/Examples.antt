@@ -1,5 +1,6 @@
 -- Constraints, points and weights worked out, with two numbers x and y and a value u of another sort.
-use Rattle.std.specs.Prelude.{◌≡◌, refl, ℕ, nat_eq, Bool, true, false, cond, List, [], ◌∷◌, Some, None, Ok, pos, negsuc, map, ⊤}
+use Rattle.std.specs.Prelude.{◌≡◌, refl, ℕ, nat_eq, Bool, true, false, cond, List, [], ◌∷◌, Some, None, Ok, pos, negsuc}
+use Rattle.std.specs.Prelude.{map, ⊤}
 use Rattle.std.proofs.Common.{subst}
 use Rattle.spec_numbers.specs.Fractions.{IsReduced, compare, whole, zero_fraction, one_fraction}
 use Rattle.spec_numbers.proofs.Field.{zero-reduced, one-reduced}
@@ -14,8 +15,10 @@ use Rattle.spec_arithmetic.proofs.General.{same_ok, same_some}
 use Rattle.spec_tableaux.specs.Spaces.{Pair}
 use Rattle.spec_tableaux.specs.Rows.{Entry}
 use Rattle.spec_tableaux.specs.Numbers as tableaux
-use Rattle.spec_simplex.specs.Constraints.{Relation, below, at_most, equals, at_least, above, Constraint, saying, constraint_by, constraint_of, form_of}
-use Rattle.spec_simplex.specs.Points.{Point, is_below_zero, is_over, is_under, stands, base_at, tilt_at, FormHolds, KeepsLiteral}
+use Rattle.spec_simplex.specs.Constraints.{Relation, below, at_most, equals, at_least, above, Constraint, saying}
+use Rattle.spec_simplex.specs.Constraints.{constraint_by, constraint_of, form_of}
+use Rattle.spec_simplex.specs.Points.{Point, is_below_zero, is_over, is_under, stands, base_at, tilt_at, FormHolds}
+use Rattle.spec_simplex.specs.Points.{KeepsLiteral}
 use Rattle.spec_simplex.specs.Weights.{Summand, signed_weight, weighted_sum, has_strict, denials, arguments_of}
 use Rattle.spec_simplex.specs.Numbers.{Compares, HoldsAt}
 use Rattle.spec_simplex.specs.Entries.{AreEntries}
@@ -51,7 +54,8 @@ unfolding literals_that_say
 at_most_denied = refl
 
 -- that numbers are equal is a constraint, and that they differ is none
-pub equal_plain : constraint_of (plain_literal (texts.equal_example x y)) ≡ Some (saying equals (texts.equal_example x y) x y)
+pub equal_plain : constraint_of (plain_literal (texts.equal_example x y))
+    ≡ Some (saying equals (texts.equal_example x y) x y)
 unfolding literals_that_say
 equal_plain = refl
 
@@ -122,7 +126,8 @@ unfolding literals_that_say
 level_stands = refl
 
 -- a base other than 0 decides, whatever the tilt is
-pub base_decides : map (λ r. stands r one_fraction (whole (negsuc 4))) relations ≡ false ∷ false ∷ false ∷ true ∷ true ∷ []
+pub base_decides : map (λ r. stands r one_fraction (whole (negsuc 4))) relations ≡ false ∷ false ∷ false ∷ true ∷ true
+    ∷ []
 unfolding literals_that_say
 base_decides = refl
 
@@ -142,16 +147,21 @@ level_keeps c is f has = absurd (none_is c is)
     none_is c e = cc
 
 -- where x has the number 5, and all others have 7, it holds that x is below y, and that 1 is at most 2 * y
-pub five_is_below_seven : HoldsAt (λ t. cond (same_term t x) (whole (pos 5)) (whole (pos 7))) (plain_literal (texts.less x y))
+pub five_is_below_seven : HoldsAt (λ t. cond (same_term t x) (whole (pos 5)) (whole (pos 7)))
+    (plain_literal (texts.less x y))
 unfolding literals_that_say number_at numbers_at IsLinear compare
 five_is_below_seven c is = subst
-    (λ c. IsLinear c.left → IsLinear c.right → Compares c.relation (number_at (λ t. cond (same_term t x) (whole (pos 5)) (whole (pos 7))) c.left) (number_at (λ t. cond (same_term t x) (whole (pos 5)) (whole (pos 7))) c.right))
+    (λ c. IsLinear c.left → IsLinear c.right
+    → Compares c.relation (number_at (λ t. cond (same_term t x) (whole (pos 5)) (whole (pos 7))) c.left)
+    (number_at (λ t. cond (same_term t x) (whole (pos 5)) (whole (pos 7))) c.right))
     (same_some _ _ is) (λ left right. refl)
 
-pub one_is_up_to_double : HoldsAt (λ t. whole (pos 7)) (denied (texts.less (texts.product (texts.natural 2) y) (texts.natural 1)))
+pub one_is_up_to_double : HoldsAt (λ t. whole (pos 7))
+    (denied (texts.less (texts.product (texts.natural 2) y) (texts.natural 1)))
 unfolding literals_that_say number_at numbers_at IsLinear compare
 one_is_up_to_double c is = subst
-    (λ c. IsLinear c.left → IsLinear c.right → Compares c.relation (number_at (λ t. whole (pos 7)) c.left) (number_at (λ t. whole (pos 7)) c.right))
+    (λ c. IsLinear c.left → IsLinear c.right
+    → Compares c.relation (number_at (λ t. whole (pos 7)) c.left) (number_at (λ t. whole (pos 7)) c.right))
     (same_some _ _ is) (λ left right. refl)
 
 -- a literal that says how x minus y compares with 0, with the weight 1

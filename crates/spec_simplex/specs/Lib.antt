@@ -1,4 +1,5 @@
--- What literals of linear arithmetic say, points and numbers that keep them, sums that show that none does, forms in a tableau, and overflows.
+-- What literals of linear arithmetic say, points and numbers that keep them, sums that show that none does, forms in a
+-- tableau, and overflows.
 pub mod Constraints
 pub mod Points
 pub mod Weights

@@ -15,7 +15,8 @@ Compares equals x y = x ≡ y
 Compares at_least x y = up_to y x ≡ true
 Compares above x y = less y x ≡ true
 
--- what a literal says is so of the numbers of its sides, where these are linear; a term that is not is only a variable of its form
+-- what a literal says is so of the numbers of its sides, where these are linear; a term that is not is only a variable
+-- of its form
 abbrev pub HoldsAt : (Term → Fraction) → Literal → Type 0
 HoldsAt n l = (c : Constraint) → constraint_of l ≡ Some c → IsLinear c.left → IsLinear c.right
     → Compares c.relation (number_at n c.left) (number_at n c.right)

@@ -9,7 +9,8 @@ use Rattle.spec_arithmetic.specs.Signs.{is_zero, is_above_zero}
 use Rattle.spec_arithmetic.specs.Forms.{Form, variables_value, form_value}
 use Rattle.spec_tableaux.specs.Spaces.{Pair}
 use Rattle.spec_tableaux.specs.Numbers.{Number}
-use Rattle.spec_simplex.specs.Constraints.{Relation, below, at_most, equals, at_least, above, Constraint, constraint_of, form_of}
+use Rattle.spec_simplex.specs.Constraints.{Relation, below, at_most, equals, at_least, above, Constraint, constraint_of}
+use Rattle.spec_simplex.specs.Constraints.{form_of}
 
 -- the value of each variable: a number, and a multiple of an infinitesimal
 abbrev pub Point : Type 0
@@ -57,7 +58,8 @@ FormHolds r p f = stands r (base_at p f) (tilt_at p f) ≡ true
 
 -- a point keeps a literal: what it says of a form is so; nothing is asked where it says nothing, or has no form
 abbrev pub KeepsLiteral : Point → Literal → Type 0
-KeepsLiteral p l = (c : Constraint) → constraint_of l ≡ Some c → (f : Form) → form_of c ≡ Ok f → FormHolds c.relation p f
+KeepsLiteral p l = (c : Constraint) → constraint_of l ≡ Some c → (f : Form) → form_of c ≡ Ok f
+    → FormHolds c.relation p f
 
 -- a point keeps each of the literals
 abbrev pub SatisfiesLiterals : Point → List Literal → Type 0

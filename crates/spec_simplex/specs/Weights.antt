@@ -7,7 +7,8 @@ use Rattle.spec_sorts.specs.Literals.{Clause, Literal}
 use Rattle.spec_arithmetic.specs.Signs.{is_zero, is_above_zero, size}
 use Rattle.spec_arithmetic.specs.Forms.{Form, form_value}
 use Rattle.spec_arithmetic.specs.Contradictions.{Coefficient, given, Failure, shape, no_contradiction, wide}
-use Rattle.spec_simplex.specs.Constraints.{Relation, below, at_most, equals, at_least, above, Constraint, constraint_of, form_of}
+use Rattle.spec_simplex.specs.Constraints.{Relation, below, at_most, equals, at_least, above, Constraint, constraint_of}
+use Rattle.spec_simplex.specs.Constraints.{form_of}
 
 -- A literal of a sum.
 pub record Summand : Type 0 where
@@ -54,7 +55,8 @@ unfoldable pub has_strict : List Summand → Bool
 has_strict [] = false
 has_strict (x ∷ xs) = is_strict_by x.constraint.relation x.weight || has_strict xs
 
--- Summands that cannot all hold: for all numbers of terms the sum is one number, above 0, or 0 while a summand is strict.
+-- Summands that cannot all hold: for all numbers of terms the sum is one number, above 0, or 0 while a summand is
+-- strict.
 pub record CannotHold (xs : List Summand) : Type 0 where
   -- the sum
   pub sum : Fraction

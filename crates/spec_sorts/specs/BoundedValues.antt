@@ -1,4 +1,5 @@
--- The value of a term where each operation on numbers stays within 128 bits, or the first one that does not. The bound and the order are own.
+-- The value of a term where each operation on numbers stays within 128 bits, or the first one that does not. The bound
+-- and the order are own.
 use Rattle.std.specs.Prelude.{false, List, [], ◌∷◌, get_or, Result, Ok}
 use Rattle.spec_numbers.specs.Fractions.{Fraction}
 use Rattle.spec_numbers.specs.Bounds.{Overflow, added, subtracted, multiplied, divided}

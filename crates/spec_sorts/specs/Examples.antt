@@ -1,5 +1,5 @@
 -- Texts with their values under an interpretation.
-use Rattle.std.specs.Prelude.{◌≡◌, refl, ℕ, pos, negsuc, true, List, [], ◌∷◌, codes, if◌then◌else◌, ⊤}
+use Rattle.std.specs.Prelude.{◌++◌, ◌≡◌, refl, ℕ, pos, negsuc, true, List, [], ◌∷◌, codes, if◌then◌else◌, ⊤}
 use Rattle.std.proofs.Common.{arith}
 use Rattle.std.specs.Str.{bytes_eq}
 use Rattle.spec_text.specs.Lexemes.{lexemes, first_piece}
@@ -31,7 +31,10 @@ world = record { table = table }
         else if bytes_eq n (codes "x") then always half
         else if bytes_eq n (codes "a") then always (element (codes "U") 0)
         else if bytes_eq n (codes "b") then always (element (codes "U") 1)
-        else record { rows = (record { arguments = half ∷ []; value = number (record { num = pos 3; den = 1 }) }) ∷ []; default = number (record { num = negsuc 0; den = 1 }) }
+        else record {
+          rows = (record { arguments = half ∷ []; value = number (record { num = pos 3; den = 1 }) }) ∷ [];
+          default = number (record { num = negsuc 0; den = 1 });
+        }
 
 -- the tree of a text that has one
 abbrev pub only_tree_of : Trees → Tree
@@ -41,8 +44,21 @@ only_tree_of none = list 0 none 0
 -- d is f of x, and double adds its parameter to itself
 abbrev pub definitions : Signature
 definitions =
-    definition (record { name = codes "d"; parameters = []; result = Number; body = only_tree_of (trees_in (codes "(f x)")); term = of (Literal (record { num = pos 3; den = 1 })) [] }) ∷
-    definition (record { name = codes "double"; parameters = (codes "d", Number) ∷ []; result = Number; body = only_tree_of (trees_in (codes "(+ d d)")); term = of (Literal (record { num = pos 3; den = 1 })) [] }) ∷ []
+    definition (record {
+      name = codes "d";
+      parameters = [];
+      result = Number;
+      body = only_tree_of (trees_in (codes "(f x)"));
+      term = of (Literal (record { num = pos 3; den = 1 })) [];
+    }) ∷
+    definition (record {
+      name = codes "double";
+      parameters = (codes "d", Number) ∷ [];
+      result = Number;
+      body = only_tree_of (trees_in (codes "(+ d d)"));
+      term = of (Literal (record { num = pos 3; den = 1 })) [];
+    })
+    ∷ []
 
 -- the values of the trees of a text
 abbrev pub values : List ℕ → List Value
@@ -72,22 +88,26 @@ unfolding values_on_literals
 literals = refl
 
 -- a chain compares neighbours, and `distinct` compares all pairs
-pub chains : values (codes "(= x 0.5 (/ 2 4)) (= x 0.5 1) (distinct 1 2 1) (distinct 1 2 3) (< 0 x 1) (< 0 1 x) (<= x x 1) (> 1 x 0) (>= x x 1)") ≡ values (codes "true false false true true false true true false")
+pub chains : values (codes "(= x 0.5 (/ 2 4)) (= x 0.5 1) (distinct 1 2 1) (distinct 1 2 3) (< 0 x 1) (< 0 1 x) "
+    ++ codes "(<= x x 1) (> 1 x 0) (>= x x 1)") ≡ values (codes "true false false true true false true true false")
 unfolding values_on_literals
 chains = refl
 
 -- differences, quotients and `xor` go to the left, and implications to the right
-pub to_the_left : values (codes "(- 1 2 3) (/ 1 2 4) (xor p p p) (=> p false p) (=> (=> p false) false)") ≡ values (codes "(- 4) 0.125 true true true")
+pub to_the_left : values (codes "(- 1 2 3) (/ 1 2 4) (xor p p p) (=> p false p) (=> (=> p false) false)")
+    ≡ values (codes "(- 4) 0.125 true true true")
 unfolding values_on_literals
 to_the_left = refl
 
 -- sums and products, of one number too, are in lowest terms
-pub sums : values (codes "(+ x) (* x) (+ x x x) (* x x (- 2)) (- x x) (+ (/ 1 3) (/ 1 6)) (- (/ (- 1) 3))") ≡ values (codes "0.5 0.5 1.5 (- 0.5) 0 0.5 (/ 1 3)")
+pub sums : values (codes "(+ x) (* x) (+ x x x) (* x x (- 2)) (- x x) (+ (/ 1 3) (/ 1 6)) (- (/ (- 1) 3))")
+    ≡ values (codes "0.5 0.5 1.5 (- 0.5) 0 0.5 (/ 1 3)")
 unfolding values_on_literals
 sums = refl
 
 -- `ite` gives its second or its third argument, of any sort
-pub choices : values (codes "(ite p x 1) (ite (not p) x 1) (= a (ite p b a)) (= b (ite p b a))") ≡ values (codes "0.5 1 false true")
+pub choices : values (codes "(ite p x 1) (ite (not p) x 1) (= a (ite p b a)) (= b (ite p b a))")
+    ≡ values (codes "0.5 1 false true")
 unfolding values_on_literals
 choices = refl
 
@@ -97,12 +117,14 @@ unfolding values_on_literals
 tables = refl
 
 -- bindings bind in parallel, and a bound name hides all others
-pub lets : values (codes "(let ((x 1)) x) (let ((x 1)) (let ((x 2) (y x)) (+ x y))) (let ((p false) (q p)) (and q (not p))) (let ((d 2)) (double d))") ≡ values (codes "1 3 true 4")
+pub lets : values (codes "(let ((x 1)) x) (let ((x 1)) (let ((x 2) (y x)) (+ x y))) (let ((p false) (q p)) "
+    ++ codes "(and q (not p))) (let ((d 2)) (double d))") ≡ values (codes "1 3 true 4")
 unfolding values_on_literals
 lets = refl
 
 -- a definition has the value of its body, in which its own parameters hide what else has their names
-pub definitions_by_their_texts : values (codes "d (double 1) (double d) (+ d (double (double x)))") ≡ values (codes "3 2 6 5")
+pub definitions_by_their_texts : values (codes "d (double 1) (double d) (+ d (double (double x)))")
+    ≡ values (codes "3 2 6 5")
 unfolding values_on_literals
 definitions_by_their_texts = refl
 

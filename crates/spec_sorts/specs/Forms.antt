@@ -69,7 +69,8 @@ list_fits next rest = false
 abbrev pub are_attributes : Next → Trees → Bool
 are_attributes a_name none = false
 are_attributes next none = true
-are_attributes next (more (atom at k n) rest) = atom_fits next k (are_attributes (after_keyword n) rest) (are_attributes a_keyword rest)
+are_attributes next (more (atom at k n) rest) =
+    atom_fits next k (are_attributes (after_keyword n) rest) (are_attributes a_keyword rest)
 are_attributes next (more (list at ts end) rest) = list_fits next (are_attributes a_keyword rest)
 
 -- a term and one or more attributes

@@ -1,7 +1,8 @@
 -- The names of heads. Source: SMT-LIB 2.6, theories Core and Reals.
 use Rattle.std.specs.Prelude.{[], codes}
 use Rattle.spec_text.specs.Bytes.{Name}
-use Rattle.spec_sorts.specs.Terms.{Head, True, False, Not, And, Or, Xor, Implies, Equal, Ite, Minus, Plus, Times, Divide, Less, AtMost, Literal, Apply, Parameter}
+use Rattle.spec_sorts.specs.Terms.{Head, True, False, Not, And, Or, Xor, Implies, Equal, Ite, Minus, Plus, Times}
+use Rattle.spec_sorts.specs.Terms.{Divide, Less, AtMost, Literal, Apply, Parameter}
 
 -- what a head is called; a number and a parameter have no name
 abbrev pub head_name : Head → Name

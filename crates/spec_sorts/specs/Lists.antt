@@ -1,4 +1,5 @@
--- How arguments of a list are taken: to the left, to the right, by neighbours, by all pairs. Source: SMT-LIB 2.6, section 3.7.1, attributes of function symbols.
+-- How arguments of a list are taken: to the left, to the right, by neighbours, by all pairs. Source: SMT-LIB 2.6,
+-- section 3.7.1, attributes of function symbols.
 use Rattle.std.specs.Prelude.{Bool, true, ◌&&◌, List, [], ◌∷◌, ◌++◌, map}
 
 -- the first two are taken together, then the next one with them, and so on; of no items, the first argument

@@ -1,5 +1,6 @@
 -- The value of a text, by cases on its tree. Source: SMT-LIB 2.6, section 5.3, theories Core and Reals.
-use Rattle.std.specs.Prelude.{Bool, true, false, not, ◌||◌, List, [], ◌∷◌, ◌++◌, Option, Some, None, codes, if◌then◌else◌}
+use Rattle.std.specs.Prelude.{Bool, true, false, not, ◌||◌, List, [], ◌∷◌, ◌++◌, Option, Some, None, codes}
+use Rattle.std.specs.Prelude.{if◌then◌else◌}
 use Rattle.std.specs.Str.{bytes_eq}
 use Rattle.spec_text.specs.declared.Kind.{Kind}
 use Rattle.spec_text.specs.declared.Kind.TheVariants.{Numeral, Decimal, Simple, Quoted}
@@ -9,7 +10,8 @@ use Rattle.spec_sorts.specs.Lists.{left, right, neighbours, all_pairs, all_pass}
 use Rattle.spec_numbers.specs.Fractions.{Fraction, opposite, minus, divide}
 use Rattle.spec_sorts.specs.Numerals.{literal_value}
 use Rattle.spec_sorts.specs.Terms.{Sort}
-use Rattle.spec_sorts.specs.Values.{Value, truth, number, same_value, is_true, number_in, all_true, any_true, different, chosen, Interpretation, table_value}
+use Rattle.spec_sorts.specs.Values.{Value, truth, number, same_value, is_true, number_in, all_true, any_true, different}
+use Rattle.spec_sorts.specs.Values.{chosen, Interpretation, table_value}
 use Rattle.spec_sorts.specs.TermValues.{less, at_most, by_numbers, sum, product}
 use Rattle.spec_sorts.specs.Theory.{look_up}
 use Rattle.spec_sorts.specs.Signatures.{Declaration, Signature, of_function, defined}
@@ -24,7 +26,8 @@ abbrev pub difference : List Value → Value
 difference (v ∷ []) = number (opposite (number_in v))
 difference vs = left (truth false) (by_numbers minus) vs
 
--- what each head of theories Core and Reals gives at its arguments' values: a chain compares neighbours, `distinct` all pairs
+-- what each head of theories Core and Reals gives at its arguments' values: a chain compares neighbours, `distinct` all
+-- pairs
 abbrev pub theory_values : List (Name × (List Value → Value))
 theory_values =
     (codes "true", λ vs. truth true) ∷
@@ -77,7 +80,13 @@ unfoldable mutual
   pub value_of : Meaning → Bindings → Tree → Value
   value_of m b (atom at k n) = atom_value m b k n
   value_of m b (list at none end) = truth false
-  value_of m b (list at (more head us) end) = elim (form head us) [ applies place n ↦ name_value m b n (values_of m b us) | binds ↦ let_value m b us | annotates ↦ first_value m b us | _ ↦ truth false ]
+  value_of m b (list at (more head us) end) =
+      elim (form head us) [
+        | applies place n ↦ name_value m b n (values_of m b us)
+        | binds ↦ let_value m b us
+        | annotates ↦ first_value m b us
+        | _ ↦ truth false
+      ]
 
   -- the values of trees, in their order
   pub values_of : Meaning → Bindings → Trees → List Value
@@ -91,7 +100,8 @@ unfoldable mutual
 
   -- the bound names with their values, none of them bound in the others' terms
   pub bound_values : Meaning → Bindings → Trees → Bindings
-  bound_values m b (more (list at (more (atom x k n) (more t none)) end) rest) = (n, value_of m b t) ∷ bound_values m b rest
+  bound_values m b (more (list at (more (atom x k n) (more t none)) end) rest) =
+      (n, value_of m b t) ∷ bound_values m b rest
   bound_values m b us = []
 
   -- the value of a term before attributes, which change nothing
@@ -104,9 +114,11 @@ abbrev pub bind : List (Name × Sort) → List Value → Bindings
 bind (p ∷ ps) (v ∷ vs) = (p.0, v) ∷ bind ps vs
 bind ps vs = []
 
--- what names give with one declaration more: a definition has its body's value where its parameters have the arguments' values
+-- what names give with one declaration more: a definition has its body's value where its parameters have the arguments'
+-- values
 abbrev pub with_meaning : Meaning → Declaration → Meaning
-with_meaning m (of_function (defined d)) n vs = if bytes_eq d.name n then value_of m (bind d.parameters vs) d.body else m n vs
+with_meaning m (of_function (defined d)) n vs =
+    if bytes_eq d.name n then value_of m (bind d.parameters vs) d.body else m n vs
 with_meaning m d n vs = m n vs
 
 -- what names give after declarations: each body means what it did where it was defined

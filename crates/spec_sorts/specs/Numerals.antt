@@ -1,5 +1,6 @@
 -- The numbers that numerals and decimals write. Source: SMT-LIB 2.6, section 3.1 and theory Reals; the limit is own.
-use Rattle.std.specs.Prelude.{ℕ, suc, ◌*◌, ◌+◌, ◌-◌, ◌^◌, pos, Bool, ◌||◌, List, [], ◌∷◌, ◌++◌, length, drop, nat_le, ◌==◌, if◌then◌else◌}
+use Rattle.std.specs.Prelude.{ℕ, suc, ◌*◌, ◌+◌, ◌-◌, ◌^◌, pos, Bool, ◌||◌, List, [], ◌∷◌, ◌++◌, length, drop, nat_le}
+use Rattle.std.specs.Prelude.{◌==◌, if◌then◌else◌}
 use Rattle.spec_text.specs.Bytes.{is_digit, front}
 use Rattle.spec_numbers.specs.Fractions.{Fraction, lowest}
 

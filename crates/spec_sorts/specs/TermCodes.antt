@@ -5,7 +5,9 @@ use Rattle.std.specs.Coded.{Coded, code_by, coded_ℕ, coded_ℤ, coded_list, co
 use base.Stored.{Gv, gnil, gcons, coded_unit}
 use Rattle.spec_text.specs.Bytes.{Name}
 use Rattle.spec_numbers.specs.Fractions.{Fraction}
-use Rattle.spec_sorts.specs.Terms.{Sort, Truth, Number, Declared, Symbol, Head, True, False, Not, And, Or, Xor, Implies, Equal, Ite, Minus, Plus, Times, Divide, Less, AtMost, Literal, Apply, Parameter, Term, Terms, app, nil, cons}
+use Rattle.spec_sorts.specs.Terms.{Sort, Truth, Number, Declared, Symbol, Head, True, False, Not, And, Or, Xor, Implies}
+use Rattle.spec_sorts.specs.Terms.{Equal, Ite, Minus, Plus, Times, Divide, Less, AtMost, Literal, Apply, Parameter}
+use Rattle.spec_sorts.specs.Terms.{Term, Terms, app, nil, cons}
 
 -- a name is its bytes
 abbrev pub name_code : Coded Name
@@ -35,11 +37,14 @@ sort_code = code_by _ (coded⊎ coded_unit (coded⊎ coded_unit name_code)) sort
 
 -- a symbol's code is of its name, parameters and result
 abbrev pub symbol_code : Coded Symbol
-symbol_code = code_by (Name × (List Sort × Sort)) (coded× name_code (coded× (coded_list sort_code) sort_code)) (λ s. (s.name, (s.parameters, s.result))) (λ p. record { name = p.0; parameters = p.1.0; result = p.1.1 }) (λ _. refl)
+symbol_code = code_by (Name × (List Sort × Sort)) (coded× name_code (coded× (coded_list sort_code) sort_code))
+    (λ s. (s.name, (s.parameters, s.result))) (λ p. record { name = p.0; parameters = p.1.0; result = p.1.1 })
+    (λ _. refl)
 
 -- a fraction is its parts
 abbrev pub fraction_code : Coded Fraction
-fraction_code = code_by (ℤ × ℕ) (coded× coded_ℤ coded_ℕ) (λ q. (q.num, q.den)) (λ p. record { num = p.0; den = p.1 }) (λ _. refl)
+fraction_code = code_by (ℤ × ℕ) (coded× coded_ℤ coded_ℕ) (λ q. (q.num, q.den)) (λ p. record { num = p.0; den = p.1 })
+    (λ _. refl)
 
 -- what a head has beside its word: a number, a symbol, or the number of a parameter with its sort
 abbrev pub HeadRest : Type 0
@@ -119,7 +124,8 @@ head_back (Parameter k s) = refl
 
 -- heads have codes
 abbrev pub head_code : Coded Head
-head_code = code_by _ (coded⊎ coded_ℕ (coded⊎ fraction_code (coded⊎ symbol_code (coded× coded_ℕ sort_code)))) head_parts head_by head_back
+head_code = code_by _ (coded⊎ coded_ℕ (coded⊎ fraction_code (coded⊎ symbol_code (coded× coded_ℕ sort_code)))) head_parts
+    head_by head_back
 
 unfoldable mutual
   -- a term's code: its head's, with its arguments'

@@ -3,9 +3,12 @@ use Rattle.std.specs.Prelude.{Bool, true, false, not, ◌||◌, List, [], ◌∷
 use Rattle.std.specs.declared.cmp.Ordering.{Ordering}
 use Rattle.std.proofs.Common.{Less as below}
 use Rattle.spec_sorts.specs.Lists.{left}
-use Rattle.spec_numbers.specs.Fractions.{Fraction, zero_fraction, one_fraction, opposite, plus, minus, times, divide, compare}
-use Rattle.spec_sorts.specs.Terms.{Head, True, False, Not, And, Or, Xor, Implies, Equal, Ite, Minus, Plus, Times, Divide, Less, AtMost, Literal, Apply, Parameter, Term, Terms, app, nil, cons}
-use Rattle.spec_sorts.specs.Values.{Value, truth, number, same_value, is_true, number_in, all_true, any_true, different, chosen, Interpretation, table_value}
+use Rattle.spec_numbers.specs.Fractions.{Fraction, zero_fraction, one_fraction, opposite, plus, minus, times, divide}
+use Rattle.spec_numbers.specs.Fractions.{compare}
+use Rattle.spec_sorts.specs.Terms.{Head, True, False, Not, And, Or, Xor, Implies, Equal, Ite, Minus, Plus, Times}
+use Rattle.spec_sorts.specs.Terms.{Divide, Less, AtMost, Literal, Apply, Parameter, Term, Terms, app, nil, cons}
+use Rattle.spec_sorts.specs.Values.{Value, truth, number, same_value, is_true, number_in, all_true, any_true, different}
+use Rattle.spec_sorts.specs.Values.{chosen, Interpretation, table_value}
 
 -- the first of two that compare so is less
 abbrev pub is_below : Ordering → Bool

@@ -1,4 +1,5 @@
--- Sorts, symbols, and terms as read. Source: SMT-LIB 2.6, sections 3.5, 3.6 and 5.2, theories Core and Reals; the one form for scripts and proofs is own.
+-- Sorts, symbols, and terms as read. Source: SMT-LIB 2.6, sections 3.5, 3.6 and 5.2, theories Core and Reals; the one
+-- form for scripts and proofs is own.
 use Rattle.std.specs.Prelude.{ℕ, zero, suc, Bool, true, false, ◌&&◌, List, [], ◌∷◌, get_or, nat_eq}
 use Rattle.std.specs.Ordering.{int_eq}
 use Rattle.std.specs.Str.{bytes_eq}
@@ -170,7 +171,8 @@ has_parameter [] k s = false
 has_parameter (p ∷ ps) zero s = same_sort p s
 has_parameter (p ∷ ps) (suc k) s = has_parameter ps k s
 
--- the head takes arguments of these sorts, where the parameters have the sorts given first; `and`, `or`, `+` and `*` take any number from one
+-- the head takes arguments of these sorts, where the parameters have the sorts given first; `and`, `or`, `+` and `*`
+-- take any number from one
 abbrev pub head_takes : List Sort → Head → List Sort → Bool
 head_takes ps True [] = true
 head_takes ps False [] = true

@@ -1,12 +1,17 @@
--- Theories Core and Reals: how many arguments of which sorts each head takes, when it is refused, and the term that it is read as. Source: SMT-LIB 2.6, theories Core and Reals; what chains and `distinct` are read as, that `and`, `or`, `+` and `*` take one argument too, and what is linear, is own.
-use Rattle.std.specs.Prelude.{ℕ, suc, pos, Bool, true, false, not, ◌&&◌, List, [], ◌∷◌, map, Option, Some, None, codes, nat_le, if◌then◌else◌}
+-- Theories Core and Reals: how many arguments of which sorts each head takes, when it is refused, and the term that it
+-- is read as. Source: SMT-LIB 2.6, theories Core and Reals; what chains and `distinct` are read as, that `and`, `or`,
+-- `+` and `*` take one argument too, and what is linear, is own.
+use Rattle.std.specs.Prelude.{ℕ, suc, pos, Bool, true, false, not, ◌&&◌, List, [], ◌∷◌, map, Option, Some, None, codes}
+use Rattle.std.specs.Prelude.{nat_le, if◌then◌else◌}
 use Rattle.std.specs.Ordering.{int_eq}
 use Rattle.std.specs.Str.{bytes_eq}
 use Rattle.spec_text.specs.declared.Fault.{Fault}
 use Rattle.spec_text.specs.declared.Fault.TheVariants.{NotLinear, ZeroDivisor}
 use Rattle.spec_text.specs.Bytes.{Name}
 use Rattle.spec_sorts.specs.Lists.{left, right, neighbours, all_pairs}
-use Rattle.spec_sorts.specs.Terms.{Sort, Truth, Number, Head, True, False, Not, And, Or, Xor, Implies, Equal, Ite, Minus, Plus, Times, Divide, Less, AtMost, Literal, Term, Terms, app, nil, cons, of, no_term, negated, pair, same_sort, all_same}
+use Rattle.spec_sorts.specs.Terms.{Sort, Truth, Number, Head, True, False, Not, And, Or, Xor, Implies, Equal, Ite}
+use Rattle.spec_sorts.specs.Terms.{Minus, Plus, Times, Divide, Less, AtMost, Literal, Term, Terms, app, nil, cons, of}
+use Rattle.spec_sorts.specs.Terms.{no_term, negated, pair, same_sort, all_same}
 
 -- what a list of pairs has for a name
 abbrev pub look_up : {A : Type 0} → List (Name × A) → Name → Option A
@@ -136,7 +141,8 @@ product_fault ts = if nat_le (count_of (λ t. not (is_constant t)) ts) 1 then No
 
 -- each divisor may stand as one, and then none of them is zero
 abbrev pub divisors_fault : List Term → Option Fault
-divisors_fault ds = if not (each_passes is_divisor ds) then Some NotLinear else if not (each_passes (λ d. not (is_zero_divisor d)) ds) then Some ZeroDivisor else None
+divisors_fault ds = if not (each_passes is_divisor ds) then Some NotLinear else if not
+    (each_passes (λ d. not (is_zero_divisor d)) ds) then Some ZeroDivisor else None
 
 -- all arguments but the first are divisors
 abbrev pub quotient_fault : List Term → Option Fault

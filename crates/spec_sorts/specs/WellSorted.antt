@@ -1,7 +1,8 @@
 -- Terms over declared symbols in which each head takes its arguments. Source: SMT-LIB 2.6, section 5.2.
 use Rattle.std.specs.Prelude.{◌≡◌, true, List, [], Contains}
 use Rattle.spec_numbers.specs.Fractions.{IsReduced}
-use Rattle.spec_sorts.specs.Terms.{Sort, Truth, Symbol, Head, Literal, Apply, Term, Terms, app, nil, cons, sort_of, is_sorted}
+use Rattle.spec_sorts.specs.Terms.{Sort, Truth, Symbol, Head, Literal, Apply, Term, Terms, app, nil, cons, sort_of}
+use Rattle.spec_sorts.specs.Terms.{is_sorted}
 
 -- each head of a term has a property
 unfoldable mutual

@@ -54,7 +54,8 @@ pub data CheckOverflows (ranges : Ranges) (t : State Number (Pair Number)) (o : 
       → delta_subtracted (delta_in (goal ranges t y)) (delta_in (t.point y)) ≡ Err o → CheckOverflows ranges t o
   -- such a difference of a basic variable b, over the coefficient of a nonbasic one in its row
   quotient : (b x : ℕ) → IsPivot numbers t.rows b x → Violates ranges t b
-      → delta_divided (delta_in (gap ranges t b)) (coefficient_in t.rows b x).fraction ≡ Err o → CheckOverflows ranges t o
+      → delta_divided (delta_in (gap ranges t b)) (coefficient_in t.rows b x).fraction ≡ Err o
+      → CheckOverflows ranges t o
   -- the values where a nonbasic variable moves
   move : (x : ℕ) (d : Pair Number) → HasToMove ranges t x d → OverflowsMove t x d o → CheckOverflows ranges t o
   -- the rows after an exchange

@@ -26,7 +26,8 @@ pub data OverflowsExchange (rs : List (Row Number)) (b x : ℕ) (o : Overflow) :
       → Overflows divided e.coefficient (coefficient_of numbers x (row_of b rs).entries) o → OverflowsExchange rs b x o
   -- the coefficient of x in another row, times one over that in the row of b
   leaving_product : (r : Row Number) → IsOther rs b r
-      → Overflows multiplied (coefficient_of numbers x r.entries) (pivot_in rs b x).factor o → OverflowsExchange rs b x o
+      → Overflows multiplied (coefficient_of numbers x r.entries) (pivot_in rs b x).factor o
+      → OverflowsExchange rs b x o
   -- the coefficient of x in another row, times a quotient g
   product : (r : Row Number) → IsOther rs b r → (g : Entry Number) → Contains (pivot_in rs b x).others g
       → Overflows multiplied (coefficient_of numbers x r.entries) g.coefficient o → OverflowsExchange rs b x o

@@ -1,13 +1,16 @@
 -- Rows, exchanges and steps worked out, with fractions for numbers and values. The variables are x0, x1, x2 and so on.
-use Rattle.std.specs.Prelude.{◌≡◌, ℕ, zero, suc, ◌<◌, pos, negsuc, true, false, not, ◌&&◌, ◌||◌, ◌==◌, List, [], ◌∷◌, cond, Some, None, refl, ⊤}
+use Rattle.std.specs.Prelude.{◌≡◌, ℕ, zero, suc, ◌<◌, pos, negsuc, true, false, not, ◌&&◌, ◌||◌, ◌==◌, List, [], ◌∷◌}
+use Rattle.std.specs.Prelude.{cond, Some, None, refl, ⊤}
 use Rattle.std.proofs.Common.{arith, ap}
 use Rattle.std.proofs.lemmas.Bool.Decides.{nat_tests}
-use Rattle.spec_numbers.specs.Fractions.{Fraction, gcd, whole, zero_fraction, one_fraction, plus, times, opposite, inverse}
+use Rattle.spec_numbers.specs.Fractions.{Fraction, gcd, whole, zero_fraction, one_fraction, plus, times, opposite}
+use Rattle.spec_numbers.specs.Fractions.{inverse}
 use Rattle.spec_tableaux.specs.Spaces.{as_space, pairs}
 use Rattle.spec_tableaux.specs.Rows.{Entry, Row, sum_of, put, exchanged, with_row}
 use Rattle.spec_tableaux.specs.SolvedForms.{IsNonbasic}
 use Rattle.spec_tableaux.specs.Ranges.{Range, is_crossed, is_within, moves_by}
-use Rattle.spec_tableaux.specs.LeastVariable.{IsLeast, State, is_out, can_move, done, stuck, RuleSays, Exchanges, MakesPivots}
+use Rattle.spec_tableaux.specs.LeastVariable.{IsLeast, State, is_out, can_move, done, stuck, RuleSays, Exchanges}
+use Rattle.spec_tableaux.specs.LeastVariable.{MakesPivots}
 use Rattle.spec_tableaux.specs.Numbers.{fractions}
 
 -- what a proof unfolds to compute with fractions that are written out
@@ -41,7 +44,8 @@ minus_one = whole (negsuc 0)
 
 -- two rows: x2 = x0 + 2 x1, and x3 = x0 - x1
 abbrev pub two_rows : List (Row Fraction)
-two_rows = row 2 (entry 0 one_fraction ∷ entry 1 (whole (pos 2)) ∷ []) ∷ row 3 (entry 0 one_fraction ∷ entry 1 minus_one ∷ []) ∷ []
+two_rows = row 2 (entry 0 one_fraction ∷ entry 1 (whole (pos 2)) ∷ []) ∷ row 3 (entry 0 one_fraction ∷ entry 1 minus_one
+    ∷ []) ∷ []
 
 -- a sum of entries where x0 is 5 and each other variable is 7
 abbrev pub values : ℕ → Fraction
@@ -53,7 +57,8 @@ unfolding fractions_on_literals
 sum = refl
 
 -- an entry in its place
-pub put_between : put fractions 1 half (entry 0 one_fraction ∷ entry 2 one_fraction ∷ []) ≡ entry 0 one_fraction ∷ entry 1 half ∷ entry 2 one_fraction ∷ []
+pub put_between : put fractions 1 half (entry 0 one_fraction ∷ entry 2 one_fraction ∷ []) ≡ entry 0 one_fraction
+    ∷ entry 1 half ∷ entry 2 one_fraction ∷ []
 unfolding fractions_on_literals
 put_between = refl
 
@@ -80,17 +85,22 @@ exchange_back = refl
 
 -- a row more, x4 = x2 + x3, in which basic variables are replaced: 2 x0 + x1
 pub row_more : with_row fractions two_rows 4 (entry 2 one_fraction ∷ entry 3 one_fraction ∷ [])
-    ≡ row 2 (entry 0 one_fraction ∷ entry 1 (whole (pos 2)) ∷ []) ∷ row 3 (entry 0 one_fraction ∷ entry 1 minus_one ∷ []) ∷ row 4 (entry 0 (whole (pos 2)) ∷ entry 1 one_fraction ∷ []) ∷ []
+    ≡ row 2 (entry 0 one_fraction ∷ entry 1 (whole (pos 2)) ∷ []) ∷ row 3 (entry 0 one_fraction ∷ entry 1 minus_one
+    ∷ []) ∷ row 4 (entry 0 (whole (pos 2)) ∷ entry 1 one_fraction ∷ []) ∷ []
 unfolding fractions_on_literals
 row_more = refl
 
 -- a tilt below 0 makes a pair less
-pub tilt_below : (pairs fractions).less (record { base = one_fraction; tilt = minus_one }) (record { base = one_fraction; tilt = zero_fraction }) ≡ true
+pub tilt_below : (pairs fractions).less (record { base = one_fraction; tilt = minus_one })
+    (record { base = one_fraction; tilt = zero_fraction }) ≡ true
 unfolding fractions_on_literals
 tilt_below = refl
 
 -- a greater base makes it greater, whatever the tilts are
-pub base_first : (pairs fractions).less (record { base = one_fraction; tilt = minus_one }) (record { base = half; tilt = one_fraction }) ≡ false
+pub base_first : (pairs fractions).less (record { base = one_fraction; tilt = minus_one }) (record {
+  base = half;
+  tilt = one_fraction;
+}) ≡ false
 unfolding fractions_on_literals
 base_first = refl
 
@@ -118,15 +128,24 @@ point p q r (suc (suc (suc y))) = zero_fraction
 
 -- at the start each variable is 0, so that x2 is too small
 abbrev pub start : State Fraction Fraction
-start = record { rows = row 2 (entry 0 one_fraction ∷ entry 1 one_fraction ∷ []) ∷ []; point = point zero_fraction zero_fraction zero_fraction }
+start = record {
+  rows = row 2 (entry 0 one_fraction ∷ entry 1 one_fraction ∷ []) ∷ [];
+  point = point zero_fraction zero_fraction zero_fraction;
+}
 
 -- x0 entered for x2, which is 2, and is too great
 abbrev pub middle : State Fraction Fraction
-middle = record { rows = row 0 (entry 1 minus_one ∷ entry 2 one_fraction ∷ []) ∷ []; point = point (whole (pos 2)) zero_fraction (whole (pos 2)) }
+middle = record {
+  rows = row 0 (entry 1 minus_one ∷ entry 2 one_fraction ∷ []) ∷ [];
+  point = point (whole (pos 2)) zero_fraction (whole (pos 2));
+}
 
 -- x1 entered for x0, which is 1
 abbrev pub end : State Fraction Fraction
-end = record { rows = row 1 (entry 0 minus_one ∷ entry 2 one_fraction ∷ []) ∷ []; point = point one_fraction one_fraction (whole (pos 2)) }
+end = record {
+  rows = row 1 (entry 0 minus_one ∷ entry 2 one_fraction ∷ []) ∷ [];
+  point = point one_fraction one_fraction (whole (pos 2));
+}
 
 -- no bounds cross
 nothing_crosses : (y : ℕ) → is_crossed (as_space fractions) ranges y ≡ false
@@ -189,7 +208,10 @@ second_step = record { rows = refl; solves = (record { is = refl }, tt); bound =
 
 -- the rule says two exchanges from the start, x0 for x2 and x1 for x0
 pub two_exchanges : MakesPivots (as_space fractions) ranges start ((2, 0) ∷ (0, 1) ∷ []) end
-two_exchanges = ((nothing_crosses, start_out, start_moves), (middle, first_step, ((nothing_crosses, middle_out, middle_moves), (end, second_step, refl))))
+two_exchanges = (
+  (nothing_crosses, start_out, start_moves),
+  (middle, first_step, ((nothing_crosses, middle_out, middle_moves), (end, second_step, refl))),
+)
 
 -- at the end it is done
 pub end_is_done : RuleSays (as_space fractions) ranges end done
@@ -203,7 +225,8 @@ end_is_done = (nothing_crosses, others)
     others zero = refl
     others (suc zero) = refl
     others (suc (suc zero)) = refl
-    others (suc (suc (suc y))) = ap (λ q. (q || false) && not (is_within (as_space fractions) ranges end.point (suc (suc (suc y))))) (beyond y)
+    others (suc (suc (suc y))) = ap (λ q. (q || false)
+        && not (is_within (as_space fractions) ranges end.point (suc (suc (suc y))))) (beyond y)
 
 -- with x1 at most 0 instead
 abbrev pub tight_ranges : ℕ → Range Fraction
@@ -214,7 +237,10 @@ tight_ranges (suc (suc (suc y))) = record { lower = None; upper = None }
 
 -- the rule is stuck where both variables are at their bounds and x2 is too small
 abbrev pub tight : State Fraction Fraction
-tight = record { rows = row 2 (entry 0 one_fraction ∷ entry 1 one_fraction ∷ []) ∷ []; point = point one_fraction zero_fraction one_fraction }
+tight = record {
+  rows = row 2 (entry 0 one_fraction ∷ entry 1 one_fraction ∷ []) ∷ [];
+  point = point one_fraction zero_fraction one_fraction;
+}
 
 pub tight_is_stuck : RuleSays (as_space fractions) tight_ranges tight (stuck 2)
 unfolding fractions_on_literals
@@ -240,4 +266,5 @@ tight_is_stuck = (crossings, record { holds = refl; least = least }, stopped)
     stopped : (x : ℕ) → can_move (as_space fractions) tight_ranges tight 2 x ≡ false
     stopped zero = refl
     stopped (suc zero) = refl
-    stopped (suc (suc y)) = λ i. moves_by (as_space fractions) (tight_ranges (suc (suc y))) (tight.point (suc (suc y))) true (cond (not_first y i) one_fraction (cond (not_second y i) one_fraction zero_fraction))
+    stopped (suc (suc y)) = λ i. moves_by (as_space fractions) (tight_ranges (suc (suc y))) (tight.point (suc (suc y)))
+        true (cond (not_first y i) one_fraction (cond (not_second y i) one_fraction zero_fraction))

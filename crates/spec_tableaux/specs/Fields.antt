@@ -37,4 +37,5 @@ pub record IsOrderedField {A : Type 0} (f : Field A) : Type 0 where
   pub negative_sum : (a b : A) → f.is_negative a ≡ true → f.is_negative b ≡ true → f.is_negative (f.plus a b) ≡ true
   pub no_sign : (a : A) → f.is_negative a ≡ false → f.is_negative (f.opposite a) ≡ false → a ≡ f.zero
   pub one_sign : (a : A) → f.is_negative a ≡ true → f.is_negative (f.opposite a) ≡ false
-  pub negative_product : (k a : A) → f.is_negative (f.opposite k) ≡ true → f.is_negative a ≡ true → f.is_negative (f.times k a) ≡ true
+  pub negative_product : (k a : A) → f.is_negative (f.opposite k) ≡ true → f.is_negative a ≡ true
+      → f.is_negative (f.times k a) ≡ true

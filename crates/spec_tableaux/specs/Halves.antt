@@ -79,7 +79,8 @@ pub record OverflowsApart (xs : List (Pair Number)) (o : Overflow) : Type 0 wher
   pub may_overflow : OverflowsOrder lesser greater o
 
 -- A number for the values v, the bounds of all variables, and values that are kept apart comes to the overflow o.
-pub data OverflowsNumber (ranges : Ranges) (v : ℕ → Pair Number) (apart : List (Pair Number)) (o : Overflow) : Type 0 where
+pub data OverflowsNumber (ranges : Ranges) (v : ℕ → Pair Number) (apart : List (Pair Number))
+    (o : Overflow) : Type 0 where
   -- by the bounds of a variable
   bounds : (y : ℕ) → OverflowsRange (ranges y) (v y) o → OverflowsNumber ranges v apart o
   -- by two of the values that are kept apart

@@ -1,4 +1,5 @@
--- Ordered fields, rows and exchanges over them, bounds, the least-variable rule, numbers with an infinitesimal part, checks of bounds with them, and overflows.
+-- Ordered fields, rows and exchanges over them, bounds, the least-variable rule, numbers with an infinitesimal part,
+-- checks of bounds with them, and overflows.
 pub mod Fields
 pub mod Spaces
 pub mod Rows

@@ -47,7 +47,8 @@ pub record Meets {A V : Type 0} (s : Space A V) (rs : List (Row A)) (ranges : �
   pub solves : Solves s v rs
   pub within : (y : ℕ) → is_within s ranges v y ≡ true
 
--- a variable of the value x, which a sum has with the coefficient c, can move so that the sum rises, or falls where up is false
+-- a variable of the value x, which a sum has with the coefficient c, can move so that the sum rises, or falls where up
+-- is false
 abbrev pub moves_by : {A V : Type 0} → Space A V → Range V → V → Bool → A → Bool
 moves_by s range x up c =
     cond (s.numbers.is_zero c) false
@@ -57,12 +58,14 @@ moves_by s range x up c =
 
 -- the bound that keeps a variable with the coefficient c from moving so that the sum rises, or falls where up is false
 abbrev pub stopping_bound : {A V : Type 0} → Space A V → Range V → Bool → A → Option V
-stopping_bound s range up c = cond (is_positive s.numbers c) (cond up range.upper range.lower) (cond up range.lower range.upper)
+stopping_bound s range up c = cond (is_positive s.numbers c) (cond up range.upper range.lower)
+    (cond up range.lower range.upper)
 
 -- the variable of each entry is at its stopping bound
 abbrev pub AreStopped : {A V : Type 0} → Space A V → (ℕ → Range V) → (ℕ → V) → Bool → List (Entry A) → Type 0
 AreStopped s ranges v up [] = Unit {0}
-AreStopped s ranges v up (e ∷ es) = (stopping_bound s (ranges e.variable) up e.coefficient ≡ Some (v e.variable)) × AreStopped s ranges v up es
+AreStopped s ranges v up (e ∷ es) = (stopping_bound s (ranges e.variable) up e.coefficient ≡ Some (v e.variable))
+    × AreStopped s ranges v up es
 
 -- the bound, or d where there is none
 abbrev pub bound_or : {V : Type 0} → V → Option V → V

@@ -48,7 +48,8 @@ without x (e ∷ es) = cond (e.variable == x) es (e ∷ without x es)
 -- the entries with each coefficient divided by d
 abbrev pub quotients : {A : Type 0} → Field A → A → List (Entry A) → List (Entry A)
 quotients f d [] = []
-quotients f d (e ∷ es) = record { variable = e.variable; coefficient = f.times e.coefficient (f.inverse d) } ∷ quotients f d es
+quotients f d (e ∷ es) = record { variable = e.variable; coefficient = f.times e.coefficient (f.inverse d) }
+    ∷ quotients f d es
 
 -- the entries with each coefficient negated
 abbrev pub negated : {A : Type 0} → Field A → List (Entry A) → List (Entry A)
@@ -60,7 +61,8 @@ pub record Row (A : Type 0) : Type 0 where
   pub basic : ℕ
   pub entries : List (Entry A)
 
--- A row's equation divided by the coefficient of its entering variable, which is factor times the leaving variable minus the
+-- A row's equation divided by the coefficient of its entering variable, which is factor times the leaving variable
+-- minus the
 -- sum of the others.
 pub record Pivot (A : Type 0) : Type 0 where
   pub leaving : ℕ
@@ -83,11 +85,15 @@ pivot_row f p = record { basic = p.entering; entries = put f p.leaving p.factor 
 
 -- the entries es, in which the entering variable has the coefficient c, with it replaced by its sum
 abbrev pub substituted : {A : Type 0} → Field A → Pivot A → A → List (Entry A) → List (Entry A)
-substituted f p c es = cond (f.is_zero c) es (put f p.leaving (f.times c p.factor) (minus_times f (without p.entering es) c p.others))
+substituted f p c es = cond (f.is_zero c) es
+    (put f p.leaving (f.times c p.factor) (minus_times f (without p.entering es) c p.others))
 
 -- a row with the entering variable replaced by its sum
 abbrev pub substituted_row : {A : Type 0} → Field A → Pivot A → Row A → Row A
-substituted_row f p r = record { basic = r.basic; entries = substituted f p (coefficient_of f p.entering r.entries) r.entries }
+substituted_row f p r = record {
+  basic = r.basic;
+  entries = substituted f p (coefficient_of f p.entering r.entries) r.entries;
+}
 
 -- the first row of the basic variable b, and one without entries where there is none
 abbrev pub row_of : {A : Type 0} → ℕ → List (Row A) → Row A
@@ -125,7 +131,8 @@ AreDistinct (r ∷ rs) = (is_basic r.basic rs ≡ false) × AreDistinct rs
 -- the entries es with g added, the variable of g by its row where it is basic
 abbrev pub with_flattened : {A : Type 0} → Field A → List (Row A) → List (Entry A) → Entry A → List (Entry A)
 with_flattened f rs es g =
-    cond (is_basic g.variable rs) (plus_times f es g.coefficient (row_of g.variable rs).entries) (put f g.variable g.coefficient es)
+    cond (is_basic g.variable rs) (plus_times f es g.coefficient (row_of g.variable rs).entries)
+    (put f g.variable g.coefficient es)
 
 -- the entries es with each of gs added, basic variables by their rows
 abbrev pub flattened : {A : Type 0} → Field A → List (Row A) → List (Entry A) → List (Entry A) → List (Entry A)

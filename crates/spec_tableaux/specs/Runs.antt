@@ -11,7 +11,8 @@ use Rattle.spec_tableaux.specs.Points.{deltas, Ranges, AssignmentState}
 pub record UpdatesBelow (ranges : Ranges) (n : ℕ) (t u : AssignmentState) : Type 0 where
   pub rows : u.rows ≡ t.rows
   pub solves : Solves deltas u.point u.rows
-  pub nonbasic_updated : (y : ℕ) → y < n → IsNonbasic t.rows y → u.point y ≡ value_in_range deltas (ranges y) (t.point y)
+  pub nonbasic_updated : (y : ℕ) → y < n → IsNonbasic t.rows y → u.point y
+      ≡ value_in_range deltas (ranges y) (t.point y)
   pub others : (y : ℕ) → n ≤ y → IsNonbasic t.rows y → u.point y ≡ t.point y
 
 -- Nonbasic variables went to the bounds that they violated, and then each exchange that was kept was made, as the

@@ -4,7 +4,8 @@ use Rattle.spec_tableaux.specs.Fields.{Field}
 use Rattle.spec_tableaux.specs.Spaces.{Space}
 use Rattle.spec_tableaux.specs.Rows.{Entry, Row, is_basic, AreDistinct, sum_of, coefficient_of, row_of}
 
--- the variables of the entries begin at `from` or above, each is greater than the one before it, and no coefficient is 0
+-- the variables of the entries begin at `from` or above, each is greater than the one before it, and no coefficient is
+-- 0
 abbrev pub IsTidy : {A : Type 0} → Field A → ℕ → List (Entry A) → Type 0
 IsTidy f from [] = Unit {0}
 IsTidy f from (e ∷ es) = (from ≤ e.variable) × (f.is_zero e.coefficient ≡ false) × IsTidy f (suc e.variable) es

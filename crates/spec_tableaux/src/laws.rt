@@ -73,7 +73,8 @@ pub fn solved_forms_are_unique<A, V>()
 /// States that where the rule is done its point keeps each bound, and that where it is stuck, or bounds cross, none
 /// does.
 pub fn the_rule_answers_rightly<A, V>()
-    ensures done { (s : Space A V) (ranges : ℕ → Range V) (t : State A V) → IsNonbasicFeasible s ranges t → RuleSays s ranges t done
+    ensures done { (s : Space A V) (ranges : ℕ → Range V) (t : State A V) → IsNonbasicFeasible s ranges t
+        → RuleSays s ranges t done
         → Meets s t.rows ranges t.point }
     ensures crossed { (s : Space A V) → IsOrdered s → (ranges : ℕ → Range V) (t : State A V) (y : ℕ)
         → RuleSays s ranges t (crossed y) → (p : ℕ → V) → Meets s t.rows ranges p → ⊥ }
@@ -125,7 +126,8 @@ pub fn exchanges_are_made<A, V>()
         → IsSolved s.numbers t.rows → IsPivot s.numbers t.rows b x → Exchanges s ranges t b x u
         → Exchanges s ranges t b x w → (y : ℕ) → u.point y ≡ w.point y }
     ensures nonbasic_updated { (s : Space A V) → IsOrdered s → (ranges : ℕ → Range V) (t u : State A V) (b x : ℕ)
-        → IsNonbasicFeasible s ranges t → RuleSays s ranges t (exchange b x) → Exchanges s ranges t b x u → IsNonbasicFeasible s ranges u }
+        → IsNonbasicFeasible s ranges t → RuleSays s ranges t (exchange b x) → Exchanges s ranges t b x u
+        → IsNonbasicFeasible s ranges u }
 {}
 
 /// States that the least-variable rule ends: over n variables it makes fewer than 3^n exchanges. Source: Bland 1977.

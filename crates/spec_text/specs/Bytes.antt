@@ -20,7 +20,8 @@ among (m ∷ ms) n = bytes_eq m n || among ms n
 abbrev pub is_blank : ℕ → Bool
 is_blank b = one_of (9 ∷ 10 ∷ 13 ∷ 32 ∷ []) b
 
--- a comment goes up to a line feed or a carriage return, and may hold any other byte (own: the standard has printable characters and white space there)
+-- a comment goes up to a line feed or a carriage return, and may hold any other byte (own: the standard has printable
+-- characters and white space there)
 abbrev pub is_in_comment : ℕ → Bool
 is_in_comment b = not (one_of (10 ∷ 13 ∷ []) b)
 
@@ -36,7 +37,8 @@ is_letter b = (nat_le 65 b && nat_le b 90) || (nat_le 97 b && nat_le b 122)
 abbrev pub is_symbol_byte : ℕ → Bool
 is_symbol_byte b = is_digit b || is_letter b || one_of (codes "~!@$%^&*_-+=<>.?/") b
 
--- a quoted symbol may hold any byte but the bar and the backslash (own: the standard has printable characters and white space there)
+-- a quoted symbol may hold any byte but the bar and the backslash (own: the standard has printable characters and white
+-- space there)
 abbrev pub is_in_bars : ℕ → Bool
 is_in_bars b = not (one_of (124 ∷ 92 ∷ []) b)
 
@@ -47,4 +49,12 @@ front test (b ∷ bs) = if test b then b ∷ front test bs else []
 
 -- the words that are no symbols without bars
 abbrev pub reserved_words : List Name
-reserved_words = codes "!" ∷ codes "_" ∷ codes "as" ∷ codes "BINARY" ∷ codes "DECIMAL" ∷ codes "exists" ∷ codes "HEXADECIMAL" ∷ codes "forall" ∷ codes "let" ∷ codes "match" ∷ codes "NUMERAL" ∷ codes "par" ∷ codes "STRING" ∷ codes "assert" ∷ codes "check-sat" ∷ codes "check-sat-assuming" ∷ codes "declare-const" ∷ codes "declare-datatype" ∷ codes "declare-datatypes" ∷ codes "declare-fun" ∷ codes "declare-sort" ∷ codes "define-fun" ∷ codes "define-fun-rec" ∷ codes "define-funs-rec" ∷ codes "define-sort" ∷ codes "echo" ∷ codes "exit" ∷ codes "get-assertions" ∷ codes "get-assignment" ∷ codes "get-info" ∷ codes "get-model" ∷ codes "get-option" ∷ codes "get-proof" ∷ codes "get-unsat-assumptions" ∷ codes "get-unsat-core" ∷ codes "get-value" ∷ codes "pop" ∷ codes "push" ∷ codes "reset" ∷ codes "reset-assertions" ∷ codes "set-info" ∷ codes "set-logic" ∷ codes "set-option" ∷ []
+reserved_words = codes "!" ∷ codes "_" ∷ codes "as" ∷ codes "BINARY" ∷ codes "DECIMAL" ∷ codes "exists"
+    ∷ codes "HEXADECIMAL" ∷ codes "forall" ∷ codes "let" ∷ codes "match" ∷ codes "NUMERAL" ∷ codes "par"
+    ∷ codes "STRING" ∷ codes "assert" ∷ codes "check-sat" ∷ codes "check-sat-assuming" ∷ codes "declare-const"
+    ∷ codes "declare-datatype" ∷ codes "declare-datatypes" ∷ codes "declare-fun" ∷ codes "declare-sort"
+    ∷ codes "define-fun" ∷ codes "define-fun-rec" ∷ codes "define-funs-rec" ∷ codes "define-sort" ∷ codes "echo"
+    ∷ codes "exit" ∷ codes "get-assertions" ∷ codes "get-assignment" ∷ codes "get-info" ∷ codes "get-model"
+    ∷ codes "get-option" ∷ codes "get-proof" ∷ codes "get-unsat-assumptions" ∷ codes "get-unsat-core"
+    ∷ codes "get-value" ∷ codes "pop" ∷ codes "push" ∷ codes "reset" ∷ codes "reset-assertions" ∷ codes "set-info"
+    ∷ codes "set-logic" ∷ codes "set-option" ∷ []

@@ -8,12 +8,14 @@ use Rattle.spec_text.specs.Trees.{atom, list, none, more, IsRead}
 use Rattle.spec_text.specs.Places.{line_of, column_of}
 
 -- words and the offsets of their first bytes, bars and colons among them; a comment is passed over
-pub numbers_and_symbols : lexemes 0 0 (codes "1.50 |a b| x:k ; note") ≡ (0, word Decimal (codes "1.50")) ∷ (5, word Quoted (codes "a b")) ∷ (11, word Simple (codes "x")) ∷ (12, word Keyword (codes "k")) ∷ []
+pub numbers_and_symbols : lexemes 0 0 (codes "1.50 |a b| x:k ; note") ≡ (0, word Decimal (codes "1.50"))
+    ∷ (5, word Quoted (codes "a b")) ∷ (11, word Simple (codes "x")) ∷ (12, word Keyword (codes "k")) ∷ []
 unfolding lexemes first_piece
 numbers_and_symbols = refl
 
 -- two quotes in a string stand as written, and a reserved word is no symbol
-pub string_with_quotes : lexemes 0 0 (codes "\"a\"\"b\" let") ≡ (0, word Text (codes "a\"\"b")) ∷ (7, word Reserved (codes "let")) ∷ []
+pub string_with_quotes : lexemes 0 0 (codes "\"a\"\"b\" let") ≡ (0, word Text (codes "a\"\"b"))
+    ∷ (7, word Reserved (codes "let")) ∷ []
 unfolding lexemes first_piece string_body after_quote
 string_with_quotes = refl
 
@@ -63,7 +65,9 @@ unfolding lexemes first_piece first_fault
 stray = refl
 
 -- lists with the offsets of both parentheses
-pub tree_of_a_text : IsRead (codes "(a ()) b") (more (list 0 (more (atom 1 Simple (codes "a")) (more (list 3 none 4) none)) 5) (more (atom 7 Simple (codes "b")) none))
+pub tree_of_a_text : IsRead (codes "(a ()) b")
+    (more (list 0 (more (atom 1 Simple (codes "a")) (more (list 3 none 4) none)) 5)
+    (more (atom 7 Simple (codes "b")) none))
 unfolding lexemes first_piece
 tree_of_a_text = refl
 

@@ -13,12 +13,14 @@ pub record Located : Type 0 where
 abbrev pub located : ℕ → Fault → Option Located
 located at f = Some (record { offset = at; fault = f })
 
--- the first fault of lexemes after so many open lists, where the text ends at an offset and so many lists may be open at once
+-- the first fault of lexemes after so many open lists, where the text ends at an offset and so many lists may be open
+-- at once
 unfoldable pub first_fault : (limit end : ℕ) → ℕ → List (ℕ × Lexeme) → Option Located
 first_fault limit end zero [] = None
 first_fault limit end (suc n) [] = located end UnclosedList
 first_fault limit end n ((at, blank) ∷ xs) = first_fault limit end n xs
-first_fault limit end n ((at, opens) ∷ xs) = if nat_lt n limit then first_fault limit end (suc n) xs else located at TooDeep
+first_fault limit end n ((at, opens) ∷ xs) =
+    if nat_lt n limit then first_fault limit end (suc n) xs else located at TooDeep
 first_fault limit end zero ((at, closes) ∷ xs) = located at StrayClose
 first_fault limit end (suc n) ((at, closes) ∷ xs) = first_fault limit end n xs
 first_fault limit end n ((at, word k bytes) ∷ xs) = first_fault limit end n xs

@@ -1,12 +1,15 @@
 -- The lexemes of a text, each with the offset of its first byte. Source: SMT-LIB 2.6, section 3.1; the faults are own.
-use Rattle.std.specs.Prelude.{ℕ, zero, suc, ◌+◌, ◌-◌, List, [], ◌∷◌, ◌++◌, length, drop, Option, Some, None, option_map, ◌==◌, if◌then◌else◌}
+use Rattle.std.specs.Prelude.{ℕ, zero, suc, ◌+◌, ◌-◌, List, [], ◌∷◌, ◌++◌, length, drop, Option, Some, None, option_map}
+use Rattle.std.specs.Prelude.{◌==◌, if◌then◌else◌}
 use Rattle.spec_text.specs.declared.Kind.{Kind}
 use Rattle.spec_text.specs.declared.Kind.TheVariants.{Numeral, Decimal, Text, Simple, Quoted, Reserved, Keyword}
 use Rattle.spec_text.specs.declared.Fault.{Fault}
 use Rattle.spec_text.specs.declared.Fault.TheVariants.{BadChar, UnclosedString, UnclosedQuote}
-use Rattle.spec_text.specs.Bytes.{Name, is_blank, is_in_comment, is_digit, is_symbol_byte, is_in_bars, among, front, reserved_words}
+use Rattle.spec_text.specs.Bytes.{Name, is_blank, is_in_comment, is_digit, is_symbol_byte, is_in_bars, among, front}
+use Rattle.spec_text.specs.Bytes.{reserved_words}
 
--- White space and comments, parentheses, a word by its kind and its bytes (as written, but without quotes, bars or colon), or a fault.
+-- White space and comments, parentheses, a word by its kind and its bytes (as written, but without quotes, bars or
+-- colon), or a fault.
 pub data Lexeme : Type 0 where
   blank opens closes : Lexeme
   word : Kind → List ℕ → Lexeme
@@ -34,7 +37,8 @@ decimal digits (d ∷ ds) rest = ended rest (length digits + 1 + length (d ∷ d
 -- digits, with the bytes after them
 abbrev pub number : List ℕ → List ℕ → Piece
 number digits [] = piece (word Numeral digits) (length digits)
-number digits (b ∷ bs) = if b == 46 then decimal digits (front is_digit bs) (drop (length (front is_digit bs)) bs) else ended (b ∷ bs) (length digits) (word Numeral digits)
+number digits (b ∷ bs) = if b == 46 then decimal digits (front is_digit bs) (drop (length (front is_digit bs)) bs) else
+    ended (b ∷ bs) (length digits) (word Numeral digits)
 
 -- strings may hold any byte (own: the standard has printable characters and white space there)
 unfoldable mutual
@@ -56,7 +60,8 @@ string (Some body) = piece (word Text body) (length body + 2)
 -- a name after an opening bar, and what comes after the name
 abbrev pub quoted : Name → List ℕ → Piece
 quoted name [] = piece (wrong UnclosedQuote) 0
-quoted name (b ∷ bs) = if b == 124 then piece (word Quoted name) (length name + 2) else piece (wrong BadChar) (length name + 1)
+quoted name (b ∷ bs) = if b == 124 then piece (word Quoted name) (length name + 2) else piece (wrong BadChar)
+    (length name + 1)
 
 -- a keyword by its name after the colon, of which there is one byte at least; it may begin with a digit (own)
 abbrev pub keyword : Name → Piece

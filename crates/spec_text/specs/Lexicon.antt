@@ -1,4 +1,6 @@
--- The lexicon as a table: which bytes spell which lexeme. Source: SMT-LIB 2.6, section 3.1. Own: strings, quoted symbols and comments may hold any other byte, where the standard has printable characters and white space, and after a keyword's colon may stand any bytes of symbols, where it has a simple symbol.
+-- The lexicon as a table: which bytes spell which lexeme. Source: SMT-LIB 2.6, section 3.1. Own: strings, quoted
+-- symbols and comments may hold any other byte, where the standard has printable characters and white space, and after
+-- a keyword's colon may stand any bytes of symbols, where it has a simple symbol.
 use Rattle.std.specs.Prelude.{◌≡◌, ◌≢◌, ◌≤◌, ℕ, Bool, true, false, List, [], ◌∷◌, ◌++◌, length, take, drop, ◌==◌}
 use Rattle.spec_text.specs.declared.Kind.TheVariants.{Numeral, Decimal, Text, Simple, Quoted, Reserved, Keyword}
 use Rattle.spec_text.specs.Bytes.{is_blank, is_in_comment, is_digit, is_symbol_byte, is_in_bars, among, reserved_words}
@@ -27,9 +29,11 @@ pub data Spells : List ℕ → Lexeme → Type 0 where
   open_parenthesis : Spells (40 ∷ []) opens
   close_parenthesis : Spells (41 ∷ []) closes
   numeral : (ds : List ℕ) → IsNumeral ds → Spells ds (word Numeral ds)
-  decimal : (ds : List ℕ) (f : ℕ) (fs : List ℕ) → IsNumeral ds → Consists is_digit (f ∷ fs) → Spells (ds ++ 46 ∷ f ∷ fs) (word Decimal (ds ++ 46 ∷ f ∷ fs))
+  decimal : (ds : List ℕ) (f : ℕ) (fs : List ℕ) → IsNumeral ds → Consists is_digit (f ∷ fs)
+      → Spells (ds ++ 46 ∷ f ∷ fs) (word Decimal (ds ++ 46 ∷ f ∷ fs))
   string : (bs : List ℕ) → IsInside bs → Spells (34 ∷ bs ++ 34 ∷ []) (word Text bs)
-  simple_symbol : (b : ℕ) (bs : List ℕ) → is_digit b ≡ false → Consists is_symbol_byte (b ∷ bs) → among reserved_words (b ∷ bs) ≡ false → Spells (b ∷ bs) (word Simple (b ∷ bs))
+  simple_symbol : (b : ℕ) (bs : List ℕ) → is_digit b ≡ false → Consists is_symbol_byte (b ∷ bs)
+      → among reserved_words (b ∷ bs) ≡ false → Spells (b ∷ bs) (word Simple (b ∷ bs))
   reserved_word : (bs : List ℕ) → among reserved_words bs ≡ true → Spells bs (word Reserved bs)
   quoted_symbol : (bs : List ℕ) → Consists is_in_bars bs → Spells (124 ∷ bs ++ 124 ∷ []) (word Quoted bs)
   keyword : (b : ℕ) (bs : List ℕ) → Consists is_symbol_byte (b ∷ bs) → Spells (58 ∷ b ∷ bs) (word Keyword (b ∷ bs))

@@ -3,7 +3,8 @@ use Rattle.std.specs.Prelude.{◌≡◌, ◌⊎◌, ℕ, refl}
 use Rattle.std.proofs.Common.{inl, inr, subst}
 use Rattle.spec_text.specs.Trees.{Tree, Trees, atom, list, none, more}
 
--- a property holds of each offset at which a tree or a part of it begins: of an atom's first byte, and of a list's opening parenthesis
+-- a property holds of each offset at which a tree or a part of it begins: of an atom's first byte, and of a list's
+-- opening parenthesis
 abbrev mutual
   -- in a tree
   pub AllOffsets : (ℕ → Type 0) → Tree → Type 0
@@ -49,7 +50,8 @@ mutual
   weaker_offsets P Q f (list at ts end) all = (f at all.0, weaker_offsets_of P Q f ts all.1)
 
   -- in trees, one after the other
-  pub weaker_offsets_of : (P Q : ℕ → Type 0) → ((n : ℕ) → P n → Q n) → (ts : Trees) → AllOffsetsOf P ts → AllOffsetsOf Q ts
+  pub weaker_offsets_of : (P Q : ℕ → Type 0) → ((n : ℕ) → P n → Q n) → (ts : Trees) → AllOffsetsOf P ts
+      → AllOffsetsOf Q ts
   weaker_offsets_of P Q f none all = tt
   weaker_offsets_of P Q f (more t ts) all = (weaker_offsets P Q f t all.0, weaker_offsets_of P Q f ts all.1)
 
@@ -58,9 +60,14 @@ mutual
   -- in a tree
   pub own_offsets : (t : Tree) → AllOffsets (HasOffset t) t
   own_offsets (atom at k bytes) = refl
-  own_offsets (list at ts end) = (inl refl, weaker_offsets_of (HaveOffset ts) (HasOffset (list at ts end)) (λ n h. inr h) ts (own_offsets_of ts))
+  own_offsets (list at ts end) =
+      (inl refl, weaker_offsets_of (HaveOffset ts) (HasOffset (list at ts end)) (λ n h. inr h) ts (own_offsets_of ts))
 
   -- in trees, one after the other
   pub own_offsets_of : (ts : Trees) → AllOffsetsOf (HaveOffset ts) ts
   own_offsets_of none = tt
-  own_offsets_of (more t ts) = (weaker_offsets (HasOffset t) (HaveOffset (more t ts)) (λ n h. inl h) t (own_offsets t), weaker_offsets_of (HaveOffset ts) (HaveOffset (more t ts)) (λ n h. inr h) ts (own_offsets_of ts))
+  own_offsets_of (more t ts) = (
+    weaker_offsets (HasOffset t) (HaveOffset (more t ts)) (λ n h. inl h) t
+        (own_offsets t),
+    weaker_offsets_of (HaveOffset ts) (HaveOffset (more t ts)) (λ n h. inr h) ts (own_offsets_of ts),
+  )

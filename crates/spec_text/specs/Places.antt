@@ -2,7 +2,11 @@
 use Rattle.std.specs.Prelude.{◌≡◌, ℕ, ◌+◌, ◌≤◌, List, [], ◌∷◌, length, take, count_by, codes, ◌==◌, if◌then◌else◌}
 use Rattle.spec_text.specs.declared.Place.{Place}
 use Rattle.spec_text.specs.declared.Fault.{Fault}
-use Rattle.spec_text.specs.declared.Fault.TheVariants.{BadChar, UnclosedString, UnclosedQuote, UnclosedList, StrayClose, TooDeep, TooLong, UnknownCommand, BadShape, UnknownSymbol, UnknownSort, Twice, Reserved, WrongCount, WrongSort, NotLinear, ZeroDivisor, NumberWide, PopTooFar, WrongMode, NotEnabled, UnknownLogic, NotLiteral, Full, ValueWide}
+use Rattle.spec_text.specs.declared.Fault.TheVariants.{BadChar, UnclosedString, UnclosedQuote, UnclosedList, StrayClose}
+use Rattle.spec_text.specs.declared.Fault.TheVariants.{TooDeep, TooLong, UnknownCommand, BadShape, UnknownSymbol}
+use Rattle.spec_text.specs.declared.Fault.TheVariants.{UnknownSort, Twice, Reserved, WrongCount, WrongSort, NotLinear}
+use Rattle.spec_text.specs.declared.Fault.TheVariants.{ZeroDivisor, NumberWide, PopTooFar, WrongMode, NotEnabled}
+use Rattle.spec_text.specs.declared.Fault.TheVariants.{UnknownLogic, NotLiteral, Full, ValueWide}
 
 -- 1 plus the number of bytes 10 before the offset
 abbrev pub line_of : List ℕ → ℕ → ℕ

@@ -1,5 +1,7 @@
--- A text as s-expressions, one after the other, up to its end or to its first fault. Source: SMT-LIB 2.6, section 3.2; limits and faults are own.
-use Rattle.std.specs.Prelude.{◌≡◌, ◌≢◌, ◌⊎◌, ℕ, suc, ◌+◌, ◌<◌, ◌≤◌, ◌^◌, max, Bool, true, false, ◌&&◌, List, [], ◌∷◌, ◌++◌, length, take, nat_lt, Option, Some, None, if◌then◌else◌}
+-- A text as s-expressions, one after the other, up to its end or to its first fault. Source: SMT-LIB 2.6, section 3.2;
+-- limits and faults are own.
+use Rattle.std.specs.Prelude.{◌≡◌, ◌≢◌, ◌⊎◌, ℕ, suc, ◌+◌, ◌<◌, ◌≤◌, ◌^◌, max, Bool, true, false, ◌&&◌, List, [], ◌∷◌}
+use Rattle.std.specs.Prelude.{◌++◌, length, take, nat_lt, Option, Some, None, if◌then◌else◌}
 use Rattle.spec_text.specs.declared.Fault.{Fault}
 use Rattle.spec_text.specs.declared.Fault.TheVariants.{UnclosedString, UnclosedQuote, UnclosedList, TooLong}
 use Rattle.spec_text.specs.Lexemes.{Lexeme, closes, lexemes}
@@ -34,7 +36,8 @@ pub record AreTrees (n : ℕ) (xs : List (ℕ × Lexeme)) (ts : Trees) (rest : L
   -- none is nested too deep
   pub within : n + depth_all ts ≤ nesting_limit
 
--- where the reading of trees after n open lists stops: at the end of the lexemes where none is open, at the end of the innermost open list, or at what is broken
+-- where the reading of trees after n open lists stops: at the end of the lexemes where none is open, at the end of the
+-- innermost open list, or at what is broken
 abbrev pub StopsAt : ℕ → ℕ → List (ℕ × Lexeme) → Type 0
 StopsAt end n rest =
     ((n ≡ 0) × (rest ≡ []))

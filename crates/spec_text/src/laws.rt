@@ -61,7 +61,8 @@ pub fn lexemes_are_read_up_to_one_end()
 /// Says that each text is s-expressions, from each offset on and after so many open lists, up to what stops their reading.
 pub fn each_text_is_read()
     ensures { (text : List ℕ) (at n : ℕ) → n ≤ nesting_limit
-        → (ts : Trees) × (rest : List (ℕ × Lexeme)) × AreTrees n (lexemes_from text at) ts rest × StopsAt (length text) n rest }
+        → (ts : Trees) × (rest : List (ℕ × Lexeme)) × AreTrees n (lexemes_from text at) ts rest
+        × StopsAt (length text) n rest }
 {}
 
 /// Says that the offsets of trees lie in the text that they are in, from the offset on from which it was read: that of
@@ -71,7 +72,8 @@ pub fn trees_are_in_their_text()
         → lexemes_from text at ≡ spelled t ++ rest
         → AllOffsets (λ n. (at ≤ n) × (n < length text)) t }
     ensures all { (text : List ℕ) (at : ℕ) (earlier rest : List (ℕ × Lexeme)) (ts : Trees)
-        → lexemes_from text at ≡ earlier ++ (spelled_all ts ++ rest) → AllOffsetsOf (λ n. (at ≤ n) × (n < length text)) ts }
+        → lexemes_from text at ≡ earlier ++ (spelled_all ts ++ rest)
+        → AllOffsetsOf (λ n. (at ≤ n) × (n < length text)) ts }
 {}
 
 /// Says that the first fault of lexemes of a text lies in the text or at its end, after whatever other lexemes and

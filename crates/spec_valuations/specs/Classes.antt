@@ -2,7 +2,8 @@
 use Rattle.std.specs.Prelude.{◌≡◌, ◌≢◌, ◌↔◌, ℕ, Bool, true, false, List, [], ◌∷◌, map, Contains, if◌then◌else◌}
 use Rattle.spec_text.specs.Bytes.{Name}
 use Rattle.spec_numbers.specs.Fractions.{Fraction, IsReduced}
-use Rattle.spec_sorts.specs.Terms.{Sort, Truth, Number, Declared, Symbol, Equal, Ite, Apply, Term, Terms, app, of, pair, list_of, sort_of, same_term}
+use Rattle.spec_sorts.specs.Terms.{Sort, Truth, Number, Declared, Symbol, Equal, Ite, Apply, Term, Terms, app, of, pair}
+use Rattle.spec_sorts.specs.Terms.{list_of, sort_of, same_term}
 use Rattle.spec_sorts.specs.Values.{Value, truth, number, element}
 use Rattle.spec_equality.specs.Congruence.{truth_term}
 use Rattle.spec_valuations.specs.Tables.{Valuation, Obeys}
@@ -40,7 +41,8 @@ pub record Agrees (point : Term → Fraction) (class : Term → ℕ) (shared : L
   -- two of them
   pub same : (s t : Term) → Contains shared s → Contains shared t → (point s ≡ point t) ↔ (class s ≡ class t)
 
--- shared are the arguments and the values of declared symbols with parameters, those of sort Real; on constants nothing has to agree
+-- shared are the arguments and the values of declared symbols with parameters, those of sort Real; on constants nothing
+-- has to agree
 pub record AreShared (terms shared : List Term) : Type 0 where
   -- applications of sort Real
   pub values : (s : Symbol) (ts : Terms) → Contains terms (app (Apply s) ts) → list_of ts ≢ []
@@ -76,7 +78,8 @@ IsOfTruths (app Ite ts) = (u : Term) → Contains (list_of ts) u → sort_of u �
 IsOfTruths (app h ts) = Unit {0}
 
 -- Truths, numbers and classes that fit together.
-pub record AreJoint (truths : Term → Bool) (point : Term → Fraction) (class : Term → ℕ) (terms shared : List Term) : Type 0 where
+pub record AreJoint (truths : Term → Bool) (point : Term → Fraction) (class : Term
+    → ℕ) (terms shared : List Term) : Type 0 where
   -- the classes go with the truths
   pub classes : AreClasses truths class terms
   -- the shared terms
@@ -92,7 +95,8 @@ pub record AreJoint (truths : Term → Bool) (point : Term → Fraction) (class 
   -- heads of truth values, and those of numbers, mean what they mean
   pub formulas : (t : Term) → Contains terms t → IsOfTruths t → Obeys (value_by truths point class) t
 
--- What the clauses of `x_ite_then` and `x_ite_else` say where they are met: the equality of a choice with the branch that its condition chooses.
+-- What the clauses of `x_ite_then` and `x_ite_else` say where they are met: the equality of a choice with the branch
+-- that its condition chooses.
 pub record AreDefined (truths : Term → Bool) (terms : List Term) : Type 0 where
   -- the branches of a choice have one sort
   pub branches : (c a b : Term) → Contains terms (of Ite (c ∷ a ∷ b ∷ [])) → sort_of a ≢ Truth → sort_of a ≡ sort_of b

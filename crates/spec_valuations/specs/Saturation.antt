@@ -1,4 +1,5 @@
--- Where a search over equality and functions is saturated, and one over linear arithmetic beside these. Source: Nelson and Oppen 1979; Tseitin 1968.
+-- Where a search over equality and functions is saturated, and one over linear arithmetic beside these. Source: Nelson
+-- and Oppen 1979; Tseitin 1968.
 use Rattle.std.specs.Prelude.{◌≡◌, ◌≢◌, ◌↔◌, ℕ, true, List, All, Contains}
 use Rattle.std.specs.List.{list_any}
 use Rattle.spec_numbers.specs.Fractions.{Fraction, IsReduced}
@@ -17,7 +18,8 @@ use Rattle.spec_valuations.specs.Tables.{Valuation}
 use Rattle.spec_valuations.specs.Classes.{value_by, AreShared, Agrees}
 
 -- What a search over equality and functions has where it rests.
-pub record Saturated (symbols : List Symbol) (p : Problem) (terms : List Term) (held : List Literal) (v : Truths) (class : Term → ℕ) : Type 0 where
+pub record Saturated (symbols : List Symbol) (p : Problem) (terms : List Term) (held : List Literal) (v : Truths)
+    (class : Term → ℕ) : Type 0 where
   -- the terms of the check are formulas over the symbols, and so are the interface equalities
   pub formulas : All (IsFormulaOver symbols) (known_terms p)
   -- all terms that the search speaks of are listed
@@ -29,7 +31,8 @@ pub record Saturated (symbols : List Symbol) (p : Problem) (terms : List Term) (
   -- one term of each clause is true
   pub met : (c : Clause) → Contains (search_clauses p) c → list_any (term_true_by v) c ≡ true
   -- each term of sort Bool that is no negation is held with its truth
-  pub truths : (t : Term) → Contains terms t → sort_of t ≡ Truth → literal_of t ≡ signed_literal t true → Contains held (signed_literal t (v t))
+  pub truths : (t : Term) → Contains terms t → sort_of t ≡ Truth → literal_of t ≡ signed_literal t true
+      → Contains held (signed_literal t (v t))
   -- what is held joins neither the truth values nor sides that are held apart
   pub fine : IsFine terms held
   -- classes tell which listed terms it makes equal
@@ -48,8 +51,10 @@ pub record TheoryValues : Type 0 where
 abbrev pub values_of : TheoryValues → Valuation
 values_of a = value_by (term_true_by a.truths) (number_at a.number) a.class
 
--- What a search over equality, functions and linear arithmetic has where it rests, whether its theories agree on shared terms or not.
-pub record IsSaturatedWithNumbers (symbols : List Symbol) (p : Problem) (terms : List Term) (held : List Literal) (a : TheoryValues) : Type 0 where
+-- What a search over equality, functions and linear arithmetic has where it rests, whether its theories agree on shared
+-- terms or not.
+pub record IsSaturatedWithNumbers (symbols : List Symbol) (p : Problem) (terms : List Term) (held : List Literal)
+    (a : TheoryValues) : Type 0 where
   -- the terms of the check are formulas over the symbols, and so are the interface equalities
   pub formulas : All (IsFormulaOver symbols) (known_terms p)
   -- all terms that the search speaks of are listed
@@ -61,18 +66,21 @@ pub record IsSaturatedWithNumbers (symbols : List Symbol) (p : Problem) (terms :
   -- one term of each clause is true
   pub met : (c : Clause) → Contains (whole_clauses p) c → list_any (term_true_by a.truths) c ≡ true
   -- each term of sort Bool that is no negation is held with its truth
-  pub truths : (t : Term) → Contains terms t → sort_of t ≡ Truth → literal_of t ≡ signed_literal t true → Contains held (signed_literal t (a.truths t))
+  pub truths : (t : Term) → Contains terms t → sort_of t ≡ Truth → literal_of t ≡ signed_literal t true
+      → Contains held (signed_literal t (a.truths t))
   -- what is held joins neither the truth values nor sides that are held apart
   pub fine : IsFine terms held
   -- classes tell which listed terms it makes equal
-  pub classes : (t u : Term) → Contains terms t → Contains terms u → (a.class t ≡ a.class u) ↔ IsCongruent terms held t u
+  pub classes : (t u : Term) → Contains terms t → Contains terms u
+      → (a.class t ≡ a.class u) ↔ IsCongruent terms held t u
   -- each number is in lowest terms
   pub reduced : (t : Term) → IsReduced (a.number t)
   -- what is held is so of the numbers
   pub kept : All (HoldsAt a.number) held
 
 -- What such a search has where its theories agree on shared terms. Source: Nelson and Oppen 1979.
-pub record IsSaturatedOnNumbers (symbols : List Symbol) (p : Problem) (terms : List Term) (held : List Literal) (a : TheoryValues) : Type 0 where
+pub record IsSaturatedOnNumbers (symbols : List Symbol) (p : Problem) (terms : List Term) (held : List Literal)
+    (a : TheoryValues) : Type 0 where
   -- it rests
   pub rests : IsSaturatedWithNumbers symbols p terms held a
   -- the terms that both theories speak of

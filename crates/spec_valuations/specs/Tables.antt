@@ -1,7 +1,8 @@
 -- The interpretation that values of listed terms give.
 use Rattle.std.specs.Prelude.{◌≡◌, true, false, List, [], ◌∷◌, ◌++◌, map, Contains, Option, Some, None, if◌then◌else◌}
 use Rattle.spec_numbers.specs.Fractions.{zero_fraction}
-use Rattle.spec_sorts.specs.Terms.{Sort, Truth, Number, Declared, Symbol, same_symbol, Head, Apply, Term, Terms, app, list_of, sort_of, sorts_of, head_takes}
+use Rattle.spec_sorts.specs.Terms.{Sort, Truth, Number, Declared, Symbol, same_symbol, Head, Apply, Term, Terms, app}
+use Rattle.spec_sorts.specs.Terms.{list_of, sort_of, sorts_of, head_takes}
 use Rattle.spec_sorts.specs.Values.{Value, truth, number, element, HasSort, TableRow, Table, first_fit, Interpretation}
 use Rattle.spec_sorts.specs.TermValues.{head_value}
 
@@ -49,7 +50,8 @@ IsModelBy i v symbols terms = (s : Symbol) → Contains symbols s → i.table s.
 
 -- a symbol gives the same value wherever its arguments have the same values
 abbrev pub IsFunctional : Valuation → List Term → Type 0
-IsFunctional v terms = (s : Symbol) (ts us : Terms) → Contains terms (app (Apply s) ts) → Contains terms (app (Apply s) us)
+IsFunctional v terms = (s : Symbol) (ts us : Terms) → Contains terms (app (Apply s) ts)
+    → Contains terms (app (Apply s) us)
     → values_by v ts ≡ values_by v us → v (app (Apply s) ts) ≡ v (app (Apply s) us)
 
 -- the value is that of the term's head at its arguments' values; of a declared symbol nothing is asked
@@ -60,7 +62,8 @@ Obeys v (app h ts) = (i : Interpretation) → v (app h ts) ≡ head_value i h (v
 -- Listed terms: with each its arguments, which its head takes, and of declared symbols.
 pub record AreListed (symbols : List Symbol) (terms : List Term) : Type 0 where
   -- with a term its arguments are listed
-  pub arguments : (h : Head) (ts : Terms) → Contains terms (app h ts) → (u : Term) → Contains (list_of ts) u → Contains terms u
+  pub arguments : (h : Head) (ts : Terms) → Contains terms (app h ts) → (u : Term) → Contains (list_of ts) u
+      → Contains terms u
   -- each head takes its arguments, and no term is a parameter
   pub takes : (h : Head) (ts : Terms) → Contains terms (app h ts) → head_takes [] h (sorts_of ts) ≡ true
   -- symbols that are heads are declared

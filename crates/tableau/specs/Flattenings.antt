@@ -6,7 +6,8 @@ use Rattle.spec_tableaux.specs.Numbers.{Number}
 use Rattle.tableau.specs.Sums.{OverflowsCombined, OverflowsPut}
 
 -- The entry g is added to the sum es, the variable by its row where it is basic, and that comes to the overflow o.
-pub data OverflowsOne (rs : List (Row Number)) (es : List (Entry Number)) (g : Entry Number) (o : Overflow) : Type 0 where
+pub data OverflowsOne (rs : List (Row Number)) (es : List (Entry Number)) (g : Entry Number)
+    (o : Overflow) : Type 0 where
   -- it is basic
   in_row : is_basic g.variable rs ≡ true → OverflowsCombined false es g.coefficient (row_of g.variable rs).entries o
       → OverflowsOne rs es g o

@@ -56,7 +56,11 @@ ArePlaces rs places = (y : ℕ) → get_or places y None ≡ place y rs
 
 -- what the fields mean
 abbrev pub tableau_view : Inside → TableauView
-tableau_view t = record { variables = length t.places.items; listed = rows_of t.listed.items; rows = rows_of t.rows.items }
+tableau_view t = record {
+  variables = length t.places.items;
+  listed = rows_of t.listed.items;
+  rows = rows_of t.rows.items;
+}
 
 -- What holds of the fields.
 pub record TableauFits (t : Inside) : Type 0 where

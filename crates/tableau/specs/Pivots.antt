@@ -37,7 +37,8 @@ pub record OverflowsQuotients (es : List (Entry Number)) (d : Number) (o : Overf
   pub wide : Overflows divided entry.coefficient d o
 
 -- The entering variable is replaced in a row with its coefficient c, in which an operation comes to the overflow o.
-pub data OverflowsRow (p : definitions.Pivot Number) (c : Number) (es : List (Entry Number)) (o : Overflow) : Type 0 where
+pub data OverflowsRow (p : definitions.Pivot Number) (c : Number) (es : List (Entry Number))
+    (o : Overflow) : Type 0 where
   -- the coefficient of the leaving variable
   in_leaving : Overflows multiplied c p.factor o → OverflowsRow p c es o
   -- those of the others

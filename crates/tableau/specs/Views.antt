@@ -1,5 +1,6 @@
 -- A tableau as contracts see it: how many variables, the rows as they were added, and the rows in solved form.
-use Rattle.std.specs.Prelude.{◌≡◌, ◌↔◌, ◌<◌, ◌==◌, ℕ, suc, true, false, Option, Some, None, List, [], ◌∷◌, ◌++◌, cond, length, get_or, slice_index_or, Contains}
+use Rattle.std.specs.Prelude.{◌≡◌, ◌↔◌, ◌<◌, ◌==◌, ℕ, suc, true, false, Option, Some, None, List, [], ◌∷◌, ◌++◌, cond}
+use Rattle.std.specs.Prelude.{length, get_or, slice_index_or, Contains}
 use Rattle.spec_numbers.specs.Bounds.{Overflow}
 use Rattle.spec_tableaux.specs.Spaces.{as_space}
 use Rattle.spec_tableaux.specs.Rows.{Entry, Row, coefficient_of, is_basic, exchanged, with_row, Solves}

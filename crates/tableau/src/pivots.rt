@@ -122,7 +122,8 @@ fn substituted(
     requires there { numbers.is_zero (number_of c) ≡ false }
     ensures ok { IfOk result (λ v. entries_of v.items
         ≡ definitions.substituted numbers (pivot_meant pivot.now) (number_of c) (entries_of entries.now)) }
-    ensures wide { IfErr result (OnRowOverflow (OverflowsRow (pivot_meant pivot.now) (number_of c) (entries_of entries.now))) }
+    ensures wide { IfErr result (OnRowOverflow (OverflowsRow (pivot_meant pivot.now) (number_of c)
+        (entries_of entries.now))) }
 {
     let scaled = product(c, pivot.factor)?;
     let rest = without(alloc, entries, pivot.entering)?;

@@ -62,7 +62,8 @@ fn merge_one<'a>(
     ensures tidy { IfOk result (λ r. (at : ℕ) × IsTidy numbers at (entries_of r.0.now)) }
     ensures shrinks { IfOk result (λ r. Shrinks es.now r.0.now r.1) }
     ensures left { IfOk result (λ r. IsLeft (entries_of es.now) (entries_of r.0.now)) }
-    ensures wide { IfErr result (OnRowOverflow (OverflowsCombined minus (entries_of es.now) (number_of k) (entry_of g ∷ []))) }
+    ensures wide { IfErr result (OnRowOverflow (OverflowsCombined minus (entries_of es.now) (number_of k) (entry_of g
+        ∷ []))) }
 {
     let Some((e, rest)) = es.split_first() else {
         append(
@@ -100,7 +101,8 @@ pub(crate) fn merge(
     requires gs_tidy { IsTidy numbers 0 (entries_of gs.now) }
     ensures ok { IfOk result (λ v. entries_of v.items
         ≡ combined minus (entries_of es.now) (number_of k) (entries_of gs.now)) }
-    ensures wide { IfErr result (OnRowOverflow (OverflowsCombined minus (entries_of es.now) (number_of k) (entries_of gs.now))) }
+    ensures wide { IfErr result (OnRowOverflow (OverflowsCombined minus (entries_of es.now) (number_of k)
+        (entries_of gs.now))) }
 {
     let mut out = Vec::new(alloc);
     let mut left = es;

@@ -1,5 +1,6 @@
 -- Numbers that are marked.
-use Rattle.std.specs.Prelude.{◌≡◌, ◌⊎◌, ℕ, ◌<◌, ◌≤◌, Bool, true, false, List, [], ◌∷◌, length, map, All, Contains, slice_index_or}
+use Rattle.std.specs.Prelude.{◌≡◌, ◌⊎◌, ℕ, ◌<◌, ◌≤◌, Bool, true, false, List, [], ◌∷◌, length, map, All, Contains}
+use Rattle.std.specs.Prelude.{slice_index_or}
 use Rattle.spec_sorts.specs.Terms.{Term, no_term}
 use Rattle.spec_sorts.specs.Subterms.{subterms_of}
 use Rattle.spec_sorts.specs.Subsets.{AreAmong, AreOnce}
@@ -44,6 +45,7 @@ pub record AreMarked (marks : List Bool) (ids : List TermId) : Type 0 where
   -- each is within the marks
   pub below : All (λ id. id.0 < length marks) ids
   -- their terms are the marked ones
-  pub terms : (ts : List Term) → length marks ≤ length ts → map (λ id. slice_index_or ts id.0 no_term) ids ≡ marked marks ts
+  pub terms : (ts : List Term) → length marks ≤ length ts → map (λ id. slice_index_or ts id.0 no_term) ids
+      ≡ marked marks ts
   -- a later number is greater
   pub rising : AreRising ids

@@ -44,7 +44,8 @@ pub record ComesBefore (t : TableView) (id front : TermId) : Type 0 where
   pub first : IsFormulaIn t front
 
 -- The numbers are those of these clauses, in their order.
-pub record StatesClauses (t : TableView) (log : List Logged) (steps : List StepId) (clauses : List Clause) : Type 0 where
+pub record StatesClauses (t : TableView) (log : List Logged) (steps : List StepId) (clauses : List Clause) : Type
+    0 where
   -- each is a number of the log
   pub there : All (λ s. s.0 < length log) steps
   -- the clauses
@@ -75,7 +76,8 @@ listed_steps t log steps = record { table = t; log = log; steps = steps }
 -- These clauses came into the log, and their numbers are after those that were there.
 pub record Tells (old new : Listed) (clauses : List Clause) : Type 0 where
   -- what the numbers say
-  pub says : (said : List Clause) → StatesClauses old.table old.log old.steps said → StatesClauses new.table new.log new.steps (said ++ clauses)
+  pub says : (said : List Clause) → StatesClauses old.table old.log old.steps said
+      → StatesClauses new.table new.log new.steps (said ++ clauses)
   -- nothing came that has no number among them
   pub made : ListsMade old.log new.log old.steps new.steps
 
@@ -133,4 +135,5 @@ pub record AreRulesOf (head : NodeHead) (list : List Rule) : Type 0 where
   -- the head takes the arguments that are named
   pub places : AllByRecursion (λ rule. HasPlaces (arity head) (scheme_by rule).rest) list
   -- the clauses of a term with that head are theirs
-  pub whole : (t : TableView) (ts : Terms) → clauses_in (app (head_meant t head) ts) list ≡ clauses_of (app (head_meant t head) ts)
+  pub whole : (t : TableView) (ts : Terms) → clauses_in (app (head_meant t head) ts) list
+      ≡ clauses_of (app (head_meant t head) ts)

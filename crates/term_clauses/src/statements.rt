@@ -178,7 +178,8 @@ fn state_any(
     ensures grows { Grows [] table.old table.new log.old log.new }
     ensures tells { OnOk result (Tells (listed_steps table.old log.old steps.old.items)
         (listed_steps table.new log.new steps.new.items)
-        (before (term_at table.old front) (map (λ u. signed_term positive u ∷ []) (arguments_of (term_at table.old id))))) }
+        (before (term_at table.old front)
+        (map (λ u. signed_term positive u ∷ []) (arguments_of (term_at table.old id))))) }
 {
     let count = argument_count(table, id);
     'places: for place in 0..count {

@@ -1,5 +1,6 @@
 -- Sorts and symbols by their numbers.
-use Rattle.std.specs.Prelude.{◌≡◌, ◌<◌, List, [], ◌∷◌, length, map, All, slice_index_or, Option, Some, None, if◌then◌else◌, refl}
+use Rattle.std.specs.Prelude.{◌≡◌, ◌<◌, List, [], ◌∷◌, length, map, All, slice_index_or, Option, Some, None}
+use Rattle.std.specs.Prelude.{if◌then◌else◌, refl}
 use Rattle.std.specs.Coded.{Coded, code_by, coded×, coded_list}
 use Rattle.std.specs.Str.{bytes_eq}
 use Rattle.spec_text.specs.Bytes.{Name}
@@ -8,7 +9,8 @@ use Rattle.spec_sorts.specs.TermCodes.{name_code, symbol_code}
 use Rattle.term_core.specs.declared.ids.SymbolId.{SymbolId}
 use Rattle.term_core.specs.declared.ids.SortId.{SortId}
 use Rattle.term_core.specs.declared.sorts.Sort.{Sort as TableSort}
-use Rattle.term_core.specs.declared.sorts.Sort.TheVariants.{Bool as bool_sort, Real as real_sort, Declared as declared_sort}
+use Rattle.term_core.specs.declared.sorts.Sort.TheVariants.{Bool as bool_sort, Real as real_sort}
+use Rattle.term_core.specs.declared.sorts.Sort.TheVariants.{Declared as declared_sort}
 use Rattle.term_core.specs.declared.sorts.Rank.{Rank}
 use Rattle.term_core.specs.NameLists.{HaveNoTwice}
 
@@ -21,7 +23,8 @@ pub record SymbolsView : Type 0 where
 
 -- they differ where their sorts or symbols do
 abbrev pub symbols_code : Coded SymbolsView
-symbols_code = code_by (List Name × List Symbol) (coded× (coded_list name_code) (coded_list symbol_code)) (λ v. (v.sorts, v.symbols)) (λ p. record { sorts = p.0; symbols = p.1 }) (λ _. refl)
+symbols_code = code_by (List Name × List Symbol) (coded× (coded_list name_code) (coded_list symbol_code))
+    (λ v. (v.sorts, v.symbols)) (λ p. record { sorts = p.0; symbols = p.1 }) (λ _. refl)
 
 -- the name of a number among sorts
 abbrev pub sort_name : List Name → SortId → Name
@@ -73,7 +76,11 @@ names_of symbols = map (λ s. s.name) symbols
 
 -- a symbol of a name, with the sorts of the code's words
 abbrev pub symbol_of : List Name → Name → List TableSort → TableSort → Symbol
-symbol_of sorts n parameters result = record { name = n; parameters = sorts_meant sorts parameters; result = sort_meant sorts result }
+symbol_of sorts n parameters result = record {
+  name = n;
+  parameters = sorts_meant sorts parameters;
+  result = sort_meant sorts result;
+}
 
 -- names with their ranks, in order
 abbrev pub symbols_of : List Name → List Name → List Rank → List Symbol

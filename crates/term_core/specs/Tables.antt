@@ -2,7 +2,9 @@
 use Rattle.std.specs.Prelude.{◌≡◌, ℕ, ◌<◌, Bool, true, ◌++◌, ◌∷◌, List, [], length, map, All, slice_index_or, refl}
 use Rattle.std.specs.Coded.{Coded, code_by, coded×, coded_list}
 use Rattle.spec_text.specs.Bytes.{Name}
-use Rattle.spec_sorts.specs.Terms.{Sort, Symbol, Head, True, False, Not, And, Or, Xor, Implies, Equal, Ite, Minus, Plus, Times, Divide, Less, AtMost, Literal, Apply, Parameter, Term, no_term, of, sort_of, has_parameter, head_takes}
+use Rattle.spec_sorts.specs.Terms.{Sort, Symbol, Head, True, False, Not, And, Or, Xor, Implies, Equal, Ite, Minus, Plus}
+use Rattle.spec_sorts.specs.Terms.{Times, Divide, Less, AtMost, Literal, Apply, Parameter, Term, no_term, of, sort_of}
+use Rattle.spec_sorts.specs.Terms.{has_parameter, head_takes}
 use Rattle.spec_sorts.specs.TermCodes.{name_code, symbol_code, term_code}
 use Rattle.spec_sorts.specs.Literals.{Clause, Literal as TermLiteral}
 use Rattle.ratio128.specs.Meant.{fraction}
@@ -25,7 +27,9 @@ pub record TableView : Type 0 where
 
 -- tables differ where their sorts, symbols or terms do
 abbrev pub table_code : Coded TableView
-table_code = code_by (List Name × (List Symbol × List Term)) (coded× (coded_list name_code) (coded× (coded_list symbol_code) (coded_list term_code))) (λ t. (t.sorts, (t.symbols, t.terms))) (λ p. record { sorts = p.0; symbols = p.1.0; terms = p.1.1 }) (λ _. refl)
+table_code = code_by (List Name × (List Symbol × List Term))
+    (coded× (coded_list name_code) (coded× (coded_list symbol_code) (coded_list term_code)))
+    (λ t. (t.sorts, (t.symbols, t.terms))) (λ p. record { sorts = p.0; symbols = p.1.0; terms = p.1.1 }) (λ _. refl)
 
 -- the sorts and symbols of a table
 abbrev pub declared_in : TableView → SymbolsView

@@ -1,7 +1,8 @@
 -- The heads of theories Core and Reals by their names. Source: SMT-LIB 2.6, theories Core and Reals.
 use Rattle.std.specs.Prelude.{Option, Some, None, codes}
 use Rattle.spec_text.specs.Bytes.{Name}
-use Rattle.spec_sorts.specs.Terms.{True, False, Not, And, Or, Xor, Implies, Equal, Ite, Minus, Plus, Times, Divide, Less, AtMost, no_term}
+use Rattle.spec_sorts.specs.Terms.{True, False, Not, And, Or, Xor, Implies, Equal, Ite, Minus, Plus, Times, Divide}
+use Rattle.spec_sorts.specs.Terms.{Less, AtMost, no_term}
 use Rattle.spec_sorts.specs.HeadNames.{head_name}
 use Rattle.spec_sorts.specs.Theory.{Rule, look_up, theory, exactly, alike}
 use Rattle.term_core.specs.declared.theory_heads.TheoryHead.{TheoryHead}

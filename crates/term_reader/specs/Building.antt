@@ -1,6 +1,7 @@
 -- Terms that are put into a table.
 use Rattle.std.specs.Prelude.{◌≡◌, List, All, Result, Ok, Err}
-use Rattle.spec_sorts.specs.Terms.{Sort, Truth, Number, Head, Xor, Implies, Equal, Minus, Divide, Less, AtMost, Term, pair, sort_of}
+use Rattle.spec_sorts.specs.Terms.{Sort, Truth, Number, Head, Xor, Implies, Equal, Minus, Divide, Less, AtMost, Term}
+use Rattle.spec_sorts.specs.Terms.{pair, sort_of}
 use Rattle.spec_sorts.specs.Theory.{unequal, turned}
 use Rattle.no_memory.specs.declared.NoMemory.{NoMemory}
 use Rattle.term_core.specs.declared.ids.TermId.{TermId}

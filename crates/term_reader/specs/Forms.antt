@@ -5,7 +5,8 @@ use Rattle.spec_text.specs.declared.Kind.TheVariants.{Keyword}
 use Rattle.spec_text.specs.Trees.{Tree, atom, list}
 use Rattle.spec_text.specs.Bytes.{Name}
 use Rattle.spec_text.specs.Shapes.{Word, ◌>>=◌, inside_of, first_word, only_tree, passes, only_if}
-use Rattle.spec_sorts.specs.Forms.{Form, malformed, reserved, applies, binds, annotates, is_name, Next, a_keyword, a_value, a_name, after_keyword}
+use Rattle.spec_sorts.specs.Forms.{Form, malformed, reserved, applies, binds, annotates, is_name, Next, a_keyword}
+use Rattle.spec_sorts.specs.Forms.{a_value, a_name, after_keyword}
 use Rattle.smt_sexpr.specs.declared.items.Trees.{Trees as Cursor}
 use Rattle.smt_sexpr.specs.declared.shapes.Word as code
 use Rattle.smt_sexpr.specs.Items.{tree_meant}
@@ -35,7 +36,8 @@ word_tree x = (word_view x.0, tree_meant x.1)
 
 -- a list of a name and one tree more
 unfoldable pub binding_in : Tree → Option (Word × Tree)
-binding_in t = inside_of t >>= λ l. first_word l.1 >>= λ w. only_tree w.1 >>= λ value. passes (is_name w.0.kind) >>= λ named. Some (w.0, value)
+binding_in t = inside_of t >>= λ l. first_word l.1 >>= λ w. only_tree w.1 >>= λ value. passes (is_name w.0.kind)
+    >>= λ named. Some (w.0, value)
 
 -- what may come after an atom
 abbrev pub after_atom : Next → Kind → Name → Option Next

@@ -1,5 +1,6 @@
 -- Names that hide each other, by the numbers of those that were met.
-use Rattle.std.specs.Prelude.{◌≡◌, ℕ, zero, suc, ◌<◌, ◌⊎◌, Bool, true, false, List, [], ◌∷◌, ◌++◌, length, take, map, All, get_or, slice_index_or, ◌==◌}
+use Rattle.std.specs.Prelude.{◌≡◌, ℕ, zero, suc, ◌<◌, ◌⊎◌, Bool, true, false, List, [], ◌∷◌, ◌++◌, length, take, map}
+use Rattle.std.specs.Prelude.{All, get_or, slice_index_or, ◌==◌}
 use Rattle.spec_text.specs.Bytes.{Name}
 use Rattle.term_reader.specs.declared.name_stack.NameEntry.{NameEntry}
 
@@ -35,7 +36,8 @@ pub record IsStack (met : List Name) (latest : List ℕ) (places : List NameEntr
   -- the latest place of each name
   pub each : (k : ℕ) → k < length met → slice_index_or latest k 0 ≡ latest_of k (numbers_in places)
   -- and before each of its places
-  pub hidden : (k : ℕ) → k < length places → (get_or places k no_place).hidden ≡ latest_of (get_or places k no_place).number (take k (numbers_in places))
+  pub hidden : (k : ℕ) → k < length places → (get_or places k no_place).hidden
+      ≡ latest_of (get_or places k no_place).number (take k (numbers_in places))
 
 -- The latest place of a name.
 pub record IsLatest (names : List Name) (n : Name) (k : ℕ) : Type 0 where

@@ -12,4 +12,5 @@ are_wide whole places = nat_le (2 ^ 127) (number_after 0 (whole ++ places)) || n
 -- the number that they write, or none where they are too wide
 abbrev pub IsNumber : Option Ratio → (whole places : List ℕ) → Type 0
 IsNumber None whole places = are_wide whole places ≡ true
-IsNumber (Some q) whole places = (are_wide whole places ≡ false) × (fraction q ≡ lowest (pos (number_after 0 (whole ++ places))) (10 ^ length places))
+IsNumber (Some q) whole places = (are_wide whole places ≡ false)
+    × (fraction q ≡ lowest (pos (number_after 0 (whole ++ places))) (10 ^ length places))

@@ -26,7 +26,8 @@ pub record ScopeView : Type 0 where
   pub functions : List Function
 
 -- As many sorts and functions as names.
-pub record IsScope (sort_names : List Name) (sorts : List TableSort) (names : List Name) (functions : List Function) : Type 0 where
+pub record IsScope (sort_names : List Name) (sorts : List TableSort) (names : List Name)
+    (functions : List Function) : Type 0 where
   -- a sort for each name
   pub each_sort : length sort_names ≡ length sorts
   -- a function for each name

@@ -14,7 +14,8 @@ use spec_text::Fault;
 use term_core::Sort;
 
 fn sort_named(scope: &Scope, at: u64, name: &[u8]) -> Result<Sort, TermFault>
-    ensures { (t : TableView) (s : Signature) → ScopeMeans t scope.now s → IsSortOf t (sort_named s at name.now) result }
+    ensures { (t : TableView) (s : Signature) → ScopeMeans t scope.now s
+        → IsSortOf t (sort_named s at name.now) result }
 {
     if same_bytes(name, b"Bool") {
         return Ok(Sort::Bool);

@@ -30,4 +30,5 @@ IsKnownNamed sorts (known.Wide w) = Unit {0}
 
 -- under an interpretation, this is what is to be known of the first terms of an order
 abbrev pub AreKnownValues : TableView → Interpretation → List ℕ → List KnownValue → Type 0
-AreKnownValues t i order ks = (j : ℕ) (d : KnownValue) → j < length ks → known_meant t.sorts (get_or ks j d) ≡ bounded_value i [] (number_term t (get_or order j 0))
+AreKnownValues t i order ks = (j : ℕ) (d : KnownValue) → j < length ks → known_meant t.sorts (get_or ks j d)
+    ≡ bounded_value i [] (number_term t (get_or order j 0))

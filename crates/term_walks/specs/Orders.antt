@@ -49,11 +49,13 @@ pub record IsOrder (t : TableView) (root : ℕ) (order : List ℕ) : Type 0 wher
   -- they are numbers of the table
   pub there : (k : ℕ) → In k order → k < length t.terms
   -- the arguments of each of the terms are among them, with smaller numbers
-  pub closed : (k : ℕ) (u : Term) → In k order → Contains (arguments_of (number_term t k)) u → (a : ℕ) × In a order × (a < k) × (number_term t a ≡ u)
+  pub closed : (k : ℕ) (u : Term) → In k order → Contains (arguments_of (number_term t k)) u → (a : ℕ) × In a order
+      × (a < k) × (number_term t a ≡ u)
   -- the term is among them
   pub root_there : In root order
   -- what fills the parameters of the term fills theirs
-  pub filled : (ts : List Term) → FillsAll ts (number_term t root) → (k : ℕ) → In k order → FillsAll ts (number_term t k)
+  pub filled : (ts : List Term) → FillsAll ts (number_term t root) → (k : ℕ) → In k order
+      → FillsAll ts (number_term t k)
 
 -- the number is among the first so many
 abbrev pub StandsBefore : List ℕ → ℕ → ℕ → Type 0
@@ -61,4 +63,5 @@ StandsBefore order count n = (j : ℕ) × (j < count) × (j < length order) × (
 
 -- each argument of the number's term is among the first so many
 abbrev pub HasArgumentsBefore : TableView → List ℕ → ℕ → ℕ → Type 0
-HasArgumentsBefore t order count k = (u : Term) → Contains (arguments_of (number_term t k)) u → (j : ℕ) × (j < count) × (j < length order) × (get_or order j 0 < length t.terms) × (number_term t (get_or order j 0) ≡ u)
+HasArgumentsBefore t order count k = (u : Term) → Contains (arguments_of (number_term t k)) u → (j : ℕ) × (j < count)
+    × (j < length order) × (get_or order j 0 < length t.terms) × (number_term t (get_or order j 0) ≡ u)

@@ -79,7 +79,8 @@ pub record IsTableNamed (sorts : List Name) (t : CodeTable) : Type 0 where
 
 -- an interpretation has, under each symbol's name, the table of the symbol's number
 abbrev pub HasSymbolTables : TableView → Interp → Interpretation → Type 0
-HasSymbolTables t interp i = (s : SymbolId) → IsSymbol t.symbols s → i.table (symbol_at t.symbols s).name ≡ slice_index_or (tables_meant t.sorts interp) s.0 no_table
+HasSymbolTables t interp i = (s : SymbolId) → IsSymbol t.symbols s → i.table (symbol_at t.symbols s).name
+    ≡ slice_index_or (tables_meant t.sorts interp) s.0 no_table
 
 -- Tables for the symbols of a table of terms.
 pub record HasTables (t : TableView) (interp : Interp) : Type 0 where

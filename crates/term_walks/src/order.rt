@@ -31,7 +31,8 @@ pub fn order_of(alloc: Global, table: &TermTable, root: TermId) -> Result<Vec<u6
 /// Puts the arguments of a term among those that wait.
 fn add_arguments(waiting: &mut BTreeSet<u64>, table: &TermTable, id: TermId) -> Result<(), NoMemory>
     requires { IsIn table.now id }
-    ensures { OnOk result ((ids : List ℕ) × NamesArguments table.now id.0 ids × AddsNumbers waiting.old.keys ids waiting.new.keys) }
+    ensures { OnOk result ((ids : List ℕ) × NamesArguments table.now id.0 ids
+        × AddsNumbers waiting.old.keys ids waiting.new.keys) }
 {
     add_all(waiting, table.node(id).arguments.as_slice())
 }

@@ -1,5 +1,6 @@
 -- Lists of numbers by literals, and what the calls do to them.
-use Rattle.std.specs.Prelude.{◌≡◌, ◌≢◌, ◌+◌, ◌*◌, ◌<◌, nat_lt, ℕ, Bool, true, false, List, [], ◌∷◌, ◌++◌, length, replicate, get_or}
+use Rattle.std.specs.Prelude.{◌≡◌, ◌≢◌, ◌+◌, ◌*◌, ◌<◌, nat_lt, ℕ, Bool, true, false, List, [], ◌∷◌, ◌++◌, length}
+use Rattle.std.specs.Prelude.{replicate, get_or}
 use Rattle.std.specs.List.{swap_remove, filter}
 use Rattle.term_core.specs.declared.ids.Lit.{Lit}
 

@@ -33,7 +33,8 @@ buffered sink bytes = record {
   room = room_left sink.room (length bytes);
 }
 
--- what waited in a buffer was written to its sink, all of it; or some still waits, and what is known of both stays the same
+-- what waited in a buffer was written to its sink, all of it; or some still waits, and what is known of both stays the
+-- same
 abbrev pub PassesOn : List ℕ → Result (Unit {0}) Failed → SinkView → List ℕ → SinkView → Type 0
 PassesOn bytes (Ok _) old left new = (left ≡ []) × Sent bytes old new
 PassesOn bytes (Err _) old left new = NotFlushed (buffered old bytes) (buffered new left)

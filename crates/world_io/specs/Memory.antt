@@ -1,5 +1,6 @@
 -- What a shelf and a sink in memory hold.
-use Rattle.std.specs.Prelude.{◌≡◌, ℕ, zero, suc, ◌+◌, ◌-◌, ◌^◌, ◌<◌, ◌⊎◌, List, [], ◌∷◌, ◌++◌, length, take, drop, min, Contains, Option, Some, None, Result, Ok, Err, if◌then◌else◌, string_bytes, String}
+use Rattle.std.specs.Prelude.{◌≡◌, ℕ, zero, suc, ◌+◌, ◌-◌, ◌^◌, ◌<◌, ◌⊎◌, List, [], ◌∷◌, ◌++◌, length, take, drop, min}
+use Rattle.std.specs.Prelude.{Contains, Option, Some, None, Result, Ok, Err, if◌then◌else◌, string_bytes, String}
 use Rattle.std.specs.Str.{bytes_eq}
 use Rattle.world_io.specs.declared.bytes.Bytes.{Bytes}
 use Rattle.world_io.specs.Outside.{Rose}
@@ -30,7 +31,8 @@ text_at [] k = []
 text_at (t ∷ ts) zero = t.1
 text_at (t ∷ ts) (suc k) = text_at ts k
 
--- a shelf: its texts, what is left of the one begun, the most bytes of a read, the numbers of the calls that are to fail,
+-- a shelf: its texts, what is left of the one begun, the most bytes of a read, the numbers of the calls that are to
+-- fail,
 -- how many calls came, and how many of them failed
 pub record ShelfState : Type 0 where
   -- the texts, each with its name
@@ -46,7 +48,8 @@ pub record ShelfState : Type 0 where
   -- how many of them failed
   pub faults : ℕ
 
--- a sink: what was written, for how many bytes there is room, the most bytes of a write, the numbers of the writes that are
+-- a sink: what was written, for how many bytes there is room, the most bytes of a write, the numbers of the writes that
+-- are
 -- to fail, how many writes came, and how many of them failed
 pub record SinkState : Type 0 where
   -- what was written
@@ -70,7 +73,12 @@ promised (k ∷ ks) most room = None
 
 -- a sink in memory as contracts over all sinks see it: nothing waits
 abbrev pub seen_sink : SinkState → SinkView
-seen_sink s = record { known = Some s.written; faults = s.faults; pending = []; room = promised s.failing s.most s.room }
+seen_sink s = record {
+  known = Some s.written;
+  faults = s.faults;
+  pending = [];
+  room = promised s.failing s.most s.room;
+}
 
 -- one more; at the greatest number of 64 bits it stays
 abbrev pub next_number : ℕ → ℕ
@@ -86,15 +94,26 @@ sink_failed s = record s { calls = next_number s.calls; faults = next_number s.f
 
 -- `begin` of a name, its answer, and the shelf after it
 abbrev pub BeginsText : ShelfState → List ℕ → Result (Unit {0}) Failed → ShelfState → Type 0
-BeginsText old name (Ok u) new = (Contains old.failing old.calls → ⊥) × (text_named old.texts name ≡ Some new.left) × (new ≡ record old { left = new.left; calls = next_number old.calls })
-BeginsText old name (Err e) new = (Contains old.failing old.calls ⊎ (text_named old.texts name ≡ None)) × Rose old.faults new.faults × (new ≡ shelf_failed old)
+BeginsText old name (Ok u) new = (Contains old.failing old.calls → ⊥) × (text_named old.texts name ≡ Some new.left)
+    × (new ≡ record old { left = new.left; calls = next_number old.calls })
+BeginsText old name (Err e) new = (Contains old.failing old.calls ⊎ (text_named old.texts name ≡ None))
+    × Rose old.faults new.faults × (new ≡ shelf_failed old)
 
 -- `read` into a buffer of so many bytes, what the buffer then holds, the answer, and the shelf after it
 abbrev pub ReadsShelf : ShelfState → ℕ → List ℕ → Result ℕ Failed → ShelfState → Type 0
-ReadsShelf old size got (Ok n) new = (Contains old.failing old.calls → ⊥) × (0 < old.most) × (n ≡ min (min (length old.left) size) old.most) × (take n got ≡ take n old.left) × (new ≡ record old { left = drop n old.left; calls = next_number old.calls })
-ReadsShelf old size got (Err e) new = (Contains old.failing old.calls ⊎ (old.most ≡ 0)) × Rose old.faults new.faults × (new ≡ shelf_failed old)
+ReadsShelf old size got (Ok n) new = (Contains old.failing old.calls → ⊥) × (0 < old.most)
+    × (n ≡ min (min (length old.left) size) old.most) × (take n got ≡ take n old.left)
+    × (new ≡ record old { left = drop n old.left; calls = next_number old.calls })
+ReadsShelf old size got (Err e) new = (Contains old.failing old.calls ⊎ (old.most ≡ 0)) × Rose old.faults new.faults
+    × (new ≡ shelf_failed old)
 
 -- `write` of a piece, its answer, and the sink after it
 abbrev pub Writes : SinkState → List ℕ → Result ℕ Failed → SinkState → Type 0
-Writes old piece (Ok n) new = (Contains old.failing old.calls → ⊥) × (n ≡ min (min (length piece) old.most) old.room) × (n ≡ 0 → piece ≡ []) × (new ≡ record old { written = old.written ++ take n piece; room = old.room - n; calls = next_number old.calls })
-Writes old piece (Err e) new = (Contains old.failing old.calls ⊎ ((0 < length piece) × (min old.most old.room ≡ 0))) × Rose old.faults new.faults × (new ≡ sink_failed old)
+Writes old piece (Ok n) new = (Contains old.failing old.calls → ⊥) × (n ≡ min (min (length piece) old.most) old.room)
+    × (n ≡ 0 → piece ≡ []) × (new ≡ record old {
+      written = old.written ++ take n piece;
+      room = old.room - n;
+      calls = next_number old.calls;
+    })
+Writes old piece (Err e) new = (Contains old.failing old.calls ⊎ ((0 < length piece) × (min old.most old.room ≡ 0)))
+    × Rose old.faults new.faults × (new ≡ sink_failed old)

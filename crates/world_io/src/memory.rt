@@ -53,7 +53,14 @@ impl MemShelf {
     ) -> Result<MemShelf, NoMemory>
         ensures made { IsOk result }
         ensures state { IfOk result (λ s. s
-            ≡ record { texts = map text_of texts.items; left = []; most = most; failing = failing.items; calls = 0; faults = 0 }) }
+            ≡ record {
+              texts = map text_of texts.items;
+              left = [];
+              most = most;
+              failing = failing.items;
+              calls = 0;
+              faults = 0;
+            }) }
     {
         let current = texts.len();
         Ok(MemShelf {
