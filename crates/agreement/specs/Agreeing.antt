@@ -28,7 +28,7 @@ Agree xs = (x y : Shared) → Contains xs x → Contains xs y → Concur x y
 
 -- Two of the terms are these, and the theories do not agree on them.
 pub record IsDifferingPair (xs : List Shared) (s t : TermId) : Type 0 where
-  -- what is said of the first
+  -- what is stated of the first
   pub one : Shared
   pub one_in : Contains xs one
   pub one_is : s ≡ one.term

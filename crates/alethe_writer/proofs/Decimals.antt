@@ -70,7 +70,7 @@ behind (suc k) m ds some e =
     let long : length ds - 1 ≡ length (last_digits (suc k) m) = omega (arith, ap length e) in
     ap (λ xs. 46 ∷ xs) (append-nil (take (length ds - 1) (drop 1 ds)) ∙ (λ i. take (long i) (rest i)) ∙ take-length (last_digits (suc k) m))
 
--- where a power leaves no rest, a number by its parts is in units of its last place
+-- where a power leaves no remainder, a number by its parts is in units of its last place
 pub units_are : (n p d : ℕ) → p % d ≡ 0 → n * (p / d) ≡ n * p / d
 units_are n p d e = sym (mul-div_assoc d n (dvd_of_mod-eq-zero d e))
 

@@ -1,4 +1,4 @@
-//! Prints what a clause of a log over the whole language rests on as an Alethe proof.
+//! Prints what a clause of a log over the whole language depends on as an Alethe proof.
 #![tactic(auto)]
 
 mod arguments;

@@ -1,4 +1,4 @@
-//! Which clauses a clause rests on, and which terms are printed for them.
+//! Which clauses a clause depends on, and which terms are printed for them.
 
 ghost use Rattle.std.specs.Prelude.{◌≡◌, ℕ, ◌+◌, ◌<◌, ◌≤◌, length, All, IfOk, MatchBool};
 ghost use Rattle.term_core.specs.Tables.{TableView};
@@ -11,7 +11,7 @@ use proof_log::{ProofLog, StepId};
 use std::alloc::Global;
 use term_core::{TermId, TermTable};
 
-/// Marks the numbers of the clauses that a clause rests on, its own among them.
+/// Marks the numbers of the clauses that a clause depends on, its own among them.
 ///
 /// It goes from the greatest number down, since premises have smaller ones.
 pub(crate) fn rests_of(alloc: Global, log: &ProofLog, step: StepId) -> Result<Vec<bool>, NoMemory>
@@ -25,7 +25,7 @@ pub(crate) fn rests_of(alloc: Global, log: &ProofLog, step: StepId) -> Result<Ve
     Ok(marks)
 }
 
-/// Marks the clauses that a clause rests on, where nothing is marked.
+/// Marks the clauses that a clause depends on, where nothing is marked.
 fn mark_rests(log: &ProofLog, step: StepId, marks: &mut [bool])
     requires there { step.0 < length log.now }
     requires up_to { length marks.old ≡ step.0 + 1 }

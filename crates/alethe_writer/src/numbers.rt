@@ -54,7 +54,7 @@ pub(crate) fn write_fraction<K: Sink>(before: &[u8], q: Ratio, out: &mut K) -> R
     write_pieces(out, &[before, b"(/ ", num, b" ", den, b")"])
 }
 
-/// Counts the digits after the point of a number by its denominator: the least number of them, up to 38, at which it leaves no rest,
+/// Counts the digits after the point of a number by its denominator: the least number of them, up to 38, at which it leaves no remainder,
 /// with that power of ten.
 fn places_of(den: u128) -> (u32, u128)
     requires { 0 < den }

@@ -76,7 +76,7 @@ fn number_at(numbers: &[Option<u64>], place: u64) -> Option<u64>
     *numbers.get(place as usize)?
 }
 
-/// Prepares the printing of a clause of a log: of all that it rests on, and of the terms that this needs.
+/// Prepares the printing of a clause of a log: of all that it depends on, and of the terms that this needs.
 ///
 /// It takes time and memory in proportion to the clauses up to that one and to the table's terms.
 ///

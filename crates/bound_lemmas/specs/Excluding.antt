@@ -4,11 +4,11 @@ use Rattle.term_core.specs.declared.ids.Lit.{Lit}
 use Rattle.term_core.specs.Tables.{TableView}
 use Rattle.proof_log.specs.Theories.{TheoryView, IsAtomIn}
 
--- Nothing is held, and no mark stands.
+-- Nothing is held, and there is no mark.
 pub record IsIdle (v : TheoryView) : Type 0 where
   -- no literal is held
   pub held : v.held ≡ []
-  -- no mark stands
+  -- there is no mark
   pub marks : v.marks ≡ []
 
 -- A literal can be held: it is one of an atom that is watched.

@@ -80,7 +80,7 @@ alone_grown n more =
     range_follow 0 n more (length (range_with_len 0 n)) (zero_on ∙ sym long) in
     same_state both both (sym (replicate-append-replicate n more 1))
 
--- more terms are alone beside what merges make
+-- more terms are alone, next to what merges make
 pub terms_more : (n more : ℕ) (ms : List Merge) → AreJoins (alone n) ms
     → AreJoins (alone (n + more)) ms × (after_all (alone (n + more)) ms ≡ grown more (after_all (alone n) ms))
 terms_more n more ms j =

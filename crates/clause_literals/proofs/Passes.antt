@@ -33,7 +33,7 @@ to_unit premises seen old mid new c l false m c_in u e =
     let a = subst (λ (h : List Lit). Advances premises mid h) (sym e) (advances_one premises mid c l c_in u) in
     (subst (λ (h : List Lit). Advances premises h new) m.0 a, omega (arith, ap length m.0, ap length e, length_push mid l))
 
--- to a settled one
+-- to one from which nothing follows
 pub to_inert : (premises seen more : List (List Lit)) (old mid new c : List Lit) (b : Bool) → SoFar premises seen old mid b → new ≡ mid → PropagatesNothing mid c → more ≡ c ∷ seen → SoFar premises more old new b
 to_inert premises seen more old mid new c true m e s each = subst (λ (h : List Lit). Advances premises old h × (length old < length h)) (sym e) m
 to_inert premises seen more old mid new c false m e s each = (e ∙ m.0, λ d i. subst (λ (h : List Lit). PropagatesNothing h d) (sym e) (elim (cases c seen d (subst (λ (cs : List (List Lit)). Contains cs d) each i)) [ inl is ↦ subst (λ (x : List Lit). PropagatesNothing mid x) is s | inr was ↦ m.1 d was ]))

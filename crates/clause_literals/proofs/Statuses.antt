@@ -28,7 +28,7 @@ module _ (held : List Lit) (front : List Lit) (m : Lit) where
   false_more Unresolved here h = open_more h
   false_more Satisfied here h = touched_more h
 
-  -- one that holds settles it
+  -- one that holds satisfies it
   pub true_more : Contains held m → IsSatisfied held (front ++ m ∷ [])
   true_more h = record { literal = m; there = Contains-push front m; holds = h }
 

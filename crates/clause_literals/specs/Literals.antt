@@ -31,7 +31,7 @@ HasBoth ls = (l : Lit) × Contains ls l × Contains ls (lit_complement l)
 abbrev pub SameLits : List Lit → List Lit → Type 0
 SameLits xs ys = (l : Lit) → Contains xs l ↔ Contains ys l
 
--- no literal stands twice
+-- no literal occurs twice
 abbrev pub HasNoTwice : List Lit → Type 0
 HasNoTwice [] = ⊤
 HasNoTwice (l ∷ ls) = (Contains ls l → ⊥) × HasNoTwice ls

@@ -51,7 +51,7 @@ module _ (p : StoreParts) (t : TrailView) (w : IsAtWork p t) (list : List ℕ) (
         | inr e ↦ subst (λ (j : ℕ). Contains held (get_or p.watched.pairs.items j no_pair).first) (ap (λ (xs : List ℕ). get_or xs k 0) is ∙ e) (subst (Contains held) again_literal one)
       ]
 
-  -- where all of them hold, the clauses rest at no prefix
+  -- where all of them hold, the clauses are quiet at no prefix
   pub again_all : (k : ℕ) → length list ≤ k → (held : List Lit) → Hold held k → AreResting p.attached p.watched.pairs.items [] held
   again_all k le held h n lt = record {
     by_first = λ c. absurd (omega (arith, c.1));

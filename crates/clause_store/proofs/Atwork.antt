@@ -50,7 +50,7 @@ works_on p q r t u v g h = record {
   prefixes = λ F w x. h.prefixes F (λ l i. holds_on _ t u g.advances.0 l (w l i)) (g.prefixes F w x);
 }
 
--- the first pairs rest by what holds now
+-- the first pairs are quiet by what holds now
 pub resting_goes : (es : List StoredClause) (count : ℕ) (old new : Watched) (t u : TrailView) → PropagatesPart (bare es) count old.pairs.items new.pairs.items t u → (F : List Lit) → AreLiteralsAmong F t.literals → AreResting count old.pairs.items F t.literals → AreResting count new.pairs.items F u.literals
 resting_goes es count old new t u g F w h = resting_on count new.pairs.items F t.literals u.literals (holds_on (bare es) t u g.advances.0) (g.prefixes F t.literals w (λ l i. i) h)
 
@@ -166,11 +166,11 @@ adds_marked s t u v g e = record {
   vars = e.vars ∙ g.vars;
 }
 
--- a prefix that was there is left, and the pairs rest by it
+-- a prefix that was there is left, and the pairs are quiet by it
 pub rested_still : (p q : StoreParts) (t u : TrailView) (n : ℕ) → n ≤ length t.literals → WorksOn p q t u → AreResting p.attached p.watched.pairs.items (take n t.literals) t.literals → AreResting q.attached q.watched.pairs.items (take n u.literals) u.literals
 rested_still p q t u n le g h = subst (λ (F : List Lit). AreResting q.attached q.watched.pairs.items F u.literals) (sym (same_front (bare p.watched.entries.items) t u n g.advances.0 le))
     (g.prefixes (take n t.literals) (front_within n t.literals le) h)
 
--- where all rest, nothing follows
+-- where all are quiet, nothing follows
 pub quiet_by : (p : StoreParts) (t : TrailView) → IsAtWork p t → p.attached ≡ length p.watched.entries.items → AreResting p.attached p.watched.pairs.items t.literals t.literals → IsPropagated (clauses_of p.watched.entries.items) t.literals
 quiet_by p t w all h = quiet (clauses_of p.watched.entries.items) p.watched.pairs.items t.literals w.watched.pairs_by (λ n lt. w.attached.there n (omega (arith, lt, all, clause_count p.watched.entries.items))) (λ n lt. h n (omega (arith, lt, all, clause_count p.watched.entries.items)))

@@ -1,4 +1,4 @@
--- Where pairs rest, and what undoes no rest.
+-- Where pairs are quiet, and what keeps them so.
 use Rattle.std.proofs.Common.{◌≡◌, ◌≢◌, ℕ, ◌<◌, ◌≤◌, List, [], length, get_or, set, take, Contains, ◌⊎◌, inl, inr, refl, sym, ap, ◌∙◌, subst, arith}
 use Rattle.std.proofs.lemmas.Bool.{cases_eq}
 use Rattle.std.proofs.lemmas.List.{length-set, get_or-set_same, get_or-set_other, get_or_default, length-take-le, get_or-take}
@@ -14,7 +14,7 @@ use Rattle.clause_store.specs.Watching.{Has, IsPairOf, ArePairs, Rests, AreResti
 use Rattle.clause_store.proofs.Adding.{advances_none, advances_on, holds_on}
 use Rattle.clause_store.proofs.Indexing.{one_or_two}
 
--- ---- rest
+-- ---- quiet pairs
 
 -- more may hold
 pub rests_on : (front held more : List Lit) (p : Pair) → AreLiteralsAmong held more → Rests front held p → Rests front more p
@@ -29,7 +29,7 @@ front_within n held le l (i, lt, e) =
     let k : i < n = omega (arith, lt, length-take-le n held le) in
     (i, omega (arith, k, le), sym (get_or-take n held i l k) ∙ e)
 
--- where all rest by what holds, nothing follows
+-- where all are quiet by what holds, nothing follows
 pub quiet : (clauses : List (List Lit)) (pairs : List Pair) (held : List Lit) → ArePairs clauses pairs → ((n : ℕ) → n < length clauses → Contains (get_or clauses n []) (get_or pairs n no_pair).first)
     → AreResting (length clauses) pairs held held → IsPropagated clauses held
 quiet clauses pairs held ps there r c (n, lt, e) = subst (PropagatesNothing held) (get_or_default clauses n [] c lt ∙ e) (go (one_or_two p) (is_in held (lit_complement p.first)) (is_in held (lit_complement p.second)))

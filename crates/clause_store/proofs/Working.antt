@@ -78,7 +78,7 @@ below_last t rests level h rising le last r c i lt =
       | inr from ↦ let is : i ≡ last_of rests - 1 = omega (arith, from, lt, most) in omega (arith, top, ap (λ (j : ℕ). get_or t.levels j 0) is)
     ]
 
--- ---- prefixes at which the pairs rest
+-- ---- prefixes at which the pairs are quiet
 
 -- fewer prefixes
 pub rested_front : (new old : List ℕ) (count : ℕ) (pairs : List Pair) (most : ℕ) (held : List Lit) → IsPrefixOf new old → HaveRested old count pairs most held → HaveRested new count pairs most held

@@ -1,4 +1,4 @@
--- What a store holds, what propagation does to a trail, and how clauses are watched and rest.
+-- What a store holds, what propagation does to a trail, and how clauses are watched and quiet.
 pub mod Stores
 pub mod Entries
 pub mod Propagating

@@ -1,4 +1,4 @@
--- Prefixes of what was seen at which the clauses rest.
+-- Prefixes of what was seen at which the clauses are quiet.
 use Rattle.std.specs.Prelude.{◌≡◌, ◌+◌, ◌-◌, ◌<◌, ◌≤◌, ℕ, Bool, true, false, List, [], length, take, get_or, Contains}
 use Rattle.term_core.specs.declared.ids.Lit.{Lit}
 use Rattle.sat_trail.specs.Trails.{TrailView, HasSame}
@@ -22,13 +22,13 @@ store_of p = record {
 abbrev pub LengthsRise : List ℕ → Type 0
 LengthsRise rests = (i j : ℕ) → i < j → j < length rests → get_or rests i 0 ≤ get_or rests j 0
 
--- The first pairs rest by the prefixes of these lengths, which are no longer than one.
+-- The first pairs are quiet by the prefixes of these lengths, which are no longer than one.
 pub record HaveRested (rests : List ℕ) (count : ℕ) (pairs : List Pair) (most : ℕ) (held : List Lit) : Type 0 where
   -- they rise
   pub rising : LengthsRise rests
   -- none is longer
   pub within : (r : ℕ) → Contains rests r → r ≤ most
-  -- by each the pairs rest
+  -- by each the pairs are quiet
   pub rested : (r : ℕ) → Contains rests r → AreResting count pairs (take r held) (take r held)
 
 -- The first clauses were looked at: each has a literal, and those of one literal are in a list.
@@ -81,7 +81,7 @@ pub record WorksOn (old new : StoreParts) (before after : TrailView) : Type 0 wh
   pub entries : new.watched.entries.items ≡ old.watched.entries.items
   -- so is what was seen
   pub seen : new.seen.items ≡ old.seen.items
-  -- where the clauses that were looked at rested by what holds, they rest
+  -- where the clauses that were looked at were quiet by what holds, they are quiet
   pub prefixes : (F : List Lit) → AreLiteralsAmong F before.literals
       → AreResting old.attached old.watched.pairs.items F before.literals
       → AreResting new.attached new.watched.pairs.items F after.literals

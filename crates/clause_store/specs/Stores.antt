@@ -61,7 +61,7 @@ pub record AreWatchedBy (s : StoreView) (l : Lit) (list : List ℕ) : Type 0 whe
   pub there : (n : ℕ) → Contains list n → (n < length s.clauses)
       × IsWatchedTwice (get_or s.clauses n []) (get_or s.pairs n no_pair)
       × (((get_or s.pairs n no_pair).first ≡ l) ⊎ ((get_or s.pairs n no_pair).second ≡ l))
-  -- the number of each such clause stands once
+  -- the number of each such clause occurs once
   pub once : (n : ℕ) → n < length s.clauses → (get_or s.pairs n no_pair).first ≢ (get_or s.pairs n no_pair).second
       → ((get_or s.pairs n no_pair).first ≡ l) ⊎ ((get_or s.pairs n no_pair).second ≡ l) → tally n list ≡ 1
 

@@ -114,7 +114,7 @@ AreFalseBetween held clause from to other = (k : ℕ) (m : Lit) → from ≤ k �
     → m ≢ other
     → Contains held (lit_complement m)
 
--- at a place stands a literal that is not false, and not the other
+-- at a place is a literal that is not false, and not the other
 abbrev pub IsOpenAt : List Lit → List Lit → Lit → ℕ → Type 0
 IsOpenAt held clause other k = (k < length clause)
     × ((d : Lit) → IsOpenBut held clause other (slice_index_or clause k d))
@@ -177,7 +177,7 @@ pub record HaveSameShapes (old new : List Pair) : Type 0 where
   pub two : (n : ℕ) → (get_or old n no_pair).first ≢ (get_or old n no_pair).second
       → (get_or new n no_pair).first ≢ (get_or new n no_pair).second
 
--- What a part of propagation does to the trail and to the first pairs: it adds what is implied, and undoes no rest.
+-- What a part of propagation does to the trail and to the first pairs: it adds what is implied, and keeps quiet pairs.
 pub record PropagatesPart (s : StoreView) (count : ℕ) (old new : List Pair) (before after : TrailView) : Type 0 where
   -- literals are implied, and none is marked
   pub advances : Advances s before after
@@ -185,7 +185,7 @@ pub record PropagatesPart (s : StoreView) (count : ℕ) (old new : List Pair) (b
   pub paired : length new ≡ length old
   -- of one literal or of two
   pub shapes : HaveSameShapes old new
-  -- where the pairs rested, at whatever prefix of the literals, they rest
+  -- where the pairs were quiet, at whatever prefix of the literals, they are quiet
   pub prefixes : (F G : List Lit) → AreLiteralsAmong F before.literals → AreLiteralsAmong G before.literals
       → AreResting count old F G → AreResting count new F G
 
@@ -229,12 +229,12 @@ pub record IsRepaired (n : ℕ) (old new : List Pair) : Type 0 where
   -- it is of one literal or of two, as it was
   pub shapes : HaveSameShapes old new
 
--- A clause, looked at for the first time, rests: it has a literal, and is safe where its false one is none of the
+-- A clause, looked at for the first time, is quiet: it has a literal, and is safe where its false one is none of the
 -- prefix.
 pub record IsFresh (clause held : List Lit) (p : Pair) (Safe : ℕ → Type 0) : Type 0 where
   -- it has a literal
   pub there : Contains clause p.first
-  -- it rests by what holds now
+  -- it is quiet by what holds now
   pub now : (F : List Lit) → AreLiteralsAmong F held → Rests F held p
   -- and by each prefix that is safe
   pub prefixes : (r : ℕ) → r ≤ length held → Safe r → Rests (take r held) (take r held) p

@@ -127,7 +127,7 @@ fn keep_start(starts: &mut [usize], n: usize, at: usize) {
 
 /// Finds a literal of the clause of a number that is not false, and not this one.
 ///
-/// It looks from the place on at which it found the last one, which is kept by the clause's number, and then before it. What stands
+/// It looks from the place on at which it found the last one, which is kept by the clause's number, and then before it. What is
 /// before that place was false then, and often is so still.
 /// Source: Gent, Journal of Artificial Intelligence Research 48, 2013.
 pub(crate) fn next_open(

@@ -1,4 +1,4 @@
-//! What a store has in hand: clauses, and at which prefixes of what it saw they rest.
+//! What a store has in hand: clauses, and at which prefixes of what it saw they are quiet.
 
 ghost use Rattle.std.specs.Prelude.{◌≡◌, ◌+◌, ◌<◌, ◌≤◌, ◌⊎◌, [], ℕ, Contains, OnOk, OnErr, IfOk, MatchOption, length, take};
 ghost use Rattle.clause_store.specs.Entries.{clauses_of, bare};
@@ -14,7 +14,7 @@ use no_memory::NoMemory;
 use sat_trail::SatTrail;
 use term_core::Lit;
 
-/// Holds clauses, and at which prefixes of what was seen they rest: where one of two watched literals is false, the other holds.
+/// Holds clauses, and at which prefixes of what was seen they are quiet: where one of two watched literals is false, the other holds.
 #[derive(Drop)]
 pub(crate) struct StoreParts {
     /// The clauses.
@@ -25,7 +25,7 @@ pub(crate) struct StoreParts {
     pub(crate) short: Vec<usize>,
     /// What held when propagation was quiet last.
     pub(crate) seen: Vec<Lit>,
-    /// The lengths of prefixes of this at which those that were looked at rest, rising.
+    /// The lengths of prefixes of this at which those that were looked at are quiet, rising.
     pub(crate) rests: Vec<usize>,
 }
 

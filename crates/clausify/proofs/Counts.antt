@@ -9,7 +9,7 @@ use Rattle.spec_text.proofs.Members.{first, later, cases, none}
 use Rattle.spec_sorts.specs.Terms.{Term}
 use Rattle.spec_sorts.specs.Subsets.{AreAmong, AreOnce}
 
--- none stands twice
+-- none occurs twice
 abbrev IsOnce : List Term → Type 0
 IsOnce [] = Unit {0}
 IsOnce (x ∷ xs) = (Contains xs x → ⊥) × IsOnce xs

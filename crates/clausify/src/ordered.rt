@@ -1,4 +1,4 @@
-//! The terms that a search over linear arithmetic speaks of: beside those of any search, the orders of its equalities
+//! The terms that a search over linear arithmetic speaks of: besides those of any search, the orders of its equalities
 //! of numbers.
 
 ghost use Rattle.std.specs.Prelude.{◌≤◌, [], length, flat_map, All, IfOk, OnOk};

@@ -31,7 +31,7 @@ use term_clauses::statements::state_term;
 use term_core::{TermId, TermTable};
 
 /// Makes the clauses that a search for a term begins with, and lists the terms that they speak of: `clauses_of_all` for
-/// one term, with none beside it.
+/// one term alone.
 ///
 /// The term must be a formula, and the log one over the table. The equalities of the search, its orders, and negations
 /// that clauses need, come into the table.

@@ -10,7 +10,7 @@ use Rattle.proof_log.specs.declared.theory.Verdict.{Verdict}
 use Rattle.proof_log.specs.declared.theory.Verdict.TheVariants.{Fine, Clash}
 use Rattle.proof_log.specs.Theories.{TheoryView, Derived, terms_watched, literals_held, Checks}
 
--- what is said of watched terms and held literals
+-- what is stated of watched terms and held literals
 abbrev pub Claim : Type 1
 Claim = List Term → List Literal → Type 0
 

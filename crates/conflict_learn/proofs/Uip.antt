@@ -59,7 +59,7 @@ module _ (c : Conflict) (once : VariablesAreApart c.trail.literals) (leveled : I
       let same : k.0 ≡ p = same_place c.trail once k.0 p k.2 f.0 (ap (λ (l : Lit). l.term.0) k.3) in
       subst (λ (j : ℕ). j < q) same k.1
 
-  -- the conflict rests on what was met
+  -- the conflict depends on what was met
   pub met_needed : (from p : ℕ) → IsMet c from p → IsNeeded c (held_at c p)
   met_needed from _ (of_clash p f) = subst (IsNeeded c) (negation_twice (held_at c p)) (by_clash (lit_complement (held_at c p)) f.1)
   met_needed from _ (of_reason q r p le m e f) =
@@ -92,7 +92,7 @@ module _ (c : Conflict) (once : VariablesAreApart c.trail.literals) (leveled : I
   used_in_log from s (inr (inl h)) = (reasons h.place s.0 (met_within c from h.place h.met) h.reason).in_log
   used_in_log from s (inr (inr h)) = (reasons h.place s.0 (dropped_within c from h.place h.dropped) h.reason).in_log
 
-  -- the literals on which it rests are of no greater level than the conflict's
+  -- the literals on which it depends are of no greater level than the conflict's
   needed_level : (n : ℕ) → IsConflictLevel c n → (l : Lit) → IsNeeded c l → (p : ℕ) × (p < length held) × (held_at c p ≡ l) × (level_at c p ≤ n)
   needed_level n top _ (by_clash m has) =
       let k = place_of held (lit_complement m) (clash.fails m has) in

@@ -63,15 +63,15 @@ IsAboveZero c = (m : Lit) × (n : ℕ) × HasLit c.table c.log c.clash m × IsFa
 abbrev pub IsOfZero : Conflict → Type 0
 IsOfZero c = (m : Lit) (n : ℕ) → HasLit c.table c.log c.clash m → IsFalseAt c.trail m n → n ≡ 0
 
--- A conflict rests on a literal: its complement is one of the conflict's, or one of the others in the reason of a
--- literal that it rests on.
+-- A conflict depends on a literal: its complement is one of the conflict's, or one of the others in the reason of a
+-- literal that it depends on.
 pub data IsNeeded (c : Conflict) : Lit → Type 0 where
   by_clash : (m : Lit) → HasLit c.table c.log c.clash m → IsNeeded c (lit_complement m)
   by_reason : (p r : ℕ) (m : Lit) → p < length c.trail.literals → get_or c.trail.reasons p None ≡ Some r
       → IsNeeded c (get_or c.trail.literals p no_lit)
       → HasLit c.table c.log (step_of r) m → m ≢ get_or c.trail.literals p no_lit → IsNeeded c (lit_complement m)
 
--- The step of a number is the reason of a literal on which the conflict rests.
+-- The step of a number is the reason of a literal on which the conflict depends.
 pub record IsReasonNeeded (c : Conflict) (s : StepId) : Type 0 where
   -- the place of the literal
   pub place : ℕ
@@ -79,9 +79,9 @@ pub record IsReasonNeeded (c : Conflict) (s : StepId) : Type 0 where
   pub within : place < length c.trail.literals
   -- the step is its reason
   pub reason : get_or c.trail.reasons place None ≡ Some s.0
-  -- the conflict rests on it
+  -- the conflict depends on it
   pub needed : IsNeeded c (get_or c.trail.literals place no_lit)
 
--- the step is the conflict, or the reason of a literal on which it rests
+-- the step is the conflict, or the reason of a literal on which it depends
 abbrev pub IsPremise : Conflict → StepId → Type 0
 IsPremise c s = (s ≡ c.clash) ⊎ IsReasonNeeded c s

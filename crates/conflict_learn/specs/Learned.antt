@@ -14,7 +14,7 @@ use Rattle.conflict_learn.specs.Points.{IsUip}
 use Rattle.conflict_learn.specs.declared.learned.Learned.{Learned}
 
 -- A step by resolution that states a clause is the log's last; its premises are the conflict and reasons of literals on
--- which that rests.
+-- which that depends.
 pub record IsLogged (c : Conflict) (t : TableView) (new : List Logged) (clause : List Lit) (id : StepId) : Type 0 where
   -- its number is the next
   pub number : id.0 ≡ length c.log

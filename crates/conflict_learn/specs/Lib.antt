@@ -1,4 +1,4 @@
--- What a conflict and its reasons are, what a conflict rests on, and what is learned from it.
+-- What a conflict and its reasons are, what a conflict depends on, and what is learned from it.
 pub mod Conflicts
 pub mod Points
 pub mod Rows

@@ -54,7 +54,7 @@ pub record IsPoint (c : Conflict) (n from : ℕ) : Type 0 where
 
 -- A clause has exactly the literals that are left at a place and are not of level 0, each once.
 pub record IsLeft (c : Conflict) (from : ℕ) (clause : List Lit) : Type 0 where
-  -- no variable stands twice
+  -- no variable occurs twice
   pub once : VariablesAreApart clause
   -- each that is left is there
   pub all : (p : ℕ) → p < from → IsMet c from p → 0 < level_at c p → Contains clause (lit_complement (held_at c p))
@@ -98,5 +98,5 @@ pub record IsUip (c : Conflict) (n : ℕ) (clause : List Lit) (premises : List S
   pub point : IsPoint c n from
   -- the clause has what is left there
   pub left : IsLeft c from clause
-  -- and rests on what was used
+  -- and depends on what was used
   pub used : (s : StepId) → Contains premises s ↔ IsUsed c from s

@@ -1,4 +1,4 @@
-//! Literals of level 0, which are dropped for the reasons that they rest on.
+//! Literals of level 0, which are dropped for the reasons that they depend on.
 
 ghost use Rattle.std.specs.Prelude.{◌≡◌, ◌<◌, ◌≤◌, ◌+◌, ℕ, length, get_or, OnOk, IfOk};
 ghost use Rattle.proof_log.specs.declared.premises.StepId.{StepId as Number};
@@ -83,7 +83,7 @@ fn drop_at(
     Ok(())
 }
 
-/// Drops the marked literals of level 0, and those of level 0 that they rest on.
+/// Drops the marked literals of level 0, and those of level 0 that they depend on.
 pub(crate) fn drop_fixed(
     table: &TermTable,
     trail: &SatTrail,

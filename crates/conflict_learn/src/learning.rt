@@ -24,7 +24,7 @@ use term_core::TermTable;
 ///
 /// One begins with the false clause. While two or more of the literals are false only since the conflict's level, the one that became
 /// so last is replaced by the others of the reason for its complement. Those false since level 0 are dropped. The step's premises are
-/// exactly the false clause, the reasons that were used so, and those on which the dropped literals rest. The clause's literals stand
+/// exactly the false clause, the reasons that were used so, and those on which the dropped literals depend. The clause's literals are
 /// in no special order.
 ///
 /// It takes time in proportion to the trail from its end to the point, and to the clauses used; where literals are dropped, to the
@@ -97,7 +97,7 @@ fn learned(
 }
 
 /// Derives the clause without literals from a conflict of level 0, as a step by `resolution` from the false clause and the reasons
-/// that it rests on.
+/// that it depends on.
 ///
 /// Three conditions: the clause of the step `clash` is false under the trail; each of its literals is so since level 0; and each
 /// reason of the trail is a step of the log that has the implied literal and whose other literals are false by earlier literals of

@@ -1,4 +1,4 @@
-//! Learning from conflicts: what a false clause rests on, and the clause of the first unique implication point.
+//! Learning from conflicts: what a false clause depends on, and the clause of the first unique implication point.
 //!
 //! The analysis goes down the trail from its end to the point, and takes the reasons that it passes as premises.
 #![tactic(auto)]

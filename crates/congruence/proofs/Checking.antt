@@ -18,7 +18,7 @@ use Rattle.congruence.specs.Views.{theory_of}
 use Rattle.congruence.proofs.Terms.{watched_are_listed, terms_over}
 use Rattle.congruence.proofs.Conflicts.{conflict_refutes, none_refutes}
 
--- A closure before a check, and after it was settled: what it is about is the same.
+-- A closure before a check, and after it was saturated: what it is about is the same.
 module _ (t : TableView) (v w : ClosureView) (facts : w.now.facts ≡ v.now.facts) (right : IsRight w) where
   -- by numbers and over the table alike
   abbrev Agrees : Type 0
@@ -28,7 +28,7 @@ module _ (t : TableView) (v w : ClosureView) (facts : w.now.facts ≡ v.now.fact
   abbrev Refuted : Type 0
   Refuted = AreRefuted (terms_watched t (theory_of v)) (literals_held t (theory_of v))
 
-  -- where it is settled nothing is refuted
+  -- where it is saturated nothing is refuted
   pub saturated_is_fine : Agrees → w.now.saturated ≡ true → Refuted → ⊥
   saturated_is_fine agrees saturated refuted =
       none_refutes w.now.facts w.edges (right.closed saturated) (right.fine saturated)
@@ -39,7 +39,7 @@ module _ (t : TableView) (v w : ClosureView) (facts : w.now.facts ≡ v.now.fact
   conflict_is_refuted agrees c conflict =
       subst (λ (ts : List Term). AreRefuted ts (map (literal_at t) v.now.facts.held)) (sym (watched_are_listed t v)) (agrees.0 (subst FactsAreRefuted facts (conflict_refutes w.now.facts w.edges right.reasons c conflict)))
 
--- an explanation can rest on the edges of a closure
+-- an explanation can depend on the edges of a closure
 pub basis : (t : TableView) (w : ClosureView) → IsRight w → (ts : Truths) (forest : ForestState) → IsTheoryOver t (theory_of w) → AreFactsOf t w.now.facts → ts ≡ w.now.facts.truths → forest.edges ≡ w.edges → AreTerms w forest.terms → IsBasis t ts forest w.now.facts
 basis t w right ts forest over of_table truths edges terms = record {
   truths = sym truths;

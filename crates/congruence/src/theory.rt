@@ -98,7 +98,7 @@ impl Theory for Congruence {
     }
 
     /// Checks the held literals: `Clash` comes exactly where their congruence joins `true` and `false`, or the sides of a held negated
-    /// equality. After `Fine` it is settled, and table and log are as they were. `Memory` comes where memory ran out, the one stop. It
+    /// equality. After `Fine` it is saturated, and table and log are as they were. `Memory` comes where memory ran out, the one stop. It
     /// costs about the users of the classes that are renumbered, and, where there is a conflict, what `explain` costs. It spends nothing of
     /// the budget.
     fn check(
@@ -140,7 +140,7 @@ impl Theory for Congruence {
         Ok(Verdict::Clash(step))
     }
 
-    /// Marks what it holds and watches, and whether it is settled. `NoMemory` comes where the mark finds no memory; then all is as it was.
+    /// Marks what it holds and watches, and whether it is saturated. `NoMemory` comes where the mark finds no memory; then all is as it was.
     fn mark(&mut self) -> Result<(), NoMemory>
         ensures with { (t : TableView) → AreFactsOf t self.old.now.facts → AreFactsOf t self.new.now.facts }
         ensures marks { MatchResult result (λ _. theory_of self.new ≡ with_mark (theory_of self.old))
@@ -151,7 +151,7 @@ impl Theory for Congruence {
         self.closure.mark()
     }
 
-    /// Goes back so many marks: it holds and watches what it did there, and is settled if it was. It takes no memory.
+    /// Goes back so many marks: it holds and watches what it did there, and is saturated if it was. It takes no memory.
     fn back(&mut self, marks: u32)
         requires there { marks ≤ length (theory_of self.old).marks }
         ensures with { (t : TableView) → AreFactsOf t self.old.now.facts → AreFactsOf t self.new.now.facts }

@@ -162,7 +162,7 @@ module _ (s : PartsState) (x : Application) (h : PartsFit s) (absent : IsListed 
   listed_more : (t : TermId) → IsListed s.facts.listed t → IsListed (s.facts.listed ++ x ∷ []) t
   listed_more t (i, (lt, is)) = (i, (omega (arith, lt, length_push s.facts.listed x), ap (λ (y : Application). y.term) (old_at i lt) ∙ is))
 
-  -- what is said of older terms
+  -- what is stated of older terms
   old_equality : (e a b : TermId) → IsListed s.facts.listed e → IsEquality (s.facts.listed ++ x ∷ []) e a b → IsEquality s.facts.listed e a b
   old_equality e a b p q = go (Contains-push_cases s.facts.listed x q.at q.there)
     where

@@ -111,7 +111,7 @@ module _ (p q : PartsView) (f : Follows p q) where
           let rest : map (marked q.now.facts) ms ≡ map (marked p.now.facts) ms = same ms (λ k n lt is. le (suc k) n (omega (arith, lt)) is) in
           λ i. record { facts = first i; saturated = m.saturated } ∷ rest i
 
--- what is settled is so with more terms
+-- what is saturated is so with more terms
 pub saturated_still : (p q : PartsView) → Changes p p.now.facts q → IsSaturated p.now → IsSaturated q.now
 saturated_still p q c s = record {
   looked = ap (λ (l : Left). l.looked) c.left ∙ s.looked ∙ ap (λ (f : Facts). length f.listed) (sym c.facts);

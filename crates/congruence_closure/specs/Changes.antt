@@ -71,7 +71,7 @@ abbrev pub TermsFit : PartsView → ℕ → Type 0
 TermsFit p n = (length (numbers_back p n) ≤ (forest_back p n).terms)
     × (length (numbers_back p n) ≤ length p.now.numbers)
 
--- What a call does that settles: facts and marks stay, and older keys do.
+-- What a call that saturates does: facts and marks stay, and older keys do.
 pub record KeepsFacts (old new : PartsView) : Type 0 where
   pub facts : new.now.facts ≡ old.now.facts
   pub terms : new.terms ≡ old.terms

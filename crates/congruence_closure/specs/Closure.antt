@@ -72,7 +72,7 @@ TellClasses related terms numbers = (i j : ℕ) → i < length terms → j < len
 pub record IsRight (v : ClosureView) : Type 0 where
   -- each edge has a reason
   pub reasons : EdgesHaveReasons v.now.facts v.edges
-  -- where it is settled, the edges are closed
+  -- where it is saturated, the edges are closed
   pub closed : v.now.saturated ≡ true → IsClosed v.now.facts v.edges
   -- and there is no conflict
   pub fine : v.now.saturated ≡ true → HasNoConflict v.now.facts v.edges

@@ -45,7 +45,7 @@ extent_at marks j = get_or (map (λ (m : ClosureMark). m.extent) marks) j no_ext
 
 -- What the fields of a closure keep.
 pub record ClosureFits (p : PartsView) (saturated : Bool) (marks : List ClosureMark) : Type 0 where
-  -- nothing is left to do where it is settled
+  -- nothing is left to do where it is saturated
   pub done : saturated ≡ true → IsSaturated p.now
   -- classes and edges have as many marks
   pub numbers_count : length p.numbers_marks ≡ length marks

@@ -25,7 +25,7 @@ pub(crate) struct ClosureMark {
     pub(crate) extent: Extent,
     /// What was left to look at again.
     pub(crate) pending: Vec<u64>,
-    /// Whether it was settled.
+    /// Whether it was saturated.
     pub(crate) saturated: bool,
 }
 
@@ -104,7 +104,7 @@ impl Closure {
         self.saturated = false;
     }
 
-    /// Makes the edges link all that is congruent, or gives a conflict of what is held. At once where it is settled.
+    /// Makes the edges link all that is congruent, or gives a conflict of what is held. At once where it is saturated.
     ///
     /// `NoMemory` comes where it finds no memory; then it can be called again, and goes on.
     pub fn saturate(&mut self) -> Result<Option<Conflict>, NoMemory>
@@ -122,7 +122,7 @@ impl Closure {
         Ok(found)
     }
 
-    /// Tells whether two terms are congruent by what is held, in constant time, where it is settled. It takes no memory.
+    /// Tells whether two terms are congruent by what is held, in constant time, where it is saturated. It takes no memory.
     ///
     /// A term that is not there is congruent to itself alone.
     pub fn same(&self, a: TermId, b: TermId) -> bool
@@ -134,7 +134,7 @@ impl Closure {
     }
 
     /// Gives the number of the class of each of these terms, in constant time for each: two of them have one number exactly where
-    /// they are congruent by what is held, where it is settled. Else those of one number are congruent, and others may be.
+    /// they are congruent by what is held, where it is saturated. Else those of one number are congruent, and others may be.
     ///
     /// The number is that of a term. A term that is not there is in a class of its own. `NoMemory` comes where the list finds no
     /// memory.
@@ -150,9 +150,9 @@ impl Closure {
         self.parts.classes(alloc, terms)
     }
 
-    /// Marks what it is about, and whether it is settled.
+    /// Marks what it is about, and whether it is saturated.
     ///
-    /// It takes time in proportion to what an early end of `saturate` left, which is nothing where it is settled. `NoMemory` comes where
+    /// It takes time in proportion to what an early end of `saturate` left, which is nothing where it is saturated. `NoMemory` comes where
     /// the mark finds no memory; then nothing is changed.
     pub fn mark(&mut self) -> Result<(), NoMemory>
         ensures now { self.new.now ≡ self.old.now }
@@ -172,7 +172,7 @@ impl Closure {
         Ok(())
     }
 
-    /// Goes back over so many marks: it is about what it was at the oldest of them, and as settled. It takes no memory.
+    /// Goes back over so many marks: it is about what it was at the oldest of them, and saturated if it was then. It takes no memory.
     ///
     /// For `marks` 0 nothing changes. It takes time in proportion to what came since.
     pub fn back(&mut self, marks: u32)
@@ -235,7 +235,7 @@ impl Closure {
         self.saturated
     }
 
-    /// States that edges have reasons, and that they are closed and no conflict is there where it is settled.
+    /// States that edges have reasons, and that they are closed and no conflict is there where it is saturated.
     pub fn is_right(&self)
         ensures { IsRight self.now }
     {

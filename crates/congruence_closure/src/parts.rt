@@ -198,7 +198,7 @@ impl ClosureParts {
         }
     }
 
-    /// Copies what is left to look at again, which is nothing where it is settled.
+    /// Copies what is left to look at again, which is nothing where it is saturated.
     ///
     /// `NoMemory` comes where the copy finds no memory.
     pub fn left(&self) -> Result<Vec<u64>, NoMemory>

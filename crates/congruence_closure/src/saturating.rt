@@ -1,4 +1,4 @@
-//! Settling: what is left is done, term by term and literal by literal.
+//! Saturating: what is left is done, term by term and literal by literal.
 
 ghost use Rattle.std.specs.Prelude.{◌≡◌, ◌<◌, [], length, OnOk, IfOk, MatchOption};
 ghost use Rattle.class_table.specs.Classes.{AreSame};

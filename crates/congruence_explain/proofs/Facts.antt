@@ -69,7 +69,7 @@ number_term t n = term_at t (record { 0 = n })
 abbrev pub number_sort : TableView → ℕ → Sort
 number_sort t n = sort_of (number_term t n)
 
--- the reason of the edge of a number rests on older edges
+-- the reason of the edge of a number depends on older edges
 pub reason_at : (f : Facts) (es : List Edge) → EdgesHaveReasons f es → (k : ℕ) → k < length es → IsEdgeReason f (older es k) (numbered es k) (numbered es k).label
 reason_at f [] ok k h = absurd (omega arith)
 reason_at f (e ∷ es) ok k h = go (cases_eq k (length es)) (reason_at f es ok.1 k)

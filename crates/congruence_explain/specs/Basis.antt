@@ -1,4 +1,4 @@
--- What an explanation rests on.
+-- What an explanation depends on.
 use Rattle.std.specs.Prelude.{◌≡◌, ◌⊎◌, ◌<◌, ℕ, List, [], All}
 use Rattle.term_core.specs.declared.ids.TermId.{TermId}
 use Rattle.term_core.specs.declared.ids.Lit.{Lit}
@@ -15,7 +15,7 @@ use Rattle.congruence_relation.specs.Relation.{Facts, AreFactsOf, terms_listed}
 use Rattle.congruence_relation.specs.Edges.{EdgesHaveReasons}
 use Rattle.proof_log.specs.Theories.{IsTermIn, IsAtomIn}
 
--- The edges of a forest stand for facts, over terms of a table.
+-- The edges of a forest represent facts, over terms of a table.
 pub record IsBasis (t : TableView) (ts : Truths) (v : ForestState) (f : Facts) : Type 0 where
   -- the terms of the truth values
   pub truths : f.truths ≡ ts

@@ -1,4 +1,4 @@
--- What an explanation rests on, what its clauses say, and when it is one.
+-- What an explanation depends on, what its clauses say, and when it is one.
 pub mod Claims
 pub mod Rules
 pub mod Basis

@@ -123,7 +123,7 @@ pub record NotesGrow (k : ℕ) (old new : Notes) : Type 0 where
   pub kept : (j : ℕ) → IsNeeded old.needed j → IsNeeded new.needed j
   -- newer edges are as they were
   pub same : (j : ℕ) → k ≤ j → slice_index_or new.needed j false ≡ slice_index_or old.needed j false
-  -- the steps stand
+  -- the steps are there
   pub steps : IsWithin old.steps new.steps
   -- and so do the literals
   pub stated : IsWithin old.stated new.stated

@@ -14,9 +14,9 @@ use proof_log::ProofLog;
 use std::alloc::Global;
 use term_core::{TermId, TermTable};
 
-/// Logs that two linked terms are equal, and why each edge is there that this rests on.
+/// Logs that two linked terms are equal, and why each edge is there that this depends on.
 ///
-/// Gives the literals that deny what is held. What an edge rests on is older, so one pass from the newest edge down explains each once.
+/// Gives the literals that deny what is held. What an edge depends on is older, so one pass from the newest edge down explains each once.
 fn collect_marked(
     alloc: Global,
     table: &mut TermTable,
@@ -46,7 +46,7 @@ fn collect_marked(
     Ok(stated)
 }
 
-/// Logs that two linked terms are equal, and why each edge is there that this rests on.
+/// Logs that two linked terms are equal, and why each edge is there that this depends on.
 ///
 /// Gives the literals that deny what is held. It takes a mark for each edge of the forest.
 pub(crate) fn collect(

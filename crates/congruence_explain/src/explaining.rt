@@ -161,10 +161,10 @@ fn explained(
 /// It tells the path between the two terms, and why each edge is there that is needed. A held literal is denied in the last clause. Terms
 /// with one head are equal by `eq_congruent`, and their arguments by `eq_transitive`, where a path is more than an edge that says so.
 /// The last clause follows from exactly these steps, by `resolution`. No step is judged as it is logged. Equalities and negations that
-/// the clauses need come into the table. All steps that come are lemmas: they rest on each other alone, and speak of terms made of
+/// the clauses need come into the table. All steps that come are lemmas: they depend on each other alone, and speak of terms made of
 /// the listed ones.
 ///
-/// Conditions: the log is right over the table, the edges of the forest stand for the facts, and these have the conflict. With each
+/// Conditions: the log is right over the table, the edges of the forest represent the facts, and these have the conflict. With each
 /// listed term its arguments are listed.
 ///
 /// It takes time and memory in proportion to the edges of the forest, the paths that it tells, and the arguments of the applications on

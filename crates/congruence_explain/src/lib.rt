@@ -1,6 +1,6 @@
 //! Why two terms are equal, as steps of a log: the path of edges between them, and why each edge is there.
 //!
-//! It goes from the newest edge down, since what an edge rests on is older, and explains each edge that is needed once.
+//! It goes from the newest edge down, since what an edge depends on is older, and explains each edge that is needed once.
 #![tactic(auto)]
 
 mod claims;

@@ -1,4 +1,4 @@
--- Edges that stand for the congruence of held literals.
+-- Edges that represent the congruence of held literals.
 use Rattle.std.specs.Prelude.{◌≡◌, ◌⊎◌, ℕ, false, List, [], ◌∷◌, map, Contains}
 use Rattle.term_core.specs.declared.ids.TermId.{TermId}
 use Rattle.term_core.specs.declared.ids.Lit.{Lit}
@@ -30,7 +30,7 @@ pub record Meet (f : Facts) (es : List Edge) (a b : TermId) : Type 0 where
   -- and linked arguments
   pub arguments : roots es one.shape.arguments ≡ roots es other.shape.arguments
 
--- an edge's label tells why its terms are equal, where older edges stand: a held literal states it, in either
+-- an edge's label tells why its terms are equal, where older edges are: a held literal states it, in either
 -- direction; or they are listed terms with one head and linked arguments
 abbrev pub IsEdgeReason : Facts → List Edge → Edge → Label → Type 0
 IsEdgeReason f es e (Held l) = Contains f.held l × (StatesEqual f l e.a e.b ⊎ StatesEqual f l e.b e.a)

@@ -1,3 +1,3 @@
--- The congruence of held literals by numbers, and edges that stand for it.
+-- The congruence of held literals by numbers, and edges that represent it.
 pub mod Relation
 pub mod Edges

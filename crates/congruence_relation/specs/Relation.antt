@@ -24,7 +24,7 @@ application x = record { term = x.term; shape = shape_of x.node }
 abbrev pub applications : List Listed → List Application
 applications xs = map application xs
 
--- What the congruence rests on: listed terms, the terms of the truth values, and held literals.
+-- What the congruence depends on: listed terms, the terms of the truth values, and held literals.
 pub record Facts : Type 0 where
   -- the listed terms, oldest first
   pub listed : List Application

@@ -1,4 +1,4 @@
-//! The congruence of held literals by the numbers of terms, and edges that stand for it.
+//! The congruence of held literals by the numbers of terms, and edges that represent it.
 #![tactic(auto)]
 
 mod laws;

@@ -18,7 +18,7 @@ struct HeldCounts {
 
 /// Holds literals of watched terms, each once, with room for both literals of each term, and marks of both.
 ///
-/// Contracts see it as the theory that holds and watches these. Whoever implements a theory can keep one, and beside it what the
+/// Contracts see it as the theory that holds and watches these. Whoever implements a theory can keep one, and besides it what the
 /// theory makes of the literals.
 #[derive(Drop)]
 pub struct HeldLiterals {

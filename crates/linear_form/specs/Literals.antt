@@ -43,7 +43,7 @@ HasSidesIn t (Some n) = AreSidesIn t n
 abbrev pub difference_is : Relation → TermId → TermId → TermId → Option Negation
 difference_is r atom left right = Some (record { relation = r; atom = atom; left = left; right = right })
 
--- what is said by the head of an atom of two numbers, meant so
+-- what is stated by the head of an atom of two numbers, meant so
 abbrev pub denial_by_sign : Head → Bool → TermId → TermId → TermId → Option Negation
 denial_by_sign heads.Equal false atom left right = difference_is relations.Zero atom left right
 denial_by_sign heads.Less false atom left right = difference_is relations.BelowZero atom left right

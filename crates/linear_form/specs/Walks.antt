@@ -61,7 +61,7 @@ numbers_at order uses = map (λ j. get_or order j 0) uses
 abbrev pub AreLast : List ℕ → List ℕ → Type 0
 AreLast uses last = (i : ℕ) → i < length uses → i ≤ get_or last (get_or uses i 0) 0
 
--- The places of all arguments stand one after the other, and then that of the term.
+-- The places of all arguments are one after the other, and then that of the term.
 pub record IsPlan (t : TableView) (root : ℕ) (order uses last : List ℕ) : Type 0 where
   -- the order
   pub in_order : IsOrder t root order

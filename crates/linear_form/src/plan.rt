@@ -1,4 +1,4 @@
-//! Where each argument stands, and where it is used for the last time.
+//! Where each argument is, and where it is used for the last time.
 
 ghost use Rattle.std.specs.Prelude.{◌≡◌, ◌<◌, ◌++◌, ◌∷◌, [], length, All, OnOk, IfOk, get_or};
 ghost use Rattle.std.specs.List.{flat_map};

@@ -1,4 +1,4 @@
--- Clauses of a log are true where the assumed terms that they rest on are.
+-- Clauses of a log are true where the assumed terms that they depend on are.
 use Rattle.std.proofs.Common.{◌≡◌, true, ℕ, ◌<◌, List, length, get_or, All, Contains, refl, sym, ap, ◌∙◌, subst}
 use Rattle.std.proofs.lemmas.List.{length-map, get_or-map}
 use Rattle.std.proofs.lemmas.List.Elements.{All-map, All-from_get_or, Contains-get_or}
@@ -38,7 +38,7 @@ module _ (t : TableView) (log : List Logged) (i : Interpretation) (h : IsLogOf t
       subst (λ (c : List Term). All (IsFormulaOver t.symbols) c) (sym (conclusion_of t (get_or log k d)))
       (All-map (IsFormulaOver t.symbols) (term_at t) (named (get_or log k d)) (λ j e lt_j. (h.formulas k d lt j e lt_j).1)))
 
-  -- a clause is true where the assumed terms that it rests on are
+  -- a clause is true where the assumed terms that it depends on are
   pub clause_sound : IsLaw → (s : StepId) → s.0 < length log
       → ((m : StepId) (id : TermId) → RestsOn (derivation_in t log) s.0 m.0 → m.0 < length log → logged_at log m ≡ assumed id → term_true i (term_at t id) ≡ true)
       → clause_true i (clause_at t (named (logged_at log s))) ≡ true

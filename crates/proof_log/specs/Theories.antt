@@ -51,7 +51,7 @@ with_held v l = record { held = v.held ++ l ∷ []; watched = v.watched; marks =
 abbrev pub with_watched : TheoryView → TermId → TheoryView
 with_watched v id = record { held = v.held; watched = v.watched ++ id ∷ []; marks = v.marks }
 
--- a mark more stands
+-- there is a mark more
 abbrev pub with_mark : TheoryView → TheoryView
 with_mark v = record { held = v.held; watched = v.watched; marks = v.marks ++ mark_now v ∷ [] }
 
@@ -99,8 +99,8 @@ pub record Derived : Type 0 where
   -- the log
   pub log : List Logged
 
--- Terms and steps came, and each step is right. They are lemmas: they rest on each other alone, and speak of terms made
--- of these.
+-- Terms and steps came, and each step is right. They are lemmas: they depend on each other alone, and speak of terms
+-- made of these.
 pub record DerivesLemmas (ts : List Term) (old new : Derived) : Type 0 where
   -- the table has all that it had
   pub table : Extends old.table new.table
@@ -126,7 +126,7 @@ Checks agrees refuses v old (Err stop) new = new ≡ old
 
 -- what a call of a theory came to: by what it gives; where an overflow stopped it; and where the budget of exchanges
 -- did; where memory
--- runs out nothing is said
+-- runs out nothing is stated
 abbrev pub CameTo : {A : Type 0} → Result A Stop → (came : A → Type 0) → (overflowed : Type 0) → (spent : Type 0)
     → Type 0
 CameTo (Ok x) came overflowed spent = came x

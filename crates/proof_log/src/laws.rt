@@ -31,7 +31,7 @@ pub fn logs_hold_in_cut_tables()
 {}
 
 /// States that under an interpretation of a table's symbols a clause of a log over the table is true where the assumed terms that it
-/// rests on are, and so where all of the log's are.
+/// depends on are, and so where all of the log's are.
 pub fn logs_are_sound()
     ensures each { (t : TableView) (log : List Logged) (i : Interpretation) → IsLogOf t log → Interprets i t.symbols
         → (s : StepId) → s.0 < length log

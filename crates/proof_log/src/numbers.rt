@@ -1,4 +1,4 @@
-//! Numbers that stand as the arguments of a step.
+//! Numbers that are the arguments of a step.
 
 ghost use Rattle.std.specs.Prelude.{◌≡◌, length};
 ghost use Rattle.rule_bool.specs.Arguments.{fractions_of};

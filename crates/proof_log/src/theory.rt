@@ -87,7 +87,7 @@ pub trait Theory {
 
     /// Checks whether something is wrong with the literals that it holds.
     ///
-    /// It may put terms into the table and steps into the log. These steps rest on each other alone, and their clauses are of terms
+    /// It may put terms into the table and steps into the log. These steps depend on each other alone, and their clauses are of terms
     /// made of the watched ones. `Clash` names one of them, whose clause is false under the held literals. Of the budget it may spend
     /// exchanges. `Memory` comes where memory ran out, `Strained` where a number leaves 128 bits, and `Pivots` where as many exchanges
     /// are made as the budget's limit, which it says, and a further one is needed. After a stop table and log are as they were, and the

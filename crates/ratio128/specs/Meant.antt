@@ -1,4 +1,4 @@
--- What the values of the code stand for in definitions.
+-- What the values of the code represent in definitions.
 use Rattle.std.specs.Prelude.{◌≡◌, Bool, true, false, Option, Some, None, Result, Ok, Err}
 use Rattle.spec_numbers.specs.Fractions.{Fraction}
 use Rattle.spec_numbers.specs.Bounds.{Overflow}

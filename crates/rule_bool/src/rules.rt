@@ -74,7 +74,7 @@ fn keeps_literals(
     Err(RuleFails)
 }
 
-/// Judges a step of the rule `contraction`, which leaves out literals that stand twice.
+/// Judges a step of the rule `contraction`, which leaves out literals that occur twice.
 ///
 /// One premise; the conclusion has each of its literals, as the same terms, in any order, and maybe others. It is sound, since
 /// where the premise is true, one of its literals is, and with it the conclusion.
@@ -124,7 +124,7 @@ pub fn rule_reordering(
 /// Time goes in proportion to the lengths where the terms are in the clause's order, with gaps or repeats, and is their product
 /// at worst.
 ///
-/// Source: Alethe specification, rule `weakening`; that the added literals may stand anywhere, and that repeats may be left out,
+/// Source: Alethe specification, rule `weakening`; that the added literals may be anywhere, and that repeats may be left out,
 /// is own.
 pub fn rule_weakening(
     table: &TermTable,

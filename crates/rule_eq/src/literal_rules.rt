@@ -13,7 +13,7 @@ use term_core::{Clause, RuleFails, TermId, TermTable};
 
 /// Judges a step of the rule `eq_transitive`, by which terms are equal where a chain of equalities leads from one to the other.
 ///
-/// No premise; the conclusion is `(cl (not (= t1 t2)) .. (not (= tm tn)) (= t1 tn))`, with at least one negated equality. They stand
+/// No premise; the conclusion is `(cl (not (= t1 t2)) .. (not (= tm tn)) (= t1 tn))`, with at least one negated equality. They are
 /// in the order of the chain, each in either direction. It is sound, since where all of the equalities are true, the terms of the
 /// chain have one value.
 ///

@@ -1,4 +1,4 @@
-//! Limits of a search, and what is said where one of them is reached.
+//! Limits of a search, and what is answered where one of them is reached.
 
 ghost use Rattle.std.specs.Prelude.{◌≡◌};
 

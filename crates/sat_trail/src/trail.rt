@@ -45,7 +45,7 @@ pub struct SatTrail {
     levels: Vec<u64>,
     /// For each variable the reason of its literal; of no meaning without one.
     reasons: Vec<Option<u64>>,
-    /// How many of the oldest literals were marked as propagated and have stood since.
+    /// How many of the oldest literals were marked as propagated and have not been undone since.
     propagated: usize,
 }
 
@@ -209,7 +209,7 @@ impl SatTrail {
         self.propagated = self.propagated.min(len);
     }
 
-    /// Counts the oldest literals that were marked as propagated and have stood since. It takes no memory.
+    /// Counts the oldest literals that were marked as propagated and have not been undone since. It takes no memory.
     pub fn propagated(&self) -> u64
         ensures { result ≡ self.now.propagated }
     {
@@ -226,7 +226,7 @@ impl SatTrail {
         self.propagated = self.literals.len();
     }
 
-    /// States that each literal is of a variable, that no variable stands twice and so no literal with its complement, that there are
+    /// States that each literal is of a variable, that no variable occurs twice and so no literal with its complement, that there are
     /// at most as many literals as variables, and how the levels go.
     pub fn is_sound(&self)
         ensures known { All (λ l. l.term.0 < self.now.vars) self.now.literals }

@@ -64,7 +64,7 @@ decided_more atoms clauses a b l n paired x quiet mentioned h = decided_with ato
     let last : l ≡ get_or b.literals p no_lit = sym (get_or-append_seam a.literals l [] no_lit) ∙ (λ i. get_or (sym x.literals i) (sym is i) no_lit) in
     (subst (IsPropagated clauses) front quiet, subst (λ (m : Lit). Contains atoms m.term) last mentioned))
 
--- what is quiet is so with a clause more that is settled
+-- what is quiet is so with a clause more from which nothing follows
 quiet_more : (clauses : List (List Lit)) (c held : List Lit) → IsPropagated clauses held → PropagatesNothing held c → IsPropagated (clauses ++ c ∷ []) held
 quiet_more clauses c held quiet s d i = elim (Contains-push_cases clauses c d i) [ inl was ↦ quiet d was | inr is ↦ subst (λ (x : List Lit). PropagatesNothing held x) is s ]
 

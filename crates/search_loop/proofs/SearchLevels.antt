@@ -33,7 +33,7 @@ module _ (v : TrailView) (once : VariablesAreApart v.literals) (leveled : IsLeve
 
   -- before a decision
   module _ (p : ℕ) (within : p < length v.literals) (none : get_or v.reasons p None ≡ None) where
-    -- all that is of a lower level stands
+    -- all that is of a lower level is kept
     lower_before : (q : ℕ) → q < length v.literals → get_or v.levels q 0 < get_or v.levels p 0 → q < p
     lower_before q ql lt = elim (cases_lt q p) [
       | inl before ↦ before
@@ -64,7 +64,7 @@ module _ (v : TrailView) (once : VariablesAreApart v.literals) (leveled : IsLeve
     pub false_before : (m : Lit) (n : ℕ) → IsFalseAt v m n → n < get_or v.levels p 0 → Contains (take p v.literals) (lit_complement m)
     false_before m n f lt = in_front v.literals f.place p (lit_complement m) (lower_before f.place f.within (omega (arith, lt, f.level))) f.within (omega (arith, within)) f.there
 
-    -- a clause with one literal of a level is settled before each decision of the levels below, up to that of the others
+    -- from a clause with one literal of a level nothing follows before each decision of the levels below, up to that of the others
     pub leveled_before : (clause : List Lit) (n level : ℕ) → HasOneAt v clause n level → get_or v.levels p 0 ≤ level → PropagatesNothing (take p v.literals) clause
     leveled_before clause n level h le = elim h.reached [
       | inl zero ↦ let up = leveled.decided p within none in absurd (omega (arith, zero, le, up))

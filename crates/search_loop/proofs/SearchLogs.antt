@@ -83,7 +83,7 @@ lemma_on problem d more c h =
 pub comes_on : (problem : Problem) (d more : Derivation) (ls : List (List Literal)) (c : List Literal) → ComesFrom problem d ls c → ComesFrom problem (d ++ more) ls c
 comes_on problem d more ls c from = elim from [ inl i ↦ inl i | inr h ↦ inr (lemma_on problem d more c h) ]
 
--- the clause of an inference was learned, or it is a lemma that rests on those from some number on
+-- the clause of an inference was learned, or it is a lemma that depends on those from some number on
 abbrev IsStepOf : List Term → ℕ → List (List Literal) → Inference → Type 0
 IsStepOf ts n cs x = Contains cs (literals_of (conclusion x)) ⊎ ((m : ℕ) × (n ≤ m) × IsLemma ts m x)
 

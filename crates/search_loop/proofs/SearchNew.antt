@@ -34,7 +34,7 @@ module _ (t : TableView) (differ : AreDifferent t.terms) (front : List Lit) (the
       let h = from_image (literal_at t) front (literal_at t l) i in
       subst (λ (x : Lit). Contains front x) (literals_apart t differ h.0 l (there h.0 h.1) l_in h.2) h.1
 
-  -- a settled clause's image is settled
+  -- a clause from which nothing follows has an image of this kind
   inert_image : (d : List Lit) → ((l : Lit) → Contains d l → IsIn t l.term) → LitInert front d → ImpliesNothing complement images (map (literal_at t) d)
   inert_image d d_in (inl s) = inl (literal_at t s.literal, to_image (literal_at t) d s.literal s.there, to_image (literal_at t) front s.literal s.holds)
   inert_image d d_in (inr s) = inr (

@@ -74,7 +74,7 @@ came_handed_on P Q S T E F (Err s) e is f g h = subst (λ (stop : Stop). CameTo 
     by (Pivots n) h = g h
     by Memory h = tt
 
--- and where memory runs out nothing is said of it
+-- and where memory runs out nothing is stated of it
 pub came_at_memory : {A : Type 0} (P : A → Type 0) (S E : Type 0) (r : Result A Stop) → IsErrAnd r (λ s. s ≡ Memory) → CameTo r P S E
 came_at_memory P S E (Ok x) is = absurd is
 came_at_memory P S E (Err s) is = subst (λ (stop : Stop). CameTo (let q : Result _ Stop = Err stop in q) P S E) (sym is) tt

@@ -113,7 +113,7 @@ module _ (v : TheoryView) (a : TrailView) (h : KeepsUp v a) (leveled : IsLeveled
   abbrev mark : ℕ → Mark
   mark k = get_or v.marks k no_mark
 
-  -- where the decision of a level stands
+  -- where the decision of a level is
   abbrev begins : (k : ℕ) → k < a.level → (p : ℕ) × (p < length a.literals) × (get_or a.reasons p None ≡ None) × (get_or a.levels p 0 ≡ k + 1)
   begins k lt = leveled.begun k lt
 

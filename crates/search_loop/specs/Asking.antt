@@ -1,4 +1,4 @@
--- How a theory keeps up with a search, and what a search shows that rests. Source: Nieuwenhuis, Oliveras and Tinelli,
+-- How a theory keeps up with a search, and what a saturated search shows. Source: Nieuwenhuis, Oliveras and Tinelli,
 -- Solving SAT and SAT modulo theories, JACM 2006.
 use Rattle.std.specs.Prelude.{◌≡◌, ◌+◌, ◌<◌, ◌≤◌, ℕ, suc, length, take, get_or, All, Option, Some, None}
 use Rattle.term_core.specs.Tables.{TableView}
@@ -26,7 +26,7 @@ pub record KeepsUp (v : TheoryView) (trail : TrailView) : Type 0 where
   pub front : v.held ≡ take (length v.held) trail.literals
   -- there is a mark for each level above 0
   pub marked : length v.marks ≡ trail.level
-  -- where the level's decision stands, all before it was held
+  -- where the level's decision is, all before it was held
   pub starts : (k p : ℕ) → p < length trail.literals → get_or trail.reasons p None ≡ None → get_or trail.levels p 0
       ≡ k + 1 → (get_or v.marks k no_mark).held ≡ p
   -- and is
@@ -49,7 +49,7 @@ pub record IsAsked (v : TheoryView) (x : Search) : Type 0 where
   -- the search knows how many literals it holds
   pub fed : x.fed ≡ length v.held
 
--- A search rests: each atom has a value, of each clause a literal holds, and the theory agrees to what the trail holds.
+-- A search is saturated: each atom has a value, a literal of each clause holds, and the theory agrees with the trail.
 pub record HasSaturated (t : TableView) (x : Search) (v : TheoryView) (agreed : Type 0) : Type 0 where
   -- it fits together
   pub ready : SearchFits t x
@@ -105,7 +105,7 @@ ResolvesConflict old new v (Some (Stopped reason)) =
 ResolvesConflict old new v None = HasLearned old.table new.table old.search new.search × IsAsked v new.search
     × (length old.search.budget.learned < old.search.budget.limit)
 
--- A search stopped in a theory's check: it is for the same terms, and what it has derived stands.
+-- A search stopped in a theory's check: it is for the same terms, and what it has derived is kept.
 pub record HasStopped (old new : SearchState) (v : TheoryView) : Type 0 where
   -- each step of the log is right
   pub right : IsLogOf new.table new.search.log
@@ -118,7 +118,7 @@ pub record HasStopped (old new : SearchState) (v : TheoryView) : Type 0 where
 abbrev pub OnStop : Type 0 → Stop → Type 0
 OnStop P stop = StopsBy (λ s. P) (λ n. P) stop
 
--- how a search ends: it rests, and is one for the same terms; or it shows of them what an answer does
+-- how a search ends: it is saturated, and is one for the same terms; or it shows of them what an answer does
 abbrev pub EndsSearch : (old new : SearchState) → (search_saturated : Type 0) → End → Type 0
 EndsSearch old new search_saturated Saturated = search_saturated × Continues old.table new.table old.search new.search
 EndsSearch old new search_saturated (Refuted step) = ShowsAnswer old.table new.table old.search new.search (Unsat step)

@@ -41,7 +41,7 @@ IsByResolution (by_rule r ps arguments c) = r ≡ Resolution
 
 -- Inferences after the first so many, and the clauses that were learned in them, oldest first. The others are lemmas of
 -- a theory, over
--- some terms, each batch of which rests on itself alone.
+-- some terms, each batch of which depends on itself alone.
 pub data AreSteps (ts : List Term) (n : ℕ) : Derivation → List (List Literal) → Type 0 where
   -- none yet
   nothing : AreSteps ts n [] []
@@ -70,7 +70,7 @@ pub record HasSteps (p : Problem) (d : Derivation) (clauses : List (List Literal
   -- and those after them state these clauses
   pub steps : AreSteps (whole_terms p) (length base) more clauses
 
--- A derivation has a lemma of this clause, which rests on none of the clauses that a search begins with.
+-- A derivation has a lemma of this clause, which depends on none of the clauses that a search begins with.
 pub record HasLemma (p : Problem) (d : Derivation) (c : List Literal) : Type 0 where
   -- the number of its inference
   pub number : ℕ
@@ -174,7 +174,7 @@ abbrev pub HasLogged : Problem → Derivation → Answer → List (List Literal)
 HasLogged p d (Unknown (Overflow s)) learned = HasSteps p d learned ⊎ ((d ≡ []) × (learned ≡ []))
 HasLogged p d a learned = HasSteps p d (added_by a learned)
 
--- What is beside each answer: the log assumes the problem's terms alone, what was learned may be, and is what the
+-- What goes with each answer: the log assumes the problem's terms alone, what was learned may be, and is what the
 -- search added to the log.
 pub record IsLearning (t : TableView) (p : Problem) (log : List Logged) (a : Answer) (learned : List (List Lit)) : Type
     0 where

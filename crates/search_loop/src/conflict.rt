@@ -73,7 +73,7 @@ impl Search {
     }
 
     /// Gives the step that shows that the terms cannot all be true, where a clause is false since level 0. It is resolved from what the
-    /// conflict rests on.
+    /// conflict depends on.
     fn refuted(&mut self, table: &TermTable, clash: StepId) -> Result<StepId, NoMemory>
         requires ready { SearchFits table.now self.old }
         requires clash { IsClash table.now self.old.log self.old.trail.literals clash }
@@ -114,7 +114,7 @@ impl Search {
 
     /// Learns a clause from a conflict above level 0, and goes back to the level at which it is unit, or to level 0 at a restart.
     ///
-    /// The budget must have room for it. The log grows by its one step, which is resolved from what the conflict rests on.
+    /// The budget must have room for it. The log grows by its one step, which is resolved from what the conflict depends on.
     fn learn_and_go_back<T: Theory>(
         &mut self,
         table: &mut TermTable,

@@ -2,7 +2,7 @@
 //! back, and shows evidence for how it ends.
 //!
 //! The literals that hold are a `SatTrail`, propagation is that of a `ClauseStore`, and `learn` draws a clause from a conflict. A
-//! `Decider` says what is decided next, and `Restarts` when the search begins again from level 0; no answer rests on either.
+//! `Decider` says what is decided next, and `Restarts` when the search begins again from level 0; no answer depends on either.
 #![tactic(auto)]
 
 mod activity;

@@ -1,4 +1,4 @@
--- That tables by symbols' numbers are those of an interpretation, where no name stands twice.
+-- That tables by symbols' numbers are those of an interpretation, where no name occurs twice.
 use Rattle.std.proofs.Common.{if◌then◌else◌, ◌≡◌, ℕ, ◌<◌, Bool, true, false, List, [], ◌∷◌, length, get_or, cond, refl, sym, ap, ◌∙◌, subst, arith, zero, suc}
 use Rattle.std.specs.Str.{bytes_eq}
 use Rattle.std.specs.Bool.{Decides}

@@ -18,7 +18,7 @@ use Rattle.term_walks.specs.Valuations.{value_meant, IsNamed}
 use Rattle.search_model.specs.Models.{no_id, number_in, AreIncreasing}
 use Rattle.search_model.specs.Made.{no_value, value_at_id, IsValueOf}
 
--- what is found for a term where the terms that it may be are beside what they have
+-- what is found for a term where the terms that it may be go with what they have
 module _ {A : Type 0} (no : A) (found_in : List Term → List A → Term → A)
     (step : (u : Term) (us : List Term) (x : A) (xs : List A) (w : Term) → found_in (u ∷ us) (x ∷ xs) w ≡ cond (same_term u w) x (found_in us xs w)) where
   -- of a listed term it is what is at its place

@@ -16,7 +16,7 @@ ghost use Rattle.term_walks.specs.declared.values.Interp.{Interp};
 ghost use Rattle.term_walks.specs.Valuations.{HasSymbolTables};
 ghost use Rattle.search_model.specs.Models.{truths_of, values_of, TakeNumbersOf, IsModelOf};
 
-/// States that the tables of a search's model are those of an interpretation, where no name of a symbol stands twice.
+/// States that the tables of a search's model are those of an interpretation, where no name of a symbol occurs twice.
 /// Each that has them is the one that the values of the listed terms give.
 pub fn made_models_stand()
     ensures stands { (t : TableView) (held : List Lit) (terms : List TermId) (classes : List ℕ)

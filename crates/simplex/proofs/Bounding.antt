@@ -69,7 +69,7 @@ pub bound_same : (s : CodeSide) (held : List Bound) (y : ℕ) → bound_on (side
 bound_same Lower held y = refl
 bound_same Upper held y = refl
 
--- What a bound of a place says, whose form stands so to 0.
+-- What a bound of a place says, whose form compares so with 0.
 record IsLimit (slack : Slack) (r : Relation) (x : Limit) : Type 0 where
   pub variable : x.variable ≡ slack.variable
   pub on_side : IsSideOf r (is_positive numbers (number_of slack.factor)) (side_in x.side)

@@ -1,4 +1,4 @@
--- How simplex came to where it stands, as literals are held, terms are watched, and a check runs.
+-- How simplex came to its state, as literals are held, terms are watched, and a check runs.
 use Rattle.std.proofs.Common.{◌≡◌, ◌≤◌, ℕ, zero, suc, List, length, map, take, All, Contains, Result, Ok, Err, Option, Some, None, inl, inr, refl, sym, ap, subst, arith}
 use Rattle.std.specs.Prelude.{cond, IsSome, MatchResult}
 use Rattle.std.specs.Option.{is_some}
@@ -146,7 +146,7 @@ module _ (t : TableView) (ts : List Term) where
       subst (Contains ts) x.2 (All-contains (λ id. Contains ts (term_at t id)) ids x.0 h x.1)
 
   module _ (n : ℕ) (es : List (ℕ × ℕ)) (old new : SimplexView) (came : CameBy t ts n es old) where
-    -- it is where it stood
+    -- it is in the state that it was in
     stands : (m : ℕ) → AreFew new m came.runs → new.atoms ≡ old.atoms → new.assignment ≡ old.assignment → AllOf new.theory.watched → AtomsOf new.theory.held → CameBy t ts m es new
     stands m few a b watched held = record {
       watched = all_among new.theory.watched watched;
@@ -255,7 +255,7 @@ module _ (t : TableView) (ts : List Term) (v : SimplexView) (c : AssignmentView)
   abbrev ranges : Ranges
   ranges = ranges_in v.bounds.held
 
-  -- it goes on to where it stands then
+  -- it goes on to the state that it is in then
   moved : (P : TermTableau → Type 0) → P (moved_to (term_tableau_of t v) c.tableau.rows c.values) → P (term_tableau_of t after)
   moved P h = subst (λ rs. P (record { owners = map (owner_meant t) v.atoms.owners; listed = rs; rows = c.tableau.rows; values = c.values })) (sym listed) h
 

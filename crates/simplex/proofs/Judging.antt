@@ -70,7 +70,7 @@ spent ranges b c old new (Err (Strained s)) e = stopped_more ranges (state_of b)
 spent ranges b c old new (Err stops.Memory) (inl ran) = (ran.made, ran.kept)
 spent ranges b c old new (Err stops.Memory) (inr s) = stopped_more ranges (state_of b) (state_of c) old.exchanges new.exchanges s
 
--- its stop is one of simplex where it stands
+-- its stop is one of simplex in its state
 pub stopped : (t : TableView) (ts : List Term) (v : SimplexView) (b : AssignmentView) (old new : BudgetView) (stop : Stop) → AreBounds ts (term_tableau_of t v) (ranges_in v.bounds.held)
     → EndsCheck (ranges_in v.bounds.held) b v.assignment old new (Err stop) → StopsBy (λ s. IsOverflowAt t ts s v) (AreSpent (NeedsMore ts (term_tableau_of t v)) new) stop
 stopped t ts v b old new (Strained s) bounds e = (checking (ranges_in v.bounds.held) bounds e.1.0, e.1.1)
@@ -84,7 +84,7 @@ overflowed_by P v w (Strained s) h p = (subst (λ (x : Wide). P (overflow x)) (s
 overflowed_by P v w (Pivots n) h p = p
 overflowed_by P v w stops.Memory h p = tt
 
--- it is one of simplex where it stands
+-- it is one of simplex in its state
 pub overflowed : (t : TableView) (ts : List Term) (v : SimplexView) (w : Wide) (stop : Stop) → OverflowsAt ts (term_tableau_of t v) (overflow w) → StopsBy (λ s. (s.wide ≡ w) × IsBasisOf v.assignment s.basis) (λ _. ⊥) stop
     → StopsBy (λ s. IsOverflowAt t ts s v) (λ _. ⊥) stop
 overflowed t ts v w stop h p = overflowed_by (OverflowsAt ts (term_tableau_of t v)) v w stop h p

@@ -1,4 +1,4 @@
--- Reasons by the code's words are reasons of simplex where it stands, and so are their overflows.
+-- Reasons by the code's words are reasons of simplex in its state, and so are their overflows.
 use Rattle.std.proofs.Common.{◌≡◌, Bool, true, not, cond, List, [], ◌∷◌, map, Option, Some, Err, refl, sym, ◌∙◌, ap, subst}
 use Rattle.std.specs.Prelude.{All, Contains}
 use Rattle.std.proofs.lemmas.Simd.{map-map}

@@ -1,4 +1,4 @@
--- Sums and values of terms where simplex stands.
+-- Sums and values of terms in the state of simplex.
 use Rattle.std.proofs.Common.{◌≡◌, ◌+◌, ◌<◌, ◌≤◌, ℕ, inl, inr, List, [], ◌∷◌, ◌++◌, length, map, take, get_or, All, Option, Some, None, Result, Ok, Err, refl, sym, ◌∙◌, ap, subst}
 use Rattle.std.proofs.lemmas.List.{map-append, take_more, take_all}
 use Rattle.std.proofs.lemmas.List.Elements.{All-contains, Contains-get_or}
@@ -78,7 +78,7 @@ module _ (t : TableView) (v : SimplexView) (unique : AreDifferent t.terms) (is :
   abbrev entry : TermId × Ratio → ℕ → Entry Number
   entry x y = record { variable = y; coefficient = number_of x.1 }
 
-  -- the entry of a first term for which a variable stands
+  -- the entry of a first term that a variable stands for
   at_first : (whole : List (Term × Fraction)) (x : TermId × Ratio) (xs : List (TermId × Ratio)) (sum : Pair Number) (y : ℕ) → owner_at v.atoms.owners y ≡ Some x.0 → IsIn t x.0
       → (l : Left (term_tableau_of t v) whole (variables_meant t (x ∷ xs)) sum) → (rest : List (Entry Number)) × (l.left ≡ entry x y ∷ rest) × AreOwnedEntries (term_tableau_of t v).owners rest (variables_meant t xs)
   at_first whole x xs sum y stands there l =

@@ -41,6 +41,6 @@ pub record StoppedBy (t : TableView) (ts : List Term) (n : ℕ) (es : List (ℕ 
   pub stopped : IsStoppedAt ts runs es (term_tableau_of t v)
   pub few : runs ≤ n
 
--- an operation of it over terms comes to the overflow of a stop, which tells the basis and the values where it stands
+-- an operation of it over terms comes to the overflow of a stop, which tells the basis and the values of its state
 abbrev pub IsOverflowAt : TableView → List Term → Strain → SimplexView → Type 0
 IsOverflowAt t ts s v = OverflowsAt ts (term_tableau_of t v) (overflow s.wide) × IsBasisAt (term_tableau_of t v) s.basis

@@ -42,7 +42,7 @@ impl Simplex {
     }
 
     /// Gives the sum of terms with coefficients: each coefficient times the value of the variable that means the term. A term for
-    /// which none stands counts as 0. It takes no memory.
+    /// which there is none counts as 0. It takes no memory.
     ///
     /// The error is the `Wide` of such a product, or of the sum of those before with it.
     fn sum_of(&self, table: &TermTable, variables: &[(TermId, Ratio)]) -> Result<Delta, Wide>
@@ -82,8 +82,8 @@ impl Simplex {
         Ok(value)
     }
 
-    /// Gives the values of shared terms where simplex stands, in order, infinitesimal parts included. Each is that of the term's form,
-    /// where a variable for which none of simplex's stands counts as 0.
+    /// Gives the values of shared terms in the state of simplex, in order, infinitesimal parts included. Each is that of the term's form,
+    /// where a variable that no variable of simplex stands for counts as 0.
     ///
     /// `Strained` comes where an operation of a term's form leaves 128 bits, or one of its value, with the basic variables and the
     /// values; `Memory` comes where there is no memory, and `Pivots` never.

@@ -56,7 +56,7 @@ bound_nought k c q z e = pair_same _ _ base tilt
         let l = numbers_are_ordered_field in
         sum_zero_right numbers l _ ∙ l.product_commutative k numbers.zero ∙ zero_product numbers l k
 
--- it compares with 0 as the value stands to this bound, or the other way round
+-- it compares with 0 as the value does with this bound, or the other way round
 module _ (k c q : Number) (x : Pair Number) (z : numbers.is_zero k ≡ false) (e : q ≡ numbers.times (numbers.opposite c) (numbers.inverse k)) where
   less_left : deltas.less (come k x c) deltas.origin ≡ cond (is_positive numbers k) (deltas.less x (flat q)) (deltas.less (flat q) x)
   less_left =
@@ -117,7 +117,7 @@ under_upper q x h = less_from_left _ x (flat q) h (tilt_decides q (numbers.oppos
 over_lower : (q : Number) (x : Pair Number) → deltas.less x (record { base = q; tilt = numbers.one }) ≡ false → deltas.less (flat q) x ≡ true
 over_lower q x h = less_from_right _ x (flat q) h (tilt_decides q numbers.zero numbers.one one_is_above)
 
--- where the bounds of a relation are kept, the form stands so
+-- where the bounds of a relation are kept, the form compares so with 0
 module _ (slack : Slack) (l : Lit) (v : ℕ → Pair Number) (z : numbers.is_zero (number_of slack.factor) ≡ false)
     (e : number_of slack.bound ≡ numbers.times (numbers.opposite (number_of slack.constant)) (numbers.inverse (number_of slack.factor))) where
   abbrev value : Pair Number

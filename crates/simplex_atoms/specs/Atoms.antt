@@ -1,4 +1,4 @@
--- What atoms are placed on, beside an assignment and bounds, and how all of these grow.
+-- What atoms are placed on, besides an assignment and bounds, and how all of these grow.
 use Rattle.std.specs.Prelude.{◌≡◌, ℕ, ◌<◌, ◌≤◌, List, ◌++◌, length, All, Option, Some}
 use Rattle.spec_tableaux.specs.Spaces.{Pair, as_space}
 use Rattle.spec_tableaux.specs.Rows.{Entry, Row, Solves, sum_of}
@@ -17,7 +17,7 @@ use Rattle.simplex_atoms.specs.Sums.{sign_by, Sum}
 pub record AtomsView : Type 0 where
   -- for each variable the term that it stands for; those of rows stand for none
   pub owners : List (Option TermId)
-  -- the sums for which variables of rows stand, in any order
+  -- the sums that variables of rows stand for, in any order
   pub sums : List Sum
   -- the places, by the numbers of the atoms, in any order
   pub slack_list : List (ℕ × Slack)

@@ -61,7 +61,7 @@ limit_on slack l side strict = record {
   literal = l;
 }
 
--- the bounds of the variable where the form stands so to 0, by whether the factor is above 0
+-- the bounds of the variable where the form compares so with 0, by whether the factor is above 0
 abbrev pub limits_where : Option Relation → Bool → Slack → Lit → List Limit
 limits_where (Some below) up slack l = limit_on slack l (side_by up) true ∷ []
 limits_where (Some at_most) up slack l = limit_on slack l (side_by up) false ∷ []
@@ -99,7 +99,7 @@ abbrev pub weight_of : Relation → Slack → Number → Fraction
 weight_of equals slack s = (numbers.times s (numbers.inverse (number_of slack.factor))).fraction
 weight_of r slack s = size (numbers.times s (numbers.inverse (number_of slack.factor))).fraction
 
--- 0 itself does not stand so to 0
+-- 0 itself does not compare so with 0
 abbrev pub is_strict : Relation → Bool
 is_strict below = true
 is_strict above = true

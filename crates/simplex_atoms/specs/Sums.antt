@@ -1,4 +1,4 @@
--- Sums of multiples of variables for which others stand, and the keys by which they are found.
+-- Sums of multiples of variables that others stand for, and the keys by which they are found.
 use Rattle.std.specs.Prelude.{◌≡◌, ℕ, Bool, true, false, List, [], ◌∷◌, map, Contains, IsPermutation, Vec}
 use Rattle.std.specs.List.Sorted.{IsNonDecreasingBy}
 use Rattle.std.specs.declared.alloc.Global.{Global}

@@ -49,7 +49,7 @@ pub fn kept_bounds_keep_literals()
 {}
 
 /// States what the bounds are that a literal states: of the place's variable, off its bound by an infinitesimal only
-/// where 0 does not stand to 0 as the literal says; and that the weight of a bound makes one of the literal, in
+/// where 0 does not compare with 0 as the literal says; and that the weight of a bound makes one of the literal, in
 /// lowest terms, which times the factor is the bound's.
 pub fn bounds_have_weights()
     ensures states { (slack : Slack) (l : Lit) (b : Limit) → Contains (limits_by slack l) b

@@ -72,7 +72,7 @@ fn entry_of(
     })
 }
 
-/// Makes the entries of the variables of a form, in order. Terms for which no variable stands get one.
+/// Makes the entries of the variables of a form, in order. Terms without a variable get one.
 ///
 /// `NoMemory` comes where there is no memory; there may then be more variables.
 pub(crate) fn entries_of(

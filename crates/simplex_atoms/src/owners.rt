@@ -95,7 +95,7 @@ impl Owners {
         self.list.push_reserved(None);
     }
 
-    /// Adds a variable that means a term for which none stands yet.
+    /// Adds a variable that means a term that has none yet.
     ///
     /// `NoMemory` comes where there is no memory; the variable then stands for no term.
     pub(crate) fn add_term(&mut self, id: TermId) -> Result<(), NoMemory>

@@ -1,4 +1,4 @@
-//! The sums for which variables stand.
+//! The sums that variables stand for.
 
 ghost use Rattle.std.specs.Prelude.{◌≡◌, [], ◌∷◌, IfOk, OnOk, OnErr, MatchOption, Contains, IsPermutation};
 ghost use Rattle.simplex_atoms.specs.Sums.{key_meant, IsKeyOf, sum_by, IsNew};

@@ -30,7 +30,7 @@ abbrev pub SuspectAfter : Ranges → AssignmentState → Move → List ℕ → T
 SuspectAfter ranges t (Exchange b x) ys = SuspectBut ranges t b ys
 SuspectAfter ranges t _ ys = Unit {0}
 
--- Where values became others, the variables whose value changed are suspects, beside those that were.
+-- Where values became others, the variables whose value changed are suspects, besides those that were.
 pub record HaveSuspects (before after : List (Pair Number)) (old new : List ℕ) : Type 0 where
   -- those that were
   pub kept : (z : ℕ) → is_among z old ≡ true → is_among z new ≡ true

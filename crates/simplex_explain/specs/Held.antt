@@ -1,4 +1,4 @@
--- Bounds that can be held beside others that are stated.
+-- Bounds that can be held together with others that are stated.
 use Rattle.std.specs.Prelude.{◌≡◌, ℕ, ◌<◌, List, Option, Some, None}
 use Rattle.term_core.specs.declared.ids.TermId.{TermId}
 use Rattle.simplex_bounds.specs.declared.bounds.Bound.{Bound}

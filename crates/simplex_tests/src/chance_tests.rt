@@ -19,7 +19,7 @@ const CASES: u64 = 2_000;
 /// How many rows a case has at most.
 const ROWS: u64 = 3;
 
-/// Holds a case: its two assignments, the bounds, and what it has said.
+/// Holds a case: its two assignments, the bounds, and what it has stated.
 #[derive(Drop)]
 struct Case {
     assignment: RealAssignment,

@@ -1,4 +1,4 @@
-//! What a case has said: its rows, its bounds, and its marks.
+//! What a case has stated: its rows, its bounds, and its marks.
 
 ghost use Rattle.std.specs.Prelude.{◌≡◌};
 
@@ -34,7 +34,7 @@ pub(crate) struct Limit {
     pub(crate) strict: bool,
 }
 
-/// Holds what a case has said.
+/// Holds what a case has stated.
 #[derive(Drop)]
 pub(crate) struct Known {
     /// Each variable as a form over the first ones.

@@ -12,8 +12,8 @@ use Rattle.smt_lexer.specs.declared.Refusal.{Refusal}
 abbrev pub piece_from : List ℕ → ℕ → Piece
 piece_from text at = first_piece (slice_index text at) (drop (at + 1) text)
 
--- The first lexeme from an offset on is at a place, up to another place, and the others stand from there on. Before it
--- stands nothing but white space and comments, for `lexemes_from` passes over nothing else.
+-- The first lexeme from an offset on is at a place, up to another place, and the others come from there on. Before it
+-- is nothing but white space and comments, for `lexemes_from` passes over nothing else.
 pub record IsFirstLexeme (text : List ℕ) (from : ℕ) (place after : Place) (x : Lexeme) : Type 0 where
   -- it is the first, and the others are those after it
   pub first : lexemes_from text from ≡ (place.offset, x) ∷ lexemes_from text after.offset
@@ -26,7 +26,7 @@ pub record IsFirstLexeme (text : List ℕ) (from : ℕ) (place after : Place) (x
   -- it ends right after its own bytes: what white space follows comes after that
   pub ends : after.offset ≡ place.offset + (piece_from text place.offset).size
 
--- no lexeme stands from an offset on, and the place is the end of the text
+-- no lexeme comes from an offset on, and the place is the end of the text
 pub record EndsLexemes (text : List ℕ) (from : ℕ) (place after : Place) : Type 0 where
   pub nothing : lexemes_from text from ≡ []
   pub place_end : place.offset ≡ length text

@@ -25,7 +25,7 @@ pub use words::{bars_of, is_bare, is_one_of};
 /// A fault with its place.
 #[derive(Clone, Copy, Debug, PartialEq, Eq)]
 pub struct Refusal {
-    /// Where the fault stands: of a byte that may not are there its own place, of a string or quoted symbol that does
+    /// Where the fault is: of a byte that may not are there its own place, of a string or quoted symbol that does
     /// not end the place of its first byte.
     pub place: Place,
     /// Which fault it is.

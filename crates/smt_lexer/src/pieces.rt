@@ -92,7 +92,7 @@ fn fault_at<'a>(fault: Fault, size: usize) -> FoundPiece<'a>
     }
 }
 
-/// Ends a number after so many bytes: there stands no byte of symbols. Source: SMT-LIB 2.6, section 3.1.
+/// Ends a number after so many bytes: there is no byte of symbols. Source: SMT-LIB 2.6, section 3.1.
 fn ended<'a>(bytes: &'a [u8], size: usize, kind: Kind) -> FoundPiece<'a>
     requires some { 0 < size }
     requires within { size ≤ length bytes.now }

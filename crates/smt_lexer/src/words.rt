@@ -73,7 +73,7 @@ pub fn is_reserved(name: &[u8]) -> bool
     is_one_of(&RESERVED, name)
 }
 
-/// Says whether a name may stand as a symbol without bars: bytes of symbols, the first of them no digit, that are no
+/// Says whether a name may be a symbol without bars: bytes of symbols, the first of them no digit, that are no
 /// reserved word. Source: SMT-LIB 2.6, section 3.1.
 pub fn is_bare(name: &[u8]) -> bool
     ensures { result ≡ is_bare name.now }
@@ -91,7 +91,7 @@ pub fn is_bare(name: &[u8]) -> bool
 }
 
 /// Lends what is before a symbol's name and after it where it is written: a bar each, or nothing where the name may
-/// stand without. Source: SMT-LIB 2.6, section 3.1.
+/// be written without. Source: SMT-LIB 2.6, section 3.1.
 pub fn bars_of<'a>(name: &'a [u8]) -> (&'a [u8], &'a [u8])
     ensures { result.0.now ++ (name.now ++ result.1.now) ≡ printed_symbol name.now }
 {

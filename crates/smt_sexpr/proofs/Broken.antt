@@ -1,4 +1,4 @@
--- Before what stops the reading stands no whole tree.
+-- Before what stops the reading is no whole tree.
 use Rattle.std.proofs.Common.{◌≡◌, ℕ, zero, suc, false, ◌+◌, ◌<◌, ◌≤◌, List, [], ◌∷◌, ◌++◌, length, sym, ◌∙◌, refl, subst, append_assoc, length-append, add-zero, arith}
 use Rattle.std.specs.Prelude.{nat_lt}
 use Rattle.std.proofs.lemmas.Bool.Decides.{nat_tests}

@@ -1,4 +1,4 @@
--- Where lexemes stand: their offsets rise, and from its own offset on each is the first.
+-- Where lexemes are: their offsets rise, and from its own offset on each is the first.
 use Rattle.std.proofs.Common.{◌≡◌, ℕ, zero, suc, ◌+◌, ◌-◌, ◌<◌, ◌≤◌, List, [], ◌∷◌, ◌++◌, length, drop, sym, ap, ◌∙◌, refl, subst, append_assoc, length-drop, arith}
 use Rattle.std.specs.Prelude.{⊤}
 use Rattle.spec_text.specs.Lexemes.{Lexeme, blank, opens, closes, word, wrong, Piece, piece, first_piece, before, lexemes, lexemes_from}
@@ -105,7 +105,7 @@ mutual
 pub within_text : (text : List ℕ) (at : ℕ) (t : Tree) (rest : List (ℕ × Lexeme)) → lexemes_from text at ≡ spelled t ++ rest → IsWithin at (length text) t
 within_text text at t rest e = (tree_within at (length text) t rest (at, omega arith, subst (Rise at (length text)) e (lexemes_rise text at))).0
 
--- the offset of a token stands from the first one on, and before the end of the text
+-- the offset of a token is from the first one on, and before the end of the text
 pub begins_within : (text : List ℕ) (from : ℕ) (front : List (ℕ × Lexeme)) (at : ℕ) (x : Lexeme) (rest : List (ℕ × Lexeme)) → lexemes_from text from ≡ front ++ (at, x) ∷ rest → IsToken x → (from ≤ at) × (at < length text)
 begins_within text from front at x rest e token = go from front (subst (Rise from (length text)) e (lexemes_rise text from))
   where

@@ -91,7 +91,7 @@ tree_up_to : (t : Tree) → IsUpTo (last_of t) (spelled t)
 tree_up_to (atom at k bytes) = (refl, tt)
 tree_up_to (list at ts end) = up_to_last end closes ((at, opens) ∷ spelled_all ts) (tt, trees_tokens ts) tt
 
--- the first of them stands no later than the last
+-- the first of them is no later than the last
 first_up_to : (last low high at : ℕ) (x : Lexeme) (xs ys : List (ℕ × Lexeme)) → IsUpTo last ((at, x) ∷ xs) → Rise low high ((at, x) ∷ xs ++ ys) → (low ≤ at) × (at ≤ last)
 first_up_to last low high at (wrong f) [] ys u r = absurd u.1
 first_up_to last low high at blank [] ys u r = (r.0, omega (arith, u.0))

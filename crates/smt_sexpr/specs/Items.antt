@@ -47,7 +47,7 @@ abbrev pub IsShorter : View → ℕ → Type 0
 IsShorter (views.Atom at k bytes) n = Unit {0}
 IsShorter (views.List at inside end) n = size_of inside < n
 
--- each offset stands from one on, and before another
+-- each offset is from one on, and before another
 abbrev mutual
   -- of a tree
   pub IsWithin : ℕ → ℕ → Tree → Type 0

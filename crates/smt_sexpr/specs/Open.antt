@@ -36,7 +36,7 @@ abbrev pub flat_in : Context → List Item
 flat_in (top rows) = flat_all rows
 flat_in (inside outer at rows) = flat_in outer ++ items.List at 0 0 ∷ flat_all rows
 
--- where the open lists' items stand, the innermost last
+-- where the open lists' items are, the innermost last
 abbrev pub open_in : Context → List ℕ
 open_in (top rows) = []
 open_in (inside outer at rows) = open_in outer ++ length (flat_in outer) ∷ []

@@ -32,7 +32,7 @@ wants_space Close = true
 wants_space (Word k bytes) = true
 wants_space End = false
 
--- from an offset on stands no token: the text ends, or a fault is there
+-- from an offset on is no token: the text ends, or a fault is there
 abbrev pub HasNoToken : List ℕ → ℕ → Type 0
 HasNoToken text from = (lexemes_from text from ≡ [])
     ⊎ ((at : ℕ) × (f : Fault) × (lexemes_from text from ≡ (at, wrong f) ∷ []))

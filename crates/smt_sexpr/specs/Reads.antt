@@ -21,7 +21,7 @@ use Rattle.smt_sexpr.specs.Items.{text_of, items_of, start_of, tree_of, IsWithin
 pub record IsFirst (text : List ℕ) (n : ℕ) (xs : List (ℕ × Lexeme)) (s : Sexpr) (after : Place) : Type 0 where
   -- it is in this text
   pub text_is : text_of s ≡ text
-  -- its tree is the first, and the other lexemes stand from the place on
+  -- its tree is the first, and the other lexemes come from the place on
   pub first : xs ≡ spelled (tree_of s) ++ lexemes_from text after.offset
   -- its items mean that tree, and nothing else
   pub means : trees_in text (items_of s) ≡ more (tree_of s) none
@@ -34,7 +34,7 @@ pub record IsFirst (text : List ℕ) (n : ℕ) (xs : List (ℕ × Lexeme)) (s : 
   -- the place after it is one of the text
   pub place : IsPlaceOf text after
 
--- in n open lists an s-expression stands from a place on up to another
+-- in n open lists an s-expression is from a place on up to another
 pub record ReadsSexpr (text : List ℕ) (from : Place) (n : ℕ) (s : Sexpr) (after : Place) : Type 0 where
   -- its tree is the first from there on
   pub is : IsFirst text n (lexemes_from text from.offset) s after
@@ -47,7 +47,7 @@ pub record Closes (text : List ℕ) (from : Place) (n : ℕ) (after : Place) : T
   pub some : 0 < n
   -- the offset of its parenthesis
   pub at : ℕ
-  -- it is the first lexeme from there on, and the others stand from the place on
+  -- it is the first lexeme from there on, and the others come from the place on
   pub first : lexemes_from text from.offset ≡ (at, closes) ∷ lexemes_from text after.offset
   -- it is one byte
   pub size : after.offset ≡ at + 1
@@ -75,7 +75,7 @@ pub record BeginsWith (text : List ℕ) (n : ℕ) (xs : List (ℕ × Lexeme)) (i
   pub tree : Tree
   -- its items
   pub items : is ≡ flat tree
-  -- it is the first, and the other lexemes stand from the place on
+  -- it is the first, and the other lexemes come from the place on
   pub first : xs ≡ spelled tree ++ lexemes_from text after.offset
   -- it is nested no deeper than it may be
   pub within : depth tree ≤ nesting_limit - n

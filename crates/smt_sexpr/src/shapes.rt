@@ -95,7 +95,7 @@ pub fn want(name: &[u8], word: Word<'_>) -> Option<()>
     None
 }
 
-/// Asks for this keyword, whose name stands without its colon: `None` where a word is another.
+/// Asks for this keyword, whose name is without its colon: `None` where a word is another.
 pub fn want_keyword(name: &[u8], word: Word<'_>) -> Option<()>
     ensures { result ≡ wanted_keyword name.now (word_view word.entry) }
 {

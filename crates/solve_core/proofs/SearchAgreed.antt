@@ -74,7 +74,7 @@ element_at [] k lt = absurd (omega (arith, lt))
 element_at (x ∷ xs) zero lt = (x, first x xs, λ d. refl)
 element_at (x ∷ xs) (suc k) lt = let e = element_at xs k (omega (arith, lt)) in (e.0, later x xs e.0 e.1, e.2)
 
--- what is said of no terms, and of one more
+-- what is stated of no terms, and of one more
 pub assigned_none : (ids : List TermId) (classes : List ℕ) (numbers : List Fraction) (from : ℕ) → AreTheoryValuesBelow ids classes numbers from 0 []
 assigned_none ids classes numbers from = record { count = refl; each = λ k d lt. absurd (omega (arith, lt)) }
 
@@ -107,7 +107,7 @@ module _ (own ids : List TermId) (k : ℕ) (lt : k < length ids) where
   pub behind_lt : length own + k < length (own ++ ids)
   behind_lt = omega (arith, lt, length-append own ids)
 
--- what is said of the places of a list of terms, and of those that are shared after it
+-- what is stated of the places of a list of terms, and of those that are shared after it
 module _ (t : TableView) (v : TheoryView) (own ids : List TermId) (classes : List ℕ) (tell : TellClasses (AreEqualBy t v) (own ++ ids) classes)
     (number : Term → Fraction) (xs : List Fraction) (are : xs ≡ map number (clause_at t (own ++ ids))) where
   -- the prefix
@@ -143,7 +143,7 @@ module _ (t : TableView) (v : TheoryView) (own ids : List TermId) (classes : Lis
       ∙ get_or-map number (clause_at t all) n (term_at t no_id) zero_fraction (rw length-map inside)
       ∙ ap number (get_or-map (term_at t) all n no_id (term_at t no_id) inside) ∙ ap (λ (id : TermId). number (term_at t id)) (place_behind own ids k lt)
 
-  -- both say the same of two shared terms, if they do of what is said
+  -- both say the same of two shared terms, if they do of what is stated
   abbrev pub GoTogether : Term → Term → Type 0
   GoTogether a b = (number a ≡ number b) ↔ IsCongruent (terms_watched t v) (literals_held t v) a b
 
@@ -169,7 +169,7 @@ module _ (t : TableView) (v : TheoryView) (own ids : List TermId) (classes : Lis
     clash_apart (inl c) h = c.1 (values_are.1 (h.1 (classes_are.0 c.0)))
     clash_apart (inr c) h = c.0 (classes_are.1 (h.0 (values_are.0 c.1)))
 
-  -- what is said of them all
+  -- what is stated of them all
   module _ (assigned_values : List Shared) (are_assigned : AreTheoryValues ids classes xs (length own) assigned_values) where
     place_of : (u : Term) → Contains (clause_at t ids) u → (k : ℕ) × (k < length ids) × (shared_at k ≡ u)
     place_of u i =
@@ -189,7 +189,7 @@ module _ (t : TableView) (v : TheoryView) (own ids : List TermId) (classes : Lis
         let y = assigned_at m.0 m.1 in
         subst (λ a. GoTogether a w) k.2 (subst (λ b. GoTogether (shared_at k.0) b) m.2 (concur_together k.0 m.0 k.1 m.1 x.0 y.0 x.2 y.2 (h x.0 y.0 x.1 y.1)))
 
-    -- of two terms on which the theories do not agree: they are shared, and this is not said alike
+    -- of two terms on which the theories do not agree: they are shared, and this is not stated alike
     pub pair_apart : (a b : TermId) → IsDifferingPair assigned_values a b → Contains ids a × (Contains ids b × (GoTogether (term_at t a) (term_at t b) → ⊥))
     pair_apart a b h =
         let k = h.one_in.0 in

@@ -1,4 +1,4 @@
--- That a search which rests has a model: its truths and classes are those of one.
+-- That a saturated search has a model: its truths and classes are those of one.
 use Rattle.std.proofs.Common.{◌≡◌, ◌<◌, ℕ, true, List, [], ◌++◌, length, get_or, map, All, Contains, sym, ap, ◌∙◌, subst}
 use Rattle.std.specs.Prelude.{◌↔◌}
 use Rattle.std.specs.List.{list_any}
@@ -120,7 +120,7 @@ module _ (t : TableView) (differ : AreDifferent t.terms) (x : Search) (v : Theor
     abbrev pub given : TheoryValues
     given = record { truths = truths; class = class_in terms classes; number = number }
 
-    -- where it rests, whether its theories agree or not
+    -- where it is saturated, whether its theories agree or not
     pub rests_apart : IsSaturatedWithNumbers t.symbols problem terms held given
     rests_apart = record {
       formulas = formulas;

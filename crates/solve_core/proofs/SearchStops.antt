@@ -205,6 +205,6 @@ stopped_on t u w x y z on (stops.Strained e) h = answered_on t u w x y z on (Unk
 stopped_on t u w x y z on (stops.Pivots n) h = answered_on t u w x y z on (Unknown (reasons.Pivots n)) h
 stopped_on t u w x y z on stops.Memory h = tt
 
--- a saturated search with more rests with less
+-- a search saturated with more is saturated with less
 pub rests_with : {A B : Type 0} (t : TableView) (x : Search) (v : TheoryView) → (A → B) → HasSaturated t x v A → HasSaturated t x v B
 rests_with t x v f h = record { ready = h.ready; held = h.held; terms = h.terms; assigned = h.assigned; satisfied = h.satisfied; agrees = f h.agrees }

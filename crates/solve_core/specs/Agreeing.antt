@@ -27,15 +27,15 @@ pub record IsTheoryValueAt (ids : List TermId) (classes : List ℕ) (numbers : L
   -- its number
   pub value : delta x.value ≡ number (get_or numbers (from + k) zero_fraction)
 
--- This is said of the first n terms, in order.
+-- This is stated of the first n terms, in order.
 pub record AreTheoryValuesBelow (ids : List TermId) (classes : List ℕ) (numbers : List Fraction) (from n : ℕ)
     (xs : List Shared) : Type 0 where
   -- there are as many
   pub count : length xs ≡ n
-  -- of each it is said at its place
+  -- of each it is stated at its place
   pub each : (k : ℕ) (d : Shared) → k < n → IsTheoryValueAt ids classes numbers from k (get_or xs k d)
 
--- this is said of all terms
+-- this is stated of all terms
 abbrev pub AreTheoryValues : List TermId → List ℕ → List Fraction → ℕ → List Shared → Type 0
 AreTheoryValues ids classes numbers from xs = AreTheoryValuesBelow ids classes numbers from (length ids) xs
 

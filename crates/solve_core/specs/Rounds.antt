@@ -40,7 +40,7 @@ pub record Stage : Type 0 where
   -- the numbers of the interface equalities
   pub interface : List TermId
 
--- how many equalities of shared terms are not beside
+-- how many equalities of shared terms are no interface equalities
 abbrev pub unspoken_at : List TermId → Stage → ℕ
 unspoken_at shared s = missing (equalities_of (clause_at s.table shared)) (clause_at s.table s.interface)
 
@@ -53,7 +53,7 @@ pub record IsOpenFor (roots shared : List TermId) (s : Stage) : Type 0 where
   pub forms : FindsOverflow s.table (asserting (clause_at s.table roots)) None
   -- these are shared among their subterms
   pub are_shared : AreSharedOf s.table (subterms_in (asserting (clause_at s.table roots))) shared
-  -- those beside are formulas
+  -- the interface equalities are formulas
   pub interface_in : AreFormulasIn s.table s.interface
   -- and equalities of shared terms
   pub equalities : All (IsSharedEquality (subterms_in (asserting (clause_at s.table roots))))

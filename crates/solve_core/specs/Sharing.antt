@@ -60,7 +60,7 @@ pub record IsAskedOf (t : TableView) (ids : List TermId) (p : Problem) (x : Sear
   pub asked : IsSearch t p x
   -- these are shared
   pub shared : AreSharedOf t (subterms_in p) ids
-  -- and those beside are their equalities
+  -- and the interface equalities are theirs
   pub interface : All (IsSharedEquality (subterms_in p)) p.interface
 
 -- Two of the numbers, of different terms, of whose equality a search of a problem does not speak.

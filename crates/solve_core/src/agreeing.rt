@@ -63,7 +63,7 @@ fn mark_all(marks: &mut Vec<bool>, ids: &[TermId]) {
     }
 }
 
-/// Gives for each term of the table whether a declared function is applied to it. No answer rests on these marks.
+/// Gives for each term of the table whether a declared function is applied to it. No answer depends on these marks.
 fn argument_marks(alloc: Global, table: &TermTable) -> Result<Vec<bool>, NoMemory> {
     let mut marks = vec![in alloc; false; table.len() as usize]?;
     'terms: for number in 0..table.len() {

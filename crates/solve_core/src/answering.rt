@@ -37,7 +37,7 @@ use term_core::{TermId, TermTable};
 pub(crate) enum Round {
     /// It is answered.
     Answered(Answer),
-    /// It rests, and the theories do not agree on these pairs of shared terms, of whose equalities it does not speak.
+    /// It is saturated, and the theories do not agree on these pairs of shared terms, of whose equalities it does not speak.
     Differ(Vec<(TermId, TermId)>),
 }
 
@@ -66,8 +66,8 @@ fn have_numbers(table: &TermTable, terms: &[TermId]) -> bool
     false
 }
 
-/// Searches with the theory of equality and functions, and with that of linear arithmetic beside it where some term is a number, from
-/// the beginning to an answer, or to where it rests and they do not agree on shared terms.
+/// Searches with the theory of equality and functions, and with that of linear arithmetic as well where some term is a number, from
+/// the beginning to an answer, or to where it is saturated and they do not agree on shared terms.
 pub(crate) fn answer(
     search: &mut Search,
     table: &mut TermTable,

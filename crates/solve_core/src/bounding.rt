@@ -1,6 +1,6 @@
 //! Clauses between neighbouring bounds, which a search begins with.
 //!
-//! By these one bound of a sum propagates its weaker ones. No answer rests on which clauses come. A second `Simplex` beside the
+//! By these one bound of a sum propagates its weaker ones. No answer depends on which clauses come. A second `Simplex` next to the
 //! theory of the search shows each of them, so that what that one came by stays as it is.
 
 ghost use Rattle.std.specs.Prelude.{◌≡◌, [], All, OnOk};

@@ -1,7 +1,7 @@
 //! A search for truths that make terms true, from the beginning to an answer, which has evidence.
 //!
-//! The loop is that of `search_loop`. Here are the theories that it is asked with, whether they agree where it rests, the model there, and
-//! what is answered. The forms of arithmetic atoms are taken before a search begins.
+//! The loop is that of `search_loop`. Here are the theories that it is asked with, whether they agree where it is saturated, the model
+//! there, and what is answered. The forms of arithmetic atoms are taken before a search begins.
 #![tactic(auto)]
 
 mod agreeing;

@@ -37,8 +37,8 @@ pub struct Outcome {
 /// search answers for: products and quotients are linear.
 ///
 /// The forms of their arithmetic atoms are taken first, in ascending order of the atoms' numbers. Then it searches, in rounds. Where a
-/// search rests and its theories do not agree on shared terms, the next round begins anew and speaks of equalities of these terms too.
-/// Log and budget are those of the last round. The table grows by the terms of the clauses that define the terms and those equalities.
+/// search is saturated and its theories do not agree on shared terms, the next round begins anew and speaks of equalities of these terms
+/// too. Log and budget are those of the last round. The table grows by the terms of the clauses that define the terms and those equalities.
 /// It stays as it was where memory runs out, the one failure.
 /// Source: Nelson and Oppen, Simplification by Cooperating Decision Procedures, TOPLAS 1979.
 pub fn decide(
@@ -85,12 +85,12 @@ fn overflowed(alloc: Global, wide: Wide, limits: &Limits) -> Result<Outcome, NoM
 struct PassedOn {
     /// The equalities of shared terms of which the next one speaks.
     interface: Vec<TermId>,
-    /// For each variable the sign that it had last. No answer rests on signs.
+    /// For each variable the sign that it had last. No answer depends on signs.
     signs: Vec<bool>,
 }
 
 /// Searches once, with the interface equalities that there are. Where the theories do not agree, it gives `None`, and equalities of shared
-/// terms come beside of which this search did not speak.
+/// terms come as well of which this search did not speak.
 fn round(
     alloc: Global,
     table: &mut TermTable,

@@ -26,7 +26,7 @@ use Rattle.spec_arithmetic.proofs.Denials.{Stands, IsDenied, denied}
 use Rattle.spec_arithmetic.proofs.Sums.{IsPart, AreParts, as_ok, judged_not}
 use Rattle.spec_arithmetic.proofs.Orders.{split_true, order_true}
 
--- what an answer has does not rest on the term of its fault
+-- what an answer has does not depend on the term of its fault
 pub without_ok : {A : Type 0} (a : Result A Fault) (r : A) → without_term a ≡ Ok r → a ≡ Ok r
 without_ok (Ok a) r e = cc
 without_ok (Err w) r e = cc

@@ -1,4 +1,4 @@
--- Laws of fractions beside those of a field: 0 and 1 on the left, and products with 0.
+-- Laws of fractions besides those of a field: 0 and 1 on the left, and products with 0.
 use Rattle.std.proofs.Common.{◌≡◌, ℕ, ◌*◌, ◌<◌, true, pos, ◌*ℤ◌, refl, sym, ◌∙◌, ap, arith, ◌≢◌, zero, suc, false, ℤ, negsuc, neg_ℤ, true≢false}
 use Rattle.std.proofs.Math.Nat.{mul-pos}
 use Rattle.std.proofs.lemmas.Bool.Decides.{Decides-int_eq, nat_tests}

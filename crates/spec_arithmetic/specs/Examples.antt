@@ -198,7 +198,7 @@ pub wide_literal : arguments (codes "170141183460469231731687303715884105728") �
 unfolding forms_on_literals clauses_on_literals
 wide_literal = refl
 
--- a quotient that leaves the bound; what is malformed beside it comes first
+-- a quotient that leaves the bound; what is malformed next to it comes first
 pub wide_quotient : arguments (codes "(/ 170141183460469231731687303715884105727 0.5) "
     ++ codes "(/ (/ 170141183460469231731687303715884105727 0.5) 0)")
     ≡ too_wide (record { op = Div; left = greatest; right = over (whole (pos 1)) 2 }) ∷ malformed ∷ []

@@ -1,4 +1,4 @@
--- Terms have entries where simplex stands, and so values: one alone where no two variables stand for one term.
+-- Terms have entries in the state of simplex, and so values: one alone where no two variables stand for one term.
 use Rattle.std.proofs.Common.{◌≡◌, ◌⊎◌, ℕ, zero, suc, Bool, true, false, inl, inr, List, [], ◌∷◌, Option, Some, None, Ok, refl, sym, ◌∙◌, ap, subst, true≢false}
 use Rattle.spec_numbers.specs.Fractions.{Fraction, zero_fraction}
 use Rattle.spec_numbers.proofs.Field.{zero-reduced}

@@ -66,7 +66,7 @@ pub kept_makes_none : (ranges : Ranges) (t u : AssignmentState) (old new : List 
     → Meets deltas t.rows ranges t.point → Ran ranges t u old new → new ≡ old
 kept_makes_none ranges t u old new solved meets ran = (kept_stays ranges t solved meets u old new ran).none_made
 
--- nor is a further one said
+-- nor is a further one asked for
 pub kept_is_not_short : (ranges : Ranges) (t u : AssignmentState) (old new : List (ℕ × ℕ)) → IsSolved numbers t.rows
     → Meets deltas t.rows ranges t.point → RanShort ranges t u old new → ⊥
 kept_is_not_short ranges t u old new solved meets short =

@@ -105,7 +105,7 @@ module _ (ts : List Term) (silent : AreSilent ts) where
         | inr above ↦ h.others y above (nonbasic y) ∙ is.values y
       ]
 
-  -- an exchange is never said
+  -- an exchange is never asked for
   no_exchange : (ranges : Ranges) (t : AssignmentState) → t.rows ≡ [] → (b x : ℕ) → RuleSays deltas ranges t (exchange b x) → ⊥
   no_exchange ranges t none b x h =
       false≢true (ap (λ q. q && not (is_within deltas ranges t.point b)) (sym (no_basic t.rows none b)) ∙ h.1.holds)

@@ -29,7 +29,7 @@ abbrev pub side_by : Bool → Side
 side_by true = upper
 side_by false = lower
 
--- a variable is bounded on this side where its multiple stands so to a number, by whether the factor is above 0
+-- a variable is bounded on this side where its multiple compares so with a number, by whether the factor is above 0
 abbrev pub IsSideOf : Relation → Bool → Side → Type 0
 IsSideOf below up side = side ≡ side_by up
 IsSideOf at_most up side = side ≡ side_by up

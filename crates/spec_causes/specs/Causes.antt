@@ -1,4 +1,4 @@
--- By which operations simplex leaves the bound on fractions where it stands, and where it needs a further exchange.
+-- By which operations simplex leaves the bound on fractions in its state, and where it needs a further exchange.
 -- Source: Dutertre and de Moura, A Fast Linear-Arithmetic Solver for DPLL(T), CAV 2006.
 use Rattle.std.specs.Prelude.{◌≡◌, ◌⊎◌, ℕ, Bool, true, false, List, [], ◌∷◌, Option, Some, None, Err, Contains}
 use Rattle.spec_numbers.specs.Fractions.{Fraction, opposite}
@@ -78,7 +78,7 @@ pub record OverflowsValueAt (e : Number) (s : TermTableau) (o : Overflow) : Type
   pub stands : owner_in s.owners variable ≡ Some term
   pub leaves : delta_evaluated (delta_in (point_in s.values variable)) e.fraction ≡ Err o
 
--- An operation of simplex over terms comes to the overflow o where it stands.
+-- An operation of simplex over terms comes to the overflow o in its state.
 pub data OverflowsAt (ts : List Term) (s : TermTableau) (o : Overflow) : Type 0 where
   -- the form of an atom
   forming : OverflowsForm ts o → OverflowsAt ts s o
@@ -109,7 +109,7 @@ pub data OverflowsAt (ts : List Term) (s : TermTableau) (o : Overflow) : Type 0 
       → (e : Number) → IsEpsilon ranges (point_in s.values) apart e
       → (p : Pair Number) → IsSharedValue ts s p → delta_evaluated (delta_in p) e.fraction ≡ Err o → OverflowsAt ts s o
 
--- Under some bounds that literals state simplex needs a further exchange over terms where it stands.
+-- Under some bounds that literals state simplex needs a further exchange over terms in its state.
 pub record NeedsMore (ts : List Term) (s : TermTableau) : Type 0 where
   -- the bounds
   pub ranges : Ranges

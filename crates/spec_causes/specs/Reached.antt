@@ -36,7 +36,7 @@ IsLonger gs = (g : Entry Number) → gs ≡ g ∷ [] → numbers.is_zero g.coeff
 pub data IsReached (ts : List Term) : ℕ → List (ℕ × ℕ) → TermTableau → Type 0 where
   -- it begins with nothing
   beginning : IsReached ts 0 [] nothing_yet
-  -- a variable comes for a term of an atom's form for which none stands yet
+  -- a variable comes for a term of an atom's form that has none yet
   naming : (n : ℕ) (es : List (ℕ × ℕ)) (s : TermTableau) → IsReached ts n es s
       → (f : Form) → IsFormAmong ts f → (u : Term) (k : Fraction) → Contains f.variables (u, k)
       → ((y : ℕ) → owner_in s.owners y ≡ Some u → ⊥) → IsReached ts n es (with_slack s u)

@@ -1,4 +1,4 @@
--- Terms that functions and linear arithmetic share, and their values where simplex stands.
+-- Terms that functions and linear arithmetic share, and their values in the state of simplex.
 -- Source: Nelson and Oppen, Simplification by Cooperating Decision Procedures, 1979; Dutertre and de Moura, CAV 2006.
 use Rattle.std.specs.Prelude.{◌≡◌, ◌≢◌, ℕ, List, [], ◌∷◌, Option, Some, Ok, Err, Contains}
 use Rattle.spec_numbers.specs.Fractions.{Fraction}
@@ -26,27 +26,27 @@ pub data IsSharedAmong (ts : List Term) : Term → Type 0 where
       ≡ Real
       → IsSharedAmong ts (app (Apply s) us)
 
--- The entries are those of a form's variables for which variables of simplex stand, in order; for the others none
--- stands.
+-- The entries are those of a form's variables that variables of simplex stand for, in order; the others have
+-- none.
 pub data AreOwnedEntries (owners : List (Option Term)) : List (Entry Number) → List (Term × Fraction) → Type 0 where
   -- there is no variable more
   ends : AreOwnedEntries owners [] []
-  -- a variable for which one stands
+  -- a variable that one stands for
   owned : (e : Entry Number) (x : Term × Fraction) (es : List (Entry Number)) (xs : List (Term × Fraction))
       → IsEntryOf owners e x
       → AreOwnedEntries owners es xs → AreOwnedEntries owners (e ∷ es) (x ∷ xs)
-  -- a variable for which none stands
+  -- a variable that none stands for
   left_out : (x : Term × Fraction) (es : List (Entry Number)) (xs : List (Term × Fraction))
       → ((y : ℕ) → owner_in owners y ≡ Some x.0 → ⊥)
       → AreOwnedEntries owners es xs → AreOwnedEntries owners es (x ∷ xs)
 
--- The sum of terms with coefficients where simplex stands. One for which no variable of simplex stands counts as 0.
+-- The sum of terms with coefficients in the state of simplex. A term without a variable counts as 0.
 pub record IsSumAt (s : TermTableau) (xs : List (Term × Fraction)) (p : Pair Number) : Type 0 where
   pub entries : List (Entry Number)
   pub are : AreOwnedEntries s.owners entries xs
   pub is : p ≡ sum_of deltas (point_in s.values) entries
 
--- The value of a term where simplex stands: the sum of its form's variables, and the constant.
+-- The value of a term in the state of simplex: the sum of its form's variables, and the constant.
 pub record IsValueOf (s : TermTableau) (u : Term) (p : Pair Number) : Type 0 where
   pub form_of : Form
   pub has : form u ≡ Ok form_of

@@ -41,7 +41,7 @@ pub fn more_terms_keep_causes()
     ensures needs { (ts us : List Term) → AreAmong ts us → (s : TermTableau) → NeedsMore ts s → NeedsMore us s }
 {}
 
-/// States that a check of bounds which the values keep makes no exchange, and that no further one is said in it. The rows are in solved
+/// States that a check of bounds which the values keep makes no exchange, and that it asks for no further one. The rows are in solved
 /// form. So a run comes only where a bound came since a check that found nothing wrong, or the last one found something.
 pub fn kept_bounds_make_no_run()
     ensures none { (ranges : Ranges) (t u : AssignmentState) (old new : List (ℕ × ℕ)) → IsSolved numbers t.rows
@@ -69,7 +69,7 @@ pub fn nothing_comes_of_no_numbers()
         → IsReached ts n es s → NeedsMore ts s → ⊥ }
 {}
 
-/// States that a term of sort Real whose form stays within the bound has a value where simplex stands, and one alone where no two
+/// States that a term of sort Real whose form stays within the bound has a value in the state of simplex, and one alone where no two
 /// variables stand for one term.
 pub fn terms_have_one_value()
     ensures some { (symbols : List Symbol) (s : TermTableau) (u : Term) (f : Form) → IsWellSorted symbols [] u
@@ -79,7 +79,7 @@ pub fn terms_have_one_value()
         → IsValueOf s u p → IsValueOf s u q → p ≡ q }
 {}
 
-/// States that a linear term has, at each number in the place of the infinitesimal, the number of its value where simplex stands, where
+/// States that a linear term has, at each number in the place of the infinitesimal, the number of its value in the state of simplex, where
 /// variables have the numbers of the terms that they stand for, and each other term 0. So a shared term has the number of its head at
 /// its arguments' numbers.
 pub fn values_are_numbers_of_terms()

@@ -18,11 +18,11 @@ front_means : (d : Derivation) (n m : ℕ) → m < n → conclusion_at (take n d
 front_means d n m lt = ap conclusion (get_or-take n d m no_inference lt)
 
 module _ (d : Derivation) (symbols : List Symbol) (i : Interpretation) (rules : (rule : Rule) (ps : List Clause) (arguments : Trees) (c : Clause) → All (IsFormulaOver symbols) c → All (λ x. clause_true i x ≡ true) ps → IsRight rule ps arguments c → clause_true i c ≡ true) (right : IsDerivation d) (formulas : All (λ x. All (IsFormulaOver symbols) (conclusion x)) d) where
-  -- the assumptions that a clause rests on are true
+  -- the assumptions that a clause depends on are true
   abbrev AreTrue : ℕ → Type 0
   AreTrue n = (m : ℕ) (t : Term) → RestsOn d n m → inference_at d m ≡ assumption t → term_true i t ≡ true
 
-  -- a step is true where the clauses before it are, as far as what they rest on is
+  -- a step is true where the clauses before it are, as far as what they depend on is
   one_true : (n : ℕ) → n < length d → ((m : ℕ) → m < n → AreTrue m → clause_true i (conclusion_at d m) ≡ true) → AreTrue n → clause_true i (conclusion_at d n) ≡ true
   one_true n lt before assumed = go (inference_at d n) refl (follows_at d right n lt)
     where

@@ -17,7 +17,7 @@ module _ (d more : Derivation) where
   pub kept_at : (n : ℕ) → n < length d → inference_at (d ++ more) n ≡ inference_at d n
   kept_at n lt = get_or_append_left d more no_inference n lt
 
-  -- and what it rests on
+  -- and what it depends on
   rests_before : IsDerivation d → (n m : ℕ) → n < length d → RestsOn (d ++ more) n m → RestsOn d n m
   rests_before right n _ lt (itself _) = itself n
   rests_before right n m lt (by_premise _ k _ k_in rests) =

@@ -28,7 +28,7 @@ module _ {L : Type 0} (negation : L → L) (decide : (l m : L) → (l ≡ m) ⊎
     | inr s ↦ s.5 (derived_holds (negation s.0) (all s.0 s.2))
   ]
 
--- a settled clause more
+-- a clause more from which nothing follows
 pub inert_keeps : {L : Type 0} (negation : L → L) (premises : List (List L)) (held : List L) (c : List L) → IsQuiet negation premises held → ImpliesNothing negation held c → IsQuiet negation (premises ++ c ∷ []) held
 inert_keeps negation premises held c quiet s d d_in = elim (Contains-push_cases premises c d d_in) [ inl old ↦ quiet d old | inr e ↦ subst (λ x. ImpliesNothing negation held x) e s ]
 

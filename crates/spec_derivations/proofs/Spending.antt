@@ -39,12 +39,12 @@ pub premises_before : (earlier : Derivation) (x : Inference) (k : ℕ) → Follo
 premises_before earlier (assumption t) k f k_in = absurd (none k k_in)
 premises_before earlier (by_rule rule ps arguments clause) k f k_in = All-contains (λ n. n < length earlier) ps k f.0 k_in
 
--- what one of its premises is, a clause rests on
+-- what one of its premises is, a clause depends on
 pub rests_onward : (d : Derivation) (n m k : ℕ) → RestsOn d n m → Contains (premises_of (inference_at d m)) k → RestsOn d n k
 rests_onward d n m k (itself _) p = by_premise n k k p (itself k)
 rests_onward d n m k (by_premise _ j _ first rest) p = by_premise n j k first (rests_onward d j m k rest p)
 
--- what a clause of a derivation rests on is one of it
+-- what a clause of a derivation depends on is one of it
 pub rests_there : (d : Derivation) → IsDerivation d → (n m : ℕ) → n < length d → RestsOn d n m → m < length d
 rests_there d right _ _ lt (itself n) = lt
 rests_there d right _ _ lt (by_premise n k m k_in rests) =

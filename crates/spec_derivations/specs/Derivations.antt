@@ -51,7 +51,7 @@ abbrev pub IsDerivation : Derivation → Type 0
 IsDerivation d = (before : Derivation) (x : Inference) (after : Derivation) → d ≡ before ++ x ∷ after
     → FollowsFrom before x
 
--- The clause of the first number rests on that of the second: it is the same, or one of its premises rests on it.
+-- The clause of the first number depends on that of the second: it is the same, or one of its premises depends on it.
 pub data RestsOn (d : Derivation) : ℕ → ℕ → Type 0 where
   itself : (n : ℕ) → RestsOn d n n
   by_premise : (n m k : ℕ) → Contains (premises_of (inference_at d n)) m → RestsOn d m k → RestsOn d n k
@@ -61,9 +61,9 @@ abbrev pub AssumesAmong : List Term → Inference → Type 0
 AssumesAmong terms (assumption t) = Contains terms t
 AssumesAmong terms (by_rule r ps arguments c) = Unit {0}
 
--- the clause of that number is there, and each assumption that it rests on is one of these terms
+-- the clause of that number is there, and each assumption that it depends on is one of these terms
 pub record IsDerivedFrom (terms : List Term) (d : Derivation) (n : ℕ) : Type 0 where
   -- the number is one of the derivation's
   pub there : n < length d
-  -- what it rests on
+  -- what it depends on
   pub assumptions : (m : ℕ) → RestsOn d n m → AssumesAmong terms (inference_at d m)

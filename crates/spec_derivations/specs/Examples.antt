@@ -10,7 +10,7 @@ use Rattle.spec_rules.specs.Examples.{p, q, r, a, b, x, y, less_a_b}
 use Rattle.spec_derivations.specs.Problems.{Problem}
 use Rattle.spec_derivations.specs.Derivations.{Derivation, assumption, by_rule}
 
--- terms that are asserted, with others beside them
+-- terms that are asserted, with others besides them
 abbrev pub speaking : List Term → List Term → Problem
 speaking ts bs = record { asserted = ts; assumed = []; interface = bs }
 

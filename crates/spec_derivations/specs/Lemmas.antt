@@ -1,4 +1,4 @@
--- Lemmas of a theory: inferences that rest on each other alone, over terms that a search speaks of. Source:
+-- Lemmas of a theory: inferences that depend on each other alone, over terms that a search speaks of. Source:
 -- Nieuwenhuis, Oliveras and Tinelli, Solving SAT and SAT modulo theories, JACM 2006; which terms they may be over is
 -- own.
 use Rattle.std.specs.Prelude.{ℕ, ◌≤◌, List, [], All, Contains}

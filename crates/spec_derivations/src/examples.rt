@@ -14,7 +14,7 @@ ghost use Rattle.spec_derivations.specs.Examples.{below_or_same, chosen, equals_
 
 /// States the base clauses of a disjunction, of a choice, and of three negations: the term alone, and what its
 /// rules without premises state. A constant has none of its own, and a single negation has none. What is assumed
-/// has no clause alone, and a term beside these has none at all.
+/// has no clause alone, and a term besides these has none at all.
 pub fn base_clauses_are_stated()
     ensures disjunction { base_clauses (asserting (p_or_not_q ∷ []))
         ≡ (p_or_not_q ∷ [])
@@ -71,7 +71,7 @@ pub fn order_clauses_are_stated()
     ensures orders { order_clauses (pair AtMost a b) ≡ [] }
 {}
 
-/// States what a search speaks of where a term is beside those that are asserted: of it, and of the equalities of its
+/// States what a search speaks of where there is a term besides those that are asserted: of it, and of the equalities of its
 /// choices. It is not asserted, so a constant brings no clause.
 pub fn interface_terms_are_spoken_of()
     ensures itself { Contains (search_terms (speaking [] (equals_chosen ∷ []))) equals_chosen }
@@ -79,7 +79,7 @@ pub fn interface_terms_are_spoken_of()
     ensures no_clause { search_clauses (speaking [] (p ∷ [])) ≡ search_clauses (asserting []) }
 {}
 
-/// States what the clauses that a check learns may speak of: a constant of a term beside its own, the equality of a
+/// States what the clauses that a check learns may speak of: a constant of a term besides its own, the equality of a
 /// choice between numbers with its first branch, and the orders of both. They speak of no truth value, and of no number as
 /// such.
 pub fn atoms_are_found()

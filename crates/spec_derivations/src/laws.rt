@@ -94,7 +94,7 @@ pub fn propagated_clauses_are_conflicts()
 {}
 
 /// States that in a derivation a clause is true under an interpretation of the symbols where the assumptions are
-/// that it rests on. The derivation's clauses have formulas over these symbols.
+/// that it depends on. The derivation's clauses have formulas over these symbols.
 pub fn derivations_are_sound()
     ensures { (symbols : List Symbol) (d : Derivation) (i : Interpretation) → IsDerivation d → Interprets i symbols
         → All (λ x. All (IsFormulaOver symbols) (conclusion x)) d → (n : ℕ) → n < length d

@@ -14,10 +14,10 @@ f t = of (Apply (record { name = codes "f"; parameters = Declared (codes "S") �
 abbrev pub h : Term → Term
 h t = of (Apply (record { name = codes "h"; parameters = Truth ∷ []; result = Declared (codes "S") })) (t ∷ [])
 
--- the terms are said to be equal
+-- the terms are stated to be equal
 abbrev pub same : Term → Term → Literal
 same t u = signed_literal (equal t u) true
 
--- the terms are said to be different
+-- the terms are stated to be different
 abbrev pub apart : Term → Term → Literal
 apart t u = signed_literal (equal t u) false

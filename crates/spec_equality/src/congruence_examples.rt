@@ -15,7 +15,7 @@ pub fn equal_arguments_give_equal_terms()
     ensures not_back { IsCongruent (f a ∷ f b ∷ []) (same (f a) (f b) ∷ []) a b → ⊥ }
 {}
 
-/// States that literals are refuted where sides that are said to be different are equal, and not where they stay apart.
+/// States that literals are refuted where sides that are stated to be different are equal, and not where they stay apart.
 pub fn joined_sides_are_refuted()
     ensures joined { IsRefuted (f a ∷ f b ∷ []) (apart (f a) (f b) ∷ same a b ∷ []) }
     ensures stay { IsFine (f a ∷ f b ∷ []) (apart a b ∷ same (f a) (f b) ∷ []) }

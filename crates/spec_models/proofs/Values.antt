@@ -131,7 +131,7 @@ module _ (m : Meaning) (b : Bindings) where
     value_means (Declared n) (number q) h = absurd h
     value_means (Declared n) (element x k) h = element_means x k
 
--- a word that may stand without bars
+-- a word that may be written without bars
 pub bare_word : (b : ℕ) (bs : List ℕ) → is_bare (b ∷ bs) ≡ true → IsWord Simple (b ∷ bs)
 bare_word b bs e =
     let p = three_parts (not (is_digit b)) (all_pass is_symbol_byte (b ∷ bs)) (not (among reserved_words (b ∷ bs))) e in

@@ -122,7 +122,7 @@ pub elements : values (codes "(as @e0 U) (as @e12 |U V|) (as |@e3| U)") ≡ elem
 unfolding model_values_on_literals
 elements = refl
 
--- elements may stand wherever terms may
+-- elements may be wherever terms may
 pub elements_inside : values (codes "(= (as @e0 U) (as @e0 U)) (= (as @e0 U) (as @e1 U)) (let ((x (as @e2 U))) x) "
     ++ codes "(ite false (as @e0 U) (! (as @e1 U) :a 1))") ≡ truth true ∷ truth false ∷ element (codes "U") 2
     ∷ element (codes "U") 1 ∷ []

@@ -134,7 +134,7 @@ DefineAll i g _ _ = ⊥
 pub record IsDeclaredIn (g : Signature) (n : Name) : Type 0 where
   -- a symbol can have the name
   pub name : IsName n
-  -- it is the name of this sort, wherever it stands
+  -- it is the name of this sort, wherever it is
   pub sort : (at : ℕ) → sort_named g at n ≡ Ok (Declared n)
 
 -- a sort that a signature has

@@ -7,7 +7,7 @@ use Rattle.spec_text.specs.Trees.{Trees, spelled_all}
 use Rattle.spec_text.specs.Readings.{depth_all}
 use Rattle.spec_proofs.specs.Texts.{complete, AreCommands}
 
--- commands in one list, after which nothing stands
+-- commands in one list, after which nothing comes
 pub in_one_list : (end at close : ℕ) (xs : List (ℕ × Lexeme)) (ts : Trees) → xs ≡ (at, opens) ∷ spelled_all ts
     ++ (close, closes) ∷ [] → 1 + depth_all ts ≤ nesting_limit → AreCommands true end xs ts complete
 in_one_list end at close xs ts e within = (

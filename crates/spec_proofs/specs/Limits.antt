@@ -1,4 +1,4 @@
--- How many lists stand round the commands of a proof.
+-- How many lists are round the commands of a proof.
 use Rattle.std.specs.Prelude.{ℕ, Bool, true, false}
 
 -- how many lists are open round the commands

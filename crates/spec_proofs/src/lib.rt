@@ -15,7 +15,7 @@ mod rule_names;
 pub enum Rule {
     /// `or`: a disjunction is opened into its arguments.
     Or,
-    /// `contraction`: literals that stand twice are left out.
+    /// `contraction`: literals that occur twice are left out.
     Contraction,
     /// `reordering`: literals come in another order.
     Reordering,

@@ -16,7 +16,7 @@ use Rattle.spec_sorts.specs.Forms.{applies, binds, annotates, form}
 pub record Setting : Type 0 where
   -- whether a new name may begin with `@` or `.`
   pub kept_names : Bool
-  -- whether `:named` may stand
+  -- whether `:named` is allowed
   pub may_name : Bool
   -- the name whose body is read
   pub own : Option Name

@@ -45,7 +45,7 @@ pub fn arithmetic_rules_keep_their_names()
 {}
 
 /// States that each chain of binary resolutions passes, where each resolves the clause up to here with a premise. Premises
-/// may be used in any order and as often as wanted, and so in the order in which they stand.
+/// may be used in any order and as often as wanted, and so in the order in which they are listed.
 pub fn chains_are_resolvents()
     ensures any { (premises : List Clause) (first : Clause) (rest : List Clause) (clause : Clause)
         → IsWithin (first ∷ rest) premises

@@ -1,4 +1,4 @@
--- Numbers stand to each other as their difference compares with 0.
+-- Numbers compare as their difference does with 0.
 use Rattle.std.proofs.Common.{◌≡◌, ◌↔◌, Bool, true, false, not, List, Ok, ◌&&◌, ◌||◌, ℤ, pos, ◌<ℤ◌, ◌≤ℤ◌, neg_ℤ, refl, sym, ◌∙◌, ap, subst, arith}
 use Rattle.std.specs.Int.RustNames.{int_lt}
 use Rattle.std.proofs.lemmas.Bool.{and_parts}
@@ -79,7 +79,7 @@ compared equals x y rx ry rd = (there, back)
         let none : minus x y ≡ zero_fraction = zero_is (minus x y) rd (and_parts _ _ e).0 in
         at_most_both x y rx ry (ap not (less_above x y ∙ ap is_above_zero none)) (ap not (less_below x y ∙ ap is_below_zero none))
 
--- so the sides of a constraint stand to each other as the value of its form does to 0
+-- so the sides of a constraint compare as the value of its form does with 0
 pub sides_compared : (symbols : List Symbol) (n : Term → Fraction) (c : Constraint) (f : Form) → ((t : Term) → IsReduced (n t)) → IsLinearOver symbols c.left → IsLinearOver symbols c.right → form_of c ≡ Ok f
     → Compares c.relation (number_at n c.left) (number_at n c.right) ↔ (stands c.relation (form_value n f) zero_fraction ≡ true)
 sides_compared symbols n c f reduced l r e =

@@ -1,4 +1,4 @@
--- Values stand to 0 as they do in the order of pairs.
+-- Values compare with 0 as they do in the order of pairs.
 use Rattle.std.proofs.Common.{◌≡◌, ◌↔◌, Bool, true, false, ◌&&◌, ◌||◌, cond, ℤ, pos, neg_ℤ, refl, sym, ◌∙◌, ap, arith}
 use Rattle.std.specs.Ordering.{int_eq}
 use Rattle.std.specs.Int.RustNames.{int_lt}

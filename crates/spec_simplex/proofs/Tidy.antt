@@ -18,7 +18,7 @@ abbrev pub has : Term → List (Term × Fraction) → Bool
 has u [] = false
 has u ((v, k) ∷ rest) = same_term u v || has u rest
 
--- each variable stands once, and no coefficient is 0
+-- each variable occurs once, and no coefficient is 0
 abbrev pub AreTidy : List (Term × Fraction) → Type 0
 AreTidy [] = Unit {0}
 AreTidy ((v, k) ∷ rest) = (is_zero k ≡ false) × (has v rest ≡ false) × AreTidy rest

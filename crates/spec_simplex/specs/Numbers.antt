@@ -7,7 +7,7 @@ use Rattle.spec_sorts.specs.Literals.{Literal}
 use Rattle.spec_arithmetic.specs.Numbers.{number_at, IsLinear}
 use Rattle.spec_simplex.specs.Constraints.{Relation, below, at_most, equals, at_least, above, Constraint, constraint_of}
 
--- the first number stands so to the second
+-- the first number compares so with the second
 abbrev pub Compares : Relation → Fraction → Fraction → Type 0
 Compares below x y = less x y ≡ true
 Compares at_most x y = up_to x y ≡ true

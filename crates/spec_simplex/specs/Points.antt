@@ -44,7 +44,7 @@ is_over base tilt = is_above_zero base || (is_zero base && is_above_zero tilt)
 unfoldable pub is_under : Fraction → Fraction → Bool
 is_under base tilt = is_below_zero base || (is_zero base && is_below_zero tilt)
 
--- a number with a tilt stands so to 0
+-- a number with a tilt compares so with 0
 abbrev pub stands : Relation → Fraction → Fraction → Bool
 stands below base tilt = is_under base tilt
 stands at_most base tilt = not (is_over base tilt)
@@ -52,7 +52,7 @@ stands equals base tilt = is_zero base && is_zero tilt
 stands at_least base tilt = not (is_under base tilt)
 stands above base tilt = is_over base tilt
 
--- a form has a value at a point that stands so to 0
+-- a form has a value at a point that compares so with 0
 abbrev pub FormHolds : Relation → Point → Form → Type 0
 FormHolds r p f = stands r (base_at p f) (tilt_at p f) ≡ true
 

@@ -44,7 +44,7 @@ unfoldable pub weighted_sum : (Term → Fraction) → List Summand → Fraction
 weighted_sum n [] = zero_fraction
 weighted_sum n (x ∷ xs) = plus (product_at n x) (weighted_sum n xs)
 
--- 0 itself does not stand so to 0, and the weight is not 0
+-- 0 itself does not compare so with 0, and the weight is not 0
 abbrev pub is_strict_by : Relation → Fraction → Bool
 is_strict_by below w = not (is_zero w)
 is_strict_by above w = not (is_zero w)

@@ -65,8 +65,8 @@ pub fn forms_are_sums_of_entries()
         → variables_value (tilts p) xs ≡ (sum_of (pairs numbers) v es).tilt.fraction }
 {}
 
-/// States that the sides of a constraint have numbers that stand to each other as it says exactly where its form has a
-/// value that stands so to 0.
+/// States that the sides of a constraint have numbers that compare as it says exactly where its form has a
+/// value that compares so with 0.
 pub fn forms_compare_numbers()
     ensures { (symbols : List Symbol) (n : Term → Fraction) (c : Constraint) (f : Form) → ((t : Term) → IsReduced (n t))
         → IsLinearOver symbols c.left → IsLinearOver symbols c.right → form_of c ≡ Ok f

@@ -82,7 +82,7 @@ module _ (i : Interpretation) (ps : List Value) where
 abbrev pub Means : Rule → (List Value → Value) → Type 0
 Means r f = (i : Interpretation) (ps : List Value) (ts : List Term) → value_at i ps (r.reads ts) ≡ f (map (value_at i ps) ts)
 
--- the names are the same, and each rule means what is beside it
+-- the names are the same, and each rule means what is next to it
 abbrev pub AllMean : List (Name × Rule) → List (Name × (List Value → Value)) → Type 0
 AllMean [] [] = Unit {0}
 AllMean (r ∷ rs) (f ∷ fs) = (r.0 ≡ f.0) × Means r.1 f.1 × AllMean rs fs

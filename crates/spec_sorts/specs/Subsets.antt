@@ -15,6 +15,6 @@ AreAmong ts us = (t : Term) → Contains ts t → Contains us t
 abbrev pub IsClosed : List Term → Type 0
 IsClosed us = (t : Term) → Contains us t → AreAmong (arguments_of t) us
 
--- no term stands twice
+-- no term occurs twice
 abbrev pub AreOnce : List Term → Type 0
 AreOnce ts = AllPairs (λ t u. t ≢ u) ts

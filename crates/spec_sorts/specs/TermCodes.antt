@@ -46,7 +46,7 @@ abbrev pub fraction_code : Coded Fraction
 fraction_code = code_by (ℤ × ℕ) (coded× coded_ℤ coded_ℕ) (λ q. (q.num, q.den)) (λ p. record { num = p.0; den = p.1 })
     (λ _. refl)
 
--- what a head has beside its word: a number, a symbol, or the number of a parameter with its sort
+-- what a head has besides its word: a number, a symbol, or the number of a parameter with its sort
 abbrev pub HeadRest : Type 0
 HeadRest = Fraction ⊎ (Symbol ⊎ (ℕ × Sort))
 
@@ -69,7 +69,7 @@ theory_code Less = 13
 theory_code AtMost = 14
 theory_code h = 15
 
--- a head as a number, or what it has beside its word
+-- a head as a number, or what it has besides its word
 abbrev pub head_parts : Head → ℕ ⊎ HeadRest
 head_parts (Literal q) = inr (inl q)
 head_parts (Apply s) = inr (inr (inl s))

@@ -111,7 +111,7 @@ unfoldable mutual
   are_constant nil = true
   are_constant (cons t ts) = is_constant t && are_constant ts
 
--- what may stand as a divisor: a literal, `(- d)` or `(/ d e)` of divisors
+-- what may be a divisor: a literal, `(- d)` or `(/ d e)` of divisors
 unfoldable pub is_divisor : Term → Bool
 is_divisor (app (Literal q) ts) = true
 is_divisor (app Minus (cons d nil)) = is_divisor d
@@ -139,7 +139,7 @@ each_passes test (t ∷ ts) = test t && each_passes test ts
 abbrev pub product_fault : List Term → Option Fault
 product_fault ts = if nat_le (count_of (λ t. not (is_constant t)) ts) 1 then None else Some NotLinear
 
--- each divisor may stand as one, and then none of them is zero
+-- each divisor may be one, and then none of them is zero
 abbrev pub divisors_fault : List Term → Option Fault
 divisors_fault ds = if not (each_passes is_divisor ds) then Some NotLinear else if not
     (each_passes (λ d. not (is_zero_divisor d)) ds) then Some ZeroDivisor else None

@@ -1,4 +1,4 @@
--- What an answer through two steps says of each, and where its fault stands.
+-- What an answer through two steps says of each, and where its fault is.
 use Rattle.std.proofs.Common.{◌≡◌, ℕ, Bool, true, false, refl, sym, ap, ◌∙◌, subst}
 use Rattle.std.specs.Prelude.{Result, Ok, Err, IsErrAnd, IfErr}
 use Rattle.spec_text.specs.declared.Fault.{Fault}

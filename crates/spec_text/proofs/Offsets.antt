@@ -12,7 +12,7 @@ use Rattle.spec_text.specs.Offsets.{AllOffsets, AllOffsetsOf}
 use Rattle.spec_text.specs.Faults.{Located, first_fault}
 use Rattle.spec_text.proofs.Tests.{front_then_rest}
 
--- before a fault stand no more bytes than there are
+-- before a fault are no more bytes than there are
 abbrev FitsBy : Lexeme → ℕ → ℕ → Type 0
 FitsBy (wrong f) n size = n ≤ size
 FitsBy _ n size = Unit {0}
@@ -72,7 +72,7 @@ first_fits b bs =
     either size (b == 58) _ _ (keyword_fits size (front is_symbol_byte bs)) (
     either size (is_symbol_byte b) _ _ tt (omega arith))))))))))
 
--- a lexeme stands from an offset on and before another, and a fault no further than the other
+-- a lexeme is from an offset on and before another, and a fault no further than the other
 abbrev IsFaultBy : ℕ → ℕ → ℕ → Lexeme → Type 0
 IsFaultBy low high at (wrong f) = at ≤ high
 IsFaultBy low high at _ = (low ≤ at) × (at < high)
@@ -132,7 +132,7 @@ module _ (low high : ℕ) where
         let others = trees_are_within ts rest first.1 in
         ((first.0, others.0), others.1)
 
--- a fault, where there is one, stands no further than so many bytes
+-- a fault, where there is one, is no further than so many bytes
 abbrev IsFaultAt : ℕ → Option Located → Type 0
 IsFaultAt high None = Unit {0}
 IsFaultAt high (Some f) = f.offset ≤ high

@@ -1,4 +1,4 @@
--- Bytes by what they can be in. Source: SMT-LIB 2.6, section 3.1; where any other byte may stand, own.
+-- Bytes by what they can be in. Source: SMT-LIB 2.6, section 3.1; where any other byte may be, own.
 use Rattle.std.specs.Prelude.{ℕ, Bool, false, ◌&&◌, ◌||◌, not, List, [], ◌∷◌, codes, nat_le, ◌==◌, if◌then◌else◌}
 use Rattle.std.specs.Str.{bytes_eq}
 

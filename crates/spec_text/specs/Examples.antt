@@ -13,7 +13,7 @@ pub numbers_and_symbols : lexemes 0 0 (codes "1.50 |a b| x:k ; note") ≡ (0, wo
 unfolding lexemes first_piece
 numbers_and_symbols = refl
 
--- two quotes in a string stand as written, and a reserved word is no symbol
+-- two quotes in a string are as written, and a reserved word is no symbol
 pub string_with_quotes : lexemes 0 0 (codes "\"a\"\"b\" let") ≡ (0, word Text (codes "a\"\"b"))
     ∷ (7, word Reserved (codes "let")) ∷ []
 unfolding lexemes first_piece string_body after_quote
@@ -24,7 +24,7 @@ pub point_without_digits : lexical_fault (codes "(1. a)") ≡ located 2 BadChar
 unfolding lexemes first_piece first_fault
 point_without_digits = refl
 
--- after a decimal stands no byte of symbols
+-- after a decimal comes no byte of symbols
 pub two_points : lexical_fault (codes "1.5.2") ≡ located 3 BadChar
 unfolding lexemes first_piece first_fault
 two_points = refl

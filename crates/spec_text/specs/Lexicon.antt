@@ -1,6 +1,6 @@
 -- The lexicon as a table: which bytes spell which lexeme. Source: SMT-LIB 2.6, section 3.1. Own: strings, quoted
 -- symbols and comments may hold any other byte, where the standard has printable characters and white space, and after
--- a keyword's colon may stand any bytes of symbols, where it has a simple symbol.
+-- a keyword's colon may come any bytes of symbols, where it has a simple symbol.
 use Rattle.std.specs.Prelude.{◌≡◌, ◌≢◌, ◌≤◌, ℕ, Bool, true, false, List, [], ◌∷◌, ◌++◌, length, take, drop, ◌==◌}
 use Rattle.spec_text.specs.declared.Kind.TheVariants.{Numeral, Decimal, Text, Simple, Quoted, Reserved, Keyword}
 use Rattle.spec_text.specs.Bytes.{is_blank, is_in_comment, is_digit, is_symbol_byte, is_in_bars, among, reserved_words}
@@ -43,7 +43,7 @@ abbrev pub BeginsWithout : (ℕ → Bool) → List ℕ → Type 0
 BeginsWithout test [] = Unit {0}
 BeginsWithout test (b ∷ bs) = test b ≡ false
 
--- after a number stands no byte of symbols, and after a string no quote
+-- after a number comes no byte of symbols, and after a string no quote
 abbrev pub CanFollow : Lexeme → List ℕ → Type 0
 CanFollow (word Numeral name) rest = BeginsWithout is_symbol_byte rest
 CanFollow (word Decimal name) rest = BeginsWithout is_symbol_byte rest

@@ -1,4 +1,4 @@
--- Where trees stand: the offsets of their atoms and lists.
+-- Where trees are: the offsets of their atoms and lists.
 use Rattle.std.specs.Prelude.{◌≡◌, ◌⊎◌, ℕ, refl}
 use Rattle.std.proofs.Common.{inl, inr, subst}
 use Rattle.spec_text.specs.Trees.{Tree, Trees, atom, list, none, more}

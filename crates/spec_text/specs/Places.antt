@@ -12,7 +12,7 @@ use Rattle.spec_text.specs.declared.Fault.TheVariants.{UnknownLogic, NotLiteral,
 abbrev pub line_of : List ℕ → ℕ → ℕ
 line_of text offset = 1 + count_by (λ b. b == 10) (take offset text)
 
--- how many bytes stand since the last byte 10, the first number of them before the list
+-- how many bytes come since the last byte 10, the first number of them before the list
 abbrev pub since_break : ℕ → List ℕ → ℕ
 since_break n [] = n
 since_break n (b ∷ bs) = if b == 10 then since_break 0 bs else since_break (n + 1) bs

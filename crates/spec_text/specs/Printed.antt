@@ -1,4 +1,4 @@
--- How an s-expression is printed. Source: SMT-LIB 2.6, sections 3.1 and 3.2; where white space stands, own.
+-- How an s-expression is printed. Source: SMT-LIB 2.6, sections 3.1 and 3.2; where white space is, own.
 use Rattle.std.specs.Prelude.{◌≡◌, ℕ, Bool, true, false, ◌&&◌, not, List, [], ◌∷◌, ◌++◌, if◌then◌else◌}
 use Rattle.spec_text.specs.declared.Kind.{Kind}
 use Rattle.spec_text.specs.declared.Kind.TheVariants.{Text, Simple, Quoted, Keyword}
@@ -10,7 +10,7 @@ abbrev pub all_pass : (ℕ → Bool) → List ℕ → Bool
 all_pass test [] = true
 all_pass test (b ∷ bs) = test b && all_pass test bs
 
--- whether a name may stand without bars: bytes of symbols, the first of them no digit, that are no reserved word
+-- whether a name may be written without bars: bytes of symbols, the first of them no digit, that are no reserved word
 abbrev pub is_bare : Name → Bool
 is_bare [] = false
 is_bare (b ∷ bs) = not (is_digit b) && all_pass is_symbol_byte (b ∷ bs) && not (among reserved_words (b ∷ bs))

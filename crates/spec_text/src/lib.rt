@@ -59,7 +59,7 @@ pub enum Fault {
     TooLong,
     /// A list that begins with the name of no command.
     UnknownCommand,
-    /// A command, a term or an atom of another form than is wanted where it stands.
+    /// A command, a term or an atom of another form than is wanted there.
     BadShape,
     /// A symbol that is neither declared nor bound, nor one of a theory.
     UnknownSymbol,
@@ -71,7 +71,7 @@ pub enum Fault {
     Reserved,
     /// A function with another number of arguments than it takes.
     WrongCount,
-    /// A term of another sort than is wanted where it stands.
+    /// A term of another sort than is wanted there.
     WrongSort,
     /// A product of two terms that are no constants, or a divisor that is no number.
     NotLinear,

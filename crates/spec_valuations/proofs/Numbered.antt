@@ -1,4 +1,4 @@
--- A search over equality, functions and linear arithmetic that rests has numbers that go with its truths.
+-- A saturated search over equality, functions and linear arithmetic has numbers that go with its truths.
 use Rattle.std.proofs.Common.{◌≡◌, ◌↔◌, Bool, true, false, not, ◌||◌, ◌&&◌, cond, ◌<ℤ◌, List, [], ◌∷◌, length, map, Contains, pos, refl, sym, ap, ◌∙◌, subst, arith}
 use Rattle.std.specs.Prelude.{flat_map}
 use Rattle.std.specs.List.{list_any}

@@ -1,4 +1,4 @@
--- A search over equality and functions that rests has no numbers.
+-- A saturated search over equality and functions has no numbers.
 use Rattle.std.proofs.Common.{◌≡◌, ◌≢◌, ℕ, true, List, [], ◌∷◌, map, Contains, refl}
 use Rattle.std.specs.Prelude.{flat_map}
 use Rattle.std.proofs.lemmas.Bool.{false≢true}

@@ -42,7 +42,7 @@ all_truths : (ts : Terms) → ((u : Term) → Contains (list_of ts) u → sort_o
 all_truths nil f = refl
 all_truths (cons t ts) f = both_true (ap (same_sort Truth) (f t (first t (list_of ts)))) (all_truths ts (λ u c. f u (later t (list_of ts) u c)))
 
--- What a search has of its truths and classes where it rests, whatever theories it has.
+-- What a search has of its truths and classes where it is saturated, whatever theories it has.
 pub record IsAtSaturation (symbols : List Symbol) (p : Problem) (terms : List Term) (held : List HeldLiteral) (v : Truths) (class : Term → ℕ) : Type 0 where
   -- the terms of the check and the interface equalities are formulas over the symbols, and its own are listed
   pub formulas : All (IsFormulaOver symbols) (known_terms p)

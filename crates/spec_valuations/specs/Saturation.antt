@@ -1,4 +1,4 @@
--- Where a search over equality and functions is saturated, and one over linear arithmetic beside these. Source: Nelson
+-- Where a search over equality and functions is saturated, and one over linear arithmetic as well. Source: Nelson
 -- and Oppen 1979; Tseitin 1968.
 use Rattle.std.specs.Prelude.{◌≡◌, ◌≢◌, ◌↔◌, ℕ, true, List, All, Contains}
 use Rattle.std.specs.List.{list_any}
@@ -17,7 +17,7 @@ use Rattle.spec_derivations.specs.Orders.{whole_terms, whole_clauses}
 use Rattle.spec_valuations.specs.Tables.{Valuation}
 use Rattle.spec_valuations.specs.Classes.{value_by, AreShared, Agrees}
 
--- What a search over equality and functions has where it rests.
+-- What a search over equality and functions has where it is saturated.
 pub record Saturated (symbols : List Symbol) (p : Problem) (terms : List Term) (held : List Literal) (v : Truths)
     (class : Term → ℕ) : Type 0 where
   -- the terms of the check are formulas over the symbols, and so are the interface equalities
@@ -51,8 +51,8 @@ pub record TheoryValues : Type 0 where
 abbrev pub values_of : TheoryValues → Valuation
 values_of a = value_by (term_true_by a.truths) (number_at a.number) a.class
 
--- What a search over equality, functions and linear arithmetic has where it rests, whether its theories agree on shared
--- terms or not.
+-- What a search over equality, functions and linear arithmetic has where it is saturated, whether its theories agree on
+-- shared terms or not.
 pub record IsSaturatedWithNumbers (symbols : List Symbol) (p : Problem) (terms : List Term) (held : List Literal)
     (a : TheoryValues) : Type 0 where
   -- the terms of the check are formulas over the symbols, and so are the interface equalities
@@ -81,7 +81,7 @@ pub record IsSaturatedWithNumbers (symbols : List Symbol) (p : Problem) (terms :
 -- What such a search has where its theories agree on shared terms. Source: Nelson and Oppen 1979.
 pub record IsSaturatedOnNumbers (symbols : List Symbol) (p : Problem) (terms : List Term) (held : List Literal)
     (a : TheoryValues) : Type 0 where
-  -- it rests
+  -- it is saturated
   pub rests : IsSaturatedWithNumbers symbols p terms held a
   -- the terms that both theories speak of
   pub shared : List Term

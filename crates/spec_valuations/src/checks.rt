@@ -14,8 +14,8 @@ ghost use Rattle.spec_valuations.specs.Saturation.{Saturated, TheoryValues, IsSa
 
 use crate::laws::{saturated_searches_have_models, searches_saturated_on_numbers_have_models};
 
-/// States that a check has a model where a search of its terms rests that makes true what the check assumes. So where a
-/// search rests, `sat` is right.
+/// States that a check has a model where a saturated search of its terms makes true what the check assumes. So where a
+/// search is saturated, `sat` is right.
 pub fn saturated_searches_give_current_checks_models()
     ensures { (limit : ℕ) (script : List ℕ) (k : ℕ) (c : Check) (interface terms : List Term) (held : List Literal)
         (v : Truths) (class : Term → ℕ) → IsCurrent limit script k c
@@ -28,8 +28,8 @@ pub fn saturated_searches_give_current_checks_models()
     spec_commands::assertions_have_their_texts_value();
 }
 
-/// States that a check has a model where a search over equality, functions and linear arithmetic rests that makes true
-/// what the check assumes. Its theories agree on shared terms. So where it rests, `sat` is right. Source: Nelson and
+/// States that a check has a model where a saturated search over equality, functions and linear arithmetic makes true
+/// what the check assumes. Its theories agree on shared terms. So where it is saturated, `sat` is right. Source: Nelson and
 /// Oppen 1979.
 pub fn searches_saturated_on_numbers_give_current_checks_models()
     ensures { (limit : ℕ) (script : List ℕ) (k : ℕ) (c : Check) (interface terms : List Term) (held : List Literal)

@@ -42,13 +42,13 @@ pub fn choices_have_their_branches_value()
         → Chooses truths (value_by truths point class) terms }
 {}
 
-/// States that a listed term has the class that is given for a place where it stands.
+/// States that a listed term has the class that is given for a place where it is.
 pub fn listed_terms_have_their_places_class()
     ensures { (terms : List Term) (classes : List ℕ) (t : Term) → Contains terms t
         → (k : ℕ) × (k < length terms) × (get_or terms k t ≡ t) × (class_in terms classes t ≡ get_or classes k 0) }
 {}
 
-/// States that where a search over equality and functions rests, its truths and classes give a model. In it each symbol
+/// States that where a search over equality and functions is saturated, its truths and classes give a model. In it each symbol
 /// has its table, each listed term has its value, and each asserted term is true. The assumed terms are true where the
 /// truths make them so. None of the terms is a number, so their points do not matter. Source: Nelson and Oppen 1979.
 pub fn saturated_searches_have_models()
@@ -70,7 +70,7 @@ pub fn saturated_searches_have_models()
         → All (λ t. value_at i [] t ≡ truth true) (terms_of_problem p) }
 {}
 
-/// States that where a search over equality, functions and linear arithmetic rests, its truths, classes and numbers give a
+/// States that where a search over equality, functions and linear arithmetic is saturated, its truths, classes and numbers give a
 /// model. In it each symbol has its table, each listed term has its value, and each asserted term is true. The assumed
 /// terms are true where the truths make them so. Its theories agree on shared terms: these have one number exactly where
 /// they have one class. Source: Nelson and Oppen 1979.

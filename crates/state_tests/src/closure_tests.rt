@@ -115,7 +115,7 @@ fn are_same(closure: &Closure, classes: &[u64]) -> bool {
     true
 }
 
-/// Tells whether a closure that was settled, and then found a conflict or none, answers as the plain one does: for each two terms,
+/// Tells whether a closure that was saturated, and then found a conflict or none, answers as the plain one does: for each two terms,
 /// or that there is a conflict.
 fn answers_agree(
     closure: &Closure,
@@ -127,7 +127,7 @@ fn answers_agree(
     Ok(plain.is_refuted(nodes, &classes) == clashes && (clashes || are_same(closure, &classes)))
 }
 
-/// Settles both; tells whether the answers agree.
+/// Saturates both; tells whether the answers agree.
 fn saturates_alike(
     marked: &mut Marked,
     plain: &PlainClosure,
@@ -207,7 +207,7 @@ fn watch_some(
     Ok(())
 }
 
-/// Makes calls by chance on both, and settles at the end; tells whether all answers agree.
+/// Makes calls by chance on both, and saturates at the end; tells whether all answers agree.
 fn calls_agree(
     marked: &mut Marked,
     plain: &mut PlainClosure,

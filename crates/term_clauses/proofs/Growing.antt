@@ -67,7 +67,7 @@ Grows-weaker roots t u old new g = record {
     weaker (stepped r ps qs c) h = h
 
 module _ (roots : List TermId) (t u : TableView) (old new : List Logged) (g : Grows roots t u old new) (right : IsLogOf t old) where
-  -- a number says what it said
+  -- a number says what it did
   pub stated-kept : (s : StepId) → s.0 < length old → stated u new s ≡ stated t old s
   stated-kept s lt =
       let split : derivation_in u new ≡ derivation_in t old ++ derivation_in u g.more = ap (derivation_in u) g.log ∙ map-append (inference_of u) old g.more ∙ ap (λ (d : Derivation). d ++ derivation_in u g.more) (grown_same t u old right g.table) in

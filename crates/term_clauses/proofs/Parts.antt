@@ -106,7 +106,7 @@ module _ (t u : TableView) (wider : Widens t u) where
     first = formula_kept front c.first;
   }
 
-  -- what stands for it with a sign there
+  -- what represents it with a sign there
   pub signed_in : (p : Bool) (id front : TermId) → IsFormulaIn t id → IsIn u front → term_at u front ≡ signed_term p (term_at t id) → IsFormulaIn u front
   signed_in p id front f there is = (
     there,

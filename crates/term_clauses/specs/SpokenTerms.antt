@@ -17,7 +17,7 @@ no_id = record { 0 = 0 }
 abbrev pub AreRising : List TermId → Type 0
 AreRising ids = (i j : ℕ) → i < j → j < length ids → (get_or ids i no_id).0 < (get_or ids j no_id).0
 
--- the problem that asserts the terms of numbers, with those of others beside them
+-- the problem that asserts the terms of numbers, with those of others besides them
 abbrev pub problem_in : TableView → List TermId → List TermId → Problem
 problem_in t roots interface = speaking (clause_at t roots) (clause_at t interface)
 
@@ -30,7 +30,7 @@ pub record AreSpoken (t : TableView) (p : Problem) (ids : List TermId) : Type 0 
   -- each number has such a term
   pub only : AreAmong (clause_at t ids) (spoken_terms p)
 
--- All numbers are those of formulas: after the numbers that there were stand those of these terms.
+-- All numbers are those of formulas: after the numbers that there were come those of these terms.
 pub record HasMore (t u : TableView) (ids all : List TermId) (more : List Term) : Type 0 where
   -- each is the number of a formula
   pub formulas : AreFormulasIn u all

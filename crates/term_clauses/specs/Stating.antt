@@ -51,7 +51,7 @@ pub record StatesClauses (t : TableView) (log : List Logged) (steps : List StepI
   -- the clauses
   pub same : map (stated t log) steps ≡ clauses
 
--- After the numbers that were there stand those of all that came into the log, in order and each once.
+-- After the numbers that were there come those of all that came into the log, in order and each once.
 pub record ListsMade (old new : List Logged) (before after : List StepId) : Type 0 where
   -- the numbers that came
   pub more : List StepId

@@ -1,4 +1,4 @@
-//! The clauses that rules without premises state of a term, as steps of a log, and the terms that a search speaks of beside
+//! The clauses that rules without premises state of a term, as steps of a log, and the terms that a search speaks of besides
 //! those of its check.
 #![tactic(auto)]
 

@@ -1,7 +1,7 @@
 //! What a table answers to rows of nodes, and the names of theories.
 //!
 //! A row of a node has its head, the numbers of its arguments, the number that it gets, its sort, and three marks: `c` where it is
-//! constant, `d` where it may stand as a divisor, `z` where it is zero as a divisor.
+//! constant, `d` where it may be a divisor, `z` where it is zero as a divisor.
 
 use crate::rows::terms_of;
 use no_memory::NoMemory;

@@ -7,7 +7,7 @@ use Rattle.term_core.specs.NameLists.{AreApart}
 abbrev pub no_number : TermId
 no_number = record { 0 = 0 }
 
--- no number stands twice
+-- no number occurs twice
 abbrev pub AreNumbersOnce : List TermId → Type 0
 AreNumbersOnce ids = AreApart no_number ids
 
@@ -21,5 +21,5 @@ pub record AddsOnce (old ids new : List TermId) : Type 0 where
   pub there : (id : TermId) → Contains ids id → Contains new id
   -- and no others came
   pub no_others : (id : TermId) → Contains new id → Contains old id ⊎ Contains ids id
-  -- none stands twice, where none did
+  -- none occurs twice, where none did
   pub once : AreNumbersOnce old → AreNumbersOnce new

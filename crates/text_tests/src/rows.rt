@@ -3,7 +3,7 @@
 use no_memory::NoMemory;
 use std::alloc::Global;
 
-/// Gives the bytes that a part of a row means. Between backquotes stands the number of a byte, or a number, a space and what is
+/// Gives the bytes that a part of a row means. Between backquotes is the number of a byte, or a number, a space and what is
 /// repeated so often.
 pub(crate) fn bytes_of(alloc: Global, part: &str) -> Result<Vec<u8>, NoMemory> {
     let mut bytes = Vec::new(alloc);

@@ -64,7 +64,7 @@ module _ (row : List TermId) (places : List (Option ℕ)) (h : ArePlaces row pla
   place_at : (k : ℕ) (v : TermId) → k < length row → v ≡ get_or row k no_variable → get_or places v.0 None ≡ Some k
   place_at k v lt is = ap (λ (x : TermId). get_or places x.0 None) is ∙ h.there k lt
 
-  -- no variable stands twice
+  -- no variable occurs twice
   apart : (i j : ℕ) → i < length row → j < length row → at row i ≡ at row j → i ≡ j
   apart i j il jl e = same_Some i j (sym (h.there i il) ∙ ap (λ v. get_or places v None) e ∙ h.there j jl)
 

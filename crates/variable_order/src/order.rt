@@ -135,7 +135,7 @@ impl VariableOrder {
         }
     }
 
-    /// Makes all variables less active, beside those whose bumps are to come. It takes no memory.
+    /// Makes all variables less active, compared with those whose bumps are to come. It takes no memory.
     pub fn decay(&mut self)
         ensures { self.new ≡ self.old }
     {

@@ -52,7 +52,7 @@ pub record IsMovedOf (old : List (List ℕ)) (from : Lit) (number : ℕ) (to : L
   -- its place
   pub at : ℕ
   pub there : at < length (list_of old from)
-  -- the number stood there
+  -- the number was there
   pub is : get_or (list_of old from) at 0 ≡ number
   -- the entry was moved
   pub moved : IsMoved old from at to new

@@ -78,7 +78,7 @@ pub sends_failed : (text : List ℕ) (r : Result (Unit {0}) Failed) (a b : SinkV
 sends_failed text (Ok u) a b h s = absurd (false≢true h)
 sends_failed text (Err e) a b h s = s
 
--- the relation of a result, from what is said of each of its cases
+-- the relation of a result, from what is stated of each of its cases
 pub sends_by : (text : List ℕ) (r : Result (Unit {0}) Failed) (a b : SinkView) → ((u : Unit {0}) → r ≡ Ok u → Sent text a b) → ((e : Failed) → r ≡ Err e → NotSent text a b) → Sends text r a b
 sends_by text (Ok u) a b h k = h u refl
 sends_by text (Err e) a b h k = k e refl

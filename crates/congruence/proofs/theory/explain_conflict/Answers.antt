@@ -1,4 +1,4 @@
--- That the edges of the forest stand for the facts.
+-- That the edges of the forest represent the facts.
 use Rattle.std.proofs.Common.{List, sym, subst}
 use Rattle.explain_forest.specs.declared.types.Edge.{Edge}
 use Rattle.congruence_relation.specs.Relation.{Facts, AreFactsOf}

@@ -1,4 +1,4 @@
--- The index has the new entry beside those that it had.
+-- The index has the new entry besides those that it had.
 use Rattle.std.proofs.Common.{◌≡◌, ◌∷◌, ◌++◌, [], length, nat_eq, rules, ap, ◌∙◌, Some}
 use Rattle.std.specs.HashMap.{get}
 use Rattle.linear_form.proofs.Indexes.{index_kept, index_push, map_same}

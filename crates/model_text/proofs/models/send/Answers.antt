@@ -1,4 +1,4 @@
--- Under an interpretation that stands for the tables the text is the model's.
+-- Under an interpretation that the tables represent the text is the model's.
 use Rattle.world_io.proofs.Sending.{sends_same}
 use Rattle.model_text.proofs.Loops.{text_meant}
 use Rattle.model_text.proofs.models.send.Goals as goal

@@ -1,4 +1,4 @@
--- What is said of the terms up to here.
+-- What is stated of the terms up to here.
 use Rattle.std.proofs.Common.{map}
 use Rattle.ratio128.specs.Meant.{fraction}
 use Rattle.solve_core.specs.Agreeing.{AreTheoryValuesBelow}

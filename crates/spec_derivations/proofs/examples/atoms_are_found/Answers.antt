@@ -11,7 +11,7 @@ use Rattle.spec_derivations.specs.Examples.{speaking, asserting, p_or_not_q, cho
 use Rattle.spec_derivations.proofs.Spending.{p_sort}
 use Rattle.spec_derivations.proofs.examples.atoms_are_found.Goals as goal
 
--- a check that asks nothing, with a disjunction beside it
+-- a check that asks nothing, with a disjunction besides
 abbrev disjunction_interface : Problem
 disjunction_interface = speaking [] (p_or_not_q ∷ [])
 

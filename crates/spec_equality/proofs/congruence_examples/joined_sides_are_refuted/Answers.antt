@@ -1,4 +1,4 @@
--- Sides that are said to be different, and come together or not.
+-- Sides that are stated to be different, and come together or not.
 use Rattle.std.proofs.Common.{◌≡◌, true, false, ◌||◌, inl, inr, [], ◌∷◌, refl, arith}
 use Rattle.std.proofs.lemmas.Bool.{false≢true, true≢false}
 use Rattle.spec_sorts.specs.Terms.{Term, same_term, same_terms}

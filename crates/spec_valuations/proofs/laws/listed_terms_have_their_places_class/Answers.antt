@@ -7,7 +7,7 @@ use Rattle.spec_sorts.proofs.SameTerms.{terms_decide}
 use Rattle.spec_valuations.specs.Classes.{class_in}
 use Rattle.spec_valuations.proofs.laws.listed_terms_have_their_places_class.Goals as goal
 
--- a place where the term stands, whose class it has
+-- a place where the term is, whose class it has
 abbrev HasPlace : List Term → List ℕ → Term → ℕ → Type 0
 HasPlace ts ks u class = (k : ℕ) × (k < length ts) × (get_or ts k u ≡ u) × (class ≡ get_or ks k 0)
 

@@ -1,4 +1,4 @@
--- From here on it does not stand.
+-- From here on it is not there.
 use Rattle.std.proofs.Common.{◌≡◌, ◌≤◌, ◌<◌, ℕ, length, get_or}
 use Rattle.watch_index.proofs.index.last_of.Given as goal
 

@@ -1,4 +1,4 @@
--- The clauses rest by the literals that are done.
+-- The clauses are quiet by the literals that are done.
 use Rattle.std.proofs.Common.{◌≡◌, ◌≤◌, ◌-◌, length, take}
 use Rattle.clause_store.specs.Watching.{AreResting}
 use Rattle.clause_store.specs.Resting.{IsAtWork, WorksOn}

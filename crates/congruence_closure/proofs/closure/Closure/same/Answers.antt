@@ -1,4 +1,4 @@
--- Edges have reasons, and where it is settled they are closed.
+-- Edges have reasons, and where it is saturated they are closed.
 use Rattle.std.proofs.Common.{ap, ◌∙◌, sym, subst}
 use Rattle.congruence_relation.specs.Relation.{IsCongruentIn}
 use Rattle.congruence_relation.proofs.Exact.{linked_congruent, congruent_linked}

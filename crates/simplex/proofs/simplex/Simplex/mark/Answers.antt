@@ -1,4 +1,4 @@
--- A mark more stands.
+-- There is a mark more.
 use Rattle.std.proofs.Common.{◌≡◌, ◌++◌, ◌∷◌, [], ap, sym, subst, ◌∙◌}
 use Rattle.proof_log.specs.Theories.{TheoryView}
 use Rattle.simplex.specs.declared.starts.Start.{Start}
