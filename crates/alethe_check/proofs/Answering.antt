@@ -16,8 +16,8 @@ use Rattle.alethe_check.specs.Loads.{bare, IsLoaded}
 use Rattle.alethe_check.specs.Verdicts.{AnswersVerdict, Refuses, fault_view}
 
 -- the faults of verdicts are in the proof
-abbrev pub FaultsStand : Type 0
-FaultsStand = (script proof : List ℕ) (k : ℕ) (f : Fault) → IsVerdict script k proof (Some f) → f.offset ≤ length proof
+abbrev pub FaultsAreInside : Type 0
+FaultsAreInside = (script proof : List ℕ) (k : ℕ) (f : Fault) → IsVerdict script k proof (Some f) → f.offset ≤ length proof
 
 module _ (script : List ℕ) (k : ℕ) (proof : List ℕ) where
   -- a verdict with a fault is what is answered
@@ -38,8 +38,8 @@ module _ (script : List ℕ) (k : ℕ) (proof : List ℕ) where
     pub accepted : (u : Unit {0}) → IsJudgedFrom (known_on l.stack) proof None → AnswersVerdict script k proof (Ok u)
     accepted u j = verdict None j
 
-    pub fault_stands : FaultsStand → (f : LocatedFault) → IsJudgedFrom (known_on l.stack) proof (Some (located_view f)) → f.offset ≤ length proof
-    fault_stands law f j = law script proof k (located_view f) (verdict (Some (located_view f)) j)
+    pub fault_inside : FaultsAreInside → (f : LocatedFault) → IsJudgedFrom (known_on l.stack) proof (Some (located_view f)) → f.offset ≤ length proof
+    fault_inside law f j = law script proof k (located_view f) (verdict (Some (located_view f)) j)
 
     pub fault_told : (f : LocatedFault) (r : ProofStop) → IsJudgedFrom (known_on l.stack) proof (Some (located_view f)) → Refuses proof f.offset f.kind r → AnswersVerdict script k proof (Err r)
     fault_told f r j s = answered (located_view f) r (verdict (Some (located_view f)) j) s

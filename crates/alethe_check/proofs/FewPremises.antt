@@ -12,11 +12,11 @@ use Rattle.spec_rules.specs.Schemes.{Scheme, Kind, opens, keeps, resolves, state
 use Rattle.spec_rules.specs.Rules.{IsOr, IsTurned, IsBy, IsWideBy}
 use Rattle.alethe_check.specs.Stating.{takes_few}
 
--- no disjunction is opened beside another premise
+-- no disjunction is opened where there is another premise
 not_opened : (p q : Clause) (ps : List Clause) (c : Clause) → IsOr (p ∷ q ∷ ps) c → ⊥
 not_opened p q ps c r = search rules
 
--- no premise is turned beside another
+-- no premise is turned where there is another
 not_turned : (s : Scheme) (p q : Clause) (ps : List Clause) (c : Clause) → IsTurned s (p ∷ q ∷ ps) c → ⊥
 not_turned s [] q ps c r = r
 not_turned s (u ∷ []) q ps c r = r

@@ -29,7 +29,7 @@ Goes k ts now us = (end : ℕ) (ending found : Option Fault) → FirstFault (Som
 pub record Going (old : Reader) (k : Known) (h : ProofState) (now_at : Reader) : Type 0 where
   -- what is known now
   pub now : Known
-  -- the state stands for it
+  -- the state represents it
   pub known : IsKnown h now
   -- the text is the same
   pub same : text_of now_at ≡ text_of old
@@ -37,7 +37,7 @@ pub record Going (old : Reader) (k : Known) (h : ProofState) (now_at : Reader) :
   pub onward : (us : Trees) (e : Ending) → AreRemaining now_at us e → (ts : Trees) × AreRemaining old ts e × Goes k ts now us
 
 pub going_begins : (r : Reader) (k : Known) (h : ProofState) → IsKnown h k → Going r k h r
-going_begins r k h stands = record { now = k; known = stands; same = refl; onward = λ us e a. (us, a, λ end ending found f. f) }
+going_begins r k h represents = record { now = k; known = represents; same = refl; onward = λ us e a. (us, a, λ end ending found f. f) }
 
 module _ (k : Known) (read : Read Command) (rest : Known → Type 0) where
   -- a command that is right

@@ -27,14 +27,14 @@ use Rattle.alethe_check.specs.Loads.{bare, IsLoaded}
 pub record Loading (bytes : List ℕ) (k : ℕ) (x : OverTable) (at left : ℕ) : Type 0 where
   -- what is stated
   pub stack : Stack
-  -- what the code holds stands for it
-  pub stands : IsStack term_limit x stack
+  -- what the code holds represents it
+  pub represents : IsStack term_limit x stack
   -- what comes after
   pub onward : (us : Trees) (rest : List (ℕ × Lexeme)) → AreTrees 0 (lexemes_from bytes at) us rest
       → (ts : Trees) × AreTrees 0 (lexemes 0 0 bytes) ts rest × (current_at term_limit empty_stack k ts ≡ current_at term_limit stack left us)
 
 pub loading_begins : (bytes : List ℕ) (k : ℕ) (x : OverTable) (at : ℕ) → at ≡ 0 → IsStack term_limit x empty_stack → Loading bytes k x at k
-loading_begins bytes k x at e h = record { stack = empty_stack; stands = h; onward = λ us rest a. (us, subst (λ n. AreTrees 0 (lexemes_from bytes n) us rest) e a, refl) }
+loading_begins bytes k x at e h = record { stack = empty_stack; represents = h; onward = λ us rest a. (us, subst (λ n. AreTrees 0 (lexemes_from bytes n) us rest) e a, refl) }
 
 read_whole : (text : List ℕ) (ts : Trees) (rest : List (ℕ × Lexeme)) (stop : Option Located) → AreTrees 0 (lexemes 0 0 (kept text)) ts rest → EndsTrees (length (kept text)) rest stop → IsReadUpTo text ts (limited (is_long text) stop)
 read_whole text ts rest stop a s = record { rest = rest; trees = a; stop = stop; stops = s; is = refl }
@@ -99,7 +99,7 @@ module _ (text : List ℕ) (k : ℕ) (x : OverTable) (from : Place) (left : ℕ)
         record {
           stack = d.0.stack;
           current = record { commands = o.0; end = limited (is_long text) stop.0; read = read_whole text o.0 b.1 stop.0 o.1 stop.1; here = o.2 ∙ here };
-          stands = d.3;
+          represents = d.3;
         }
 
     pub leaves_here : (new : OverTable) → Stepped effects.Exit new → EachIsRead (kept text) after.offset → HasNoCheck term_limit text k
@@ -113,14 +113,14 @@ module _ (text : List ℕ) (k : ℕ) (x : OverTable) (from : Place) (left : ℕ)
     pub refused_here : (f : Refusal) (new : OverTable) → new ≡ x → Steps term_limit (step term_limit l.stack (tree_of s)) s new (Err (refusals.Fault f)) → Loading (kept text) k new after.offset left
     refused_here f new same d = record {
       stack = l.stack;
-      stands = subst (λ (y : OverTable). IsStack term_limit y l.stack) (sym same) l.stands;
+      represents = subst (λ (y : OverTable). IsStack term_limit y l.stack) (sym same) l.represents;
       onward = λ us rest a. let o = next_tree us rest a in (o.0, o.1, o.2 ∙ refused_is l.stack (tree_of s) us left _ d.0);
     }
 
     pub taken_here : (answer : CodeEffect) (next : ℕ) (new : OverTable) → ((z : Stack) (rest : Stack → ℕ → Option Check) → after_effect (effect_meant answer) z left rest ≡ rest z next) → Stepped answer new → Loading (kept text) k new after.offset next
     taken_here answer next new goes d = record {
       stack = d.0.stack;
-      stands = d.3;
+      represents = d.3;
       onward = λ us rest a.
           let o = next_tree us rest a in
           let to : Stack → ℕ → Option Check = λ z n. current_at term_limit z n us in

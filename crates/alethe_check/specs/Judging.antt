@@ -49,7 +49,7 @@ JudgesOne k read (Err errors.Memory) new = Unit {0}
 pub record KnownAfter (k : Known) (ts : Trees) (new : ProofState) : Type 0 where
   -- what is known after them
   pub now : Known
-  -- the state stands for it
+  -- the state represents it
   pub known : IsKnown new now
   -- where they end so, this is the first fault of all
   pub fault : (end : ℕ) (ending found : Option Fault) → EndsBy now end ending found
@@ -103,7 +103,7 @@ JudgesAll text k (Ok u) = IsJudgedFrom k text None
 JudgesAll text k (Err (errors.Fault f)) = IsJudgedFrom k text (Some (located_view f))
 JudgesAll text k (Err errors.Memory) = Unit {0}
 
--- what is said at the end of the commands, where it is no fault
+-- what is answered at the end of the commands, where it is no fault
 abbrev pub Finishes : Known → List ℕ → Result (Unit {0}) CommandError → Type 0
 Finishes k text (Ok u) = EndsBy k (length text) None None
 Finishes k text (Err (errors.Fault f)) = EndsBy k (length text) None (Some (located_view f))

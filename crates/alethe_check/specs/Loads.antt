@@ -6,7 +6,7 @@ use Rattle.spec_commands.specs.Checks.{Check, term_limit, IsCurrent, HasNoCheck}
 use Rattle.assertion_stack.specs.Stacks.{OverTable, over_table, IsStack}
 use Rattle.alethe_check.specs.declared.load.Script.{Script}
 
--- a check that assumes nothing beside what is asserted
+-- a check that assumes nothing besides what is asserted
 abbrev pub bare : Stack → Check
 bare s = record { stack = s; assumptions = [] }
 
@@ -16,11 +16,11 @@ pub record IsLoaded (text : List ℕ) (k : ℕ) (x : OverTable) : Type 0 where
   pub stack : Stack
   -- it is that of the text
   pub current : IsCurrent term_limit text k (bare stack)
-  -- the code's stack stands for it
-  pub stands : IsStack term_limit x stack
+  -- the code's stack represents it
+  pub represents : IsStack term_limit x stack
 
 -- whether there is a k-th check, at which a stack of the code has what is current; of memory that ran out nothing is
--- said
+-- stated
 abbrev pub Reaches : List ℕ → ℕ → Result Bool NoMemory → OverTable → Type 0
 Reaches text k (Ok true) x = IsLoaded text k x
 Reaches text k (Ok false) x = HasNoCheck term_limit text k

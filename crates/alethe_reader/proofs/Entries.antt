@@ -92,10 +92,10 @@ module _ (old new : TableView) (grows : Extends old new) where
 -- definitions more, in a table that grew
 pub known_made : (h new : ProofState) (k : Known) (ds : List Definition) → IsKnown h k → Extends h.table new.table → ScopeMeans new.table new.scope (with_definitions k.scope ds)
     → new.asserted ≡ h.asserted → new.names ≡ h.names → new.clauses ≡ h.clauses → IsKnown new (with_made k ds)
-known_made h new k ds is grows stands asserted names clauses =
+known_made h new k ds is grows represents asserted names clauses =
     let same : clause_at new.table h.asserted.keys ≡ clause_at h.table h.asserted.keys = clause_at-kept h.table new.table grows h.asserted.keys is.inside in
     record {
-      scope = stands;
+      scope = represents;
       inside = rw asserted (AreIn-kept h.table new.table grows h.asserted.keys is.inside);
       asked = rw asserted (subst (λ c. IsWithin c k.asserted) (sym same) is.asked);
       asserted = rw asserted (subst (λ c. IsWithin k.asserted c) (sym same) is.asserted);

@@ -26,9 +26,9 @@ or_other false true = refl
 or_other false false = refl
 
 -- one of words before others
-stands_both : (at : ℕ) (ws us : List Word) → one_is_at (ws ++ us) at ≡ (one_is_at ws at || one_is_at us at)
-stands_both at [] us = refl
-stands_both at (w ∷ ws) us = ap (λ b. w.at == at || b) (stands_both at ws us) ∙ or_along (w.at == at) (one_is_at ws at) (one_is_at us at)
+one_in_both : (at : ℕ) (ws us : List Word) → one_is_at (ws ++ us) at ≡ (one_is_at ws at || one_is_at us at)
+one_in_both at [] us = refl
+one_in_both at (w ∷ ws) us = ap (λ b. w.at == at || b) (one_in_both at ws us) ∙ or_along (w.at == at) (one_is_at ws at) (one_is_at us at)
 
 module _ (at : ℕ) (next : Next) (ts : Trees) where
   -- no attribute is left
@@ -39,7 +39,7 @@ module _ (at : ℕ) (next : Next) (ts : Trees) where
     both_named : one_is_at (named_words next ts) at ≡ (one_is_at (listed_word (wanted_word next t)) at || one_is_at (named_words (next_word next t) us) at)
     both_named =
         ap (λ vs. one_is_at (named_words next vs) at) (split_more ts us t e) ∙ ap (λ ws. one_is_at ws at) (words_next next t us)
-        ∙ stands_both at (listed_word (wanted_word next t)) (named_words (next_word next t) us)
+        ∙ one_in_both at (listed_word (wanted_word next t)) (named_words (next_word next t) us)
 
     -- the word that is next is at the offset
     pub here_named : true ≡ one_is_at (listed_word (wanted_word next t)) at → one_is_at (named_words next ts) at ≡ true
@@ -72,12 +72,12 @@ module _ (at : ℕ) where
 
   list_in_at : (place end : ℕ) (inside : Trees) → one_is_at (named_in (list place inside end)) at ≡ (one_is_at (names_given inside) at || named_at inside)
   unfolding named_in
-  list_in_at place end inside = stands_both at (names_given inside) (named_in_all inside)
+  list_in_at place end inside = one_in_both at (names_given inside) (named_in_all inside)
 
   list_at : (place end : ℕ) (inside us : Trees) → named_at (more (list place inside end) us) ≡ ((one_is_at (names_given inside) at || named_at inside) || named_at us)
   unfolding named_in_all
   list_at place end inside us =
-      stands_both at (named_in (list place inside end)) (named_in_all us) ∙ ap (λ b. b || named_at us) (list_in_at place end inside)
+      one_in_both at (named_in (list place inside end)) (named_in_all us) ∙ ap (λ b. b || named_at us) (list_in_at place end inside)
 
   -- an atom gives no name
   pub atom_names : (t : Tree) (place : ℕ) (k : Kind) (n : List ℕ) → atom place k n ≡ t → one_is_at (named_in t) at ≡ false
@@ -94,7 +94,7 @@ module _ (at : ℕ) where
   text_by t place end inside e g (Ok so) h = h ∙ ap (λ b. b || named_at inside) g ∙ sym (list_names t place end inside e)
   text_by t place end inside e g (Err x) h = tt
 
-  -- one row is read, beside those that are open: together they are all
+  -- one row is read, besides those that are open: together they are all
   abbrev pub Rest : Bool → Trees → List Cursor → Type 0
   Rest all ts cs = all ≡ (named_at ts || one_open_at at cs)
 

@@ -39,7 +39,7 @@ module _ (h new : ProofState) (k : Known) (is : IsKnown h k) (grows : StoreGrows
     read = read_among words a b r.readings same r.read;
     there = r.there;
     terms = r.terms;
-    known = known_made h new k r.readings.made is grows.keeps.extends r.stands asserted names clauses;
+    known = known_made h new k r.readings.made is grows.keeps.extends r.represents asserted names clauses;
   }
 
   pub formula_read : (a b : Answer Reading) (id : TermId) → a ≡ b → HasTerm k.scope (store new.table new.scope) a id → HasFormula k new (in_proof words b) id
@@ -48,14 +48,14 @@ module _ (h new : ProofState) (k : Known) (is : IsKnown h k) (grows : StoreGrows
     read = read_among words a b r.reading same r.read;
     there = r.term.0;
     term = r.term.1;
-    known = known_made h new k r.reading.made is grows.keeps.extends r.stands asserted names clauses;
+    known = known_made h new k r.reading.made is grows.keeps.extends r.represents asserted names clauses;
   }
 
   pub definition_read : (a b : Answer (List Definition)) → a ≡ b → HasDefinitions k.scope (store new.table new.scope) a → HasMade k new (in_proof words b)
   definition_read a b same r = record {
     definitions = r.definitions;
     read = read_among words a b r.definitions same r.read;
-    known = known_made h new k r.definitions is grows.keeps.extends r.stands asserted names clauses;
+    known = known_made h new k r.definitions is grows.keeps.extends r.represents asserted names clauses;
   }
 
 -- and a fault

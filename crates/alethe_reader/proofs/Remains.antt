@@ -67,7 +67,7 @@ row_behind end rest complete h = h
 row_behind end rest (broken f) h = h
 row_behind end rest (left_over at) h = absurd h
 
--- after a list stands what cannot be read
+-- after a list is what cannot be read
 pub list_breaks : (text : List ℕ) (xs : List (ℕ × Lexeme)) (r : Refusal) (found : LocatedFault) → IsStopped text 0 xs r → located_view found ≡ text_fault (refusal_meant r) → FollowsCommands text xs (Some (located_view found))
 list_breaks text xs r found s e = record {
   ending = ending_of s.stop;
@@ -119,7 +119,7 @@ pub left_after : (listed : Bool) (text : List ℕ) (from : Place) (s : Sexpr) (a
     → AreLeft listed (length (kept text)) (lexemes_from (kept text) after.offset) ts e → AreLeft listed (length (kept text)) (lexemes_from (kept text) from.offset) (more (tree_of s) ts) e
 left_after listed text from s after r ts e h = record { rest = h.rest; trees = read_first (kept text) from (lists_round listed) s after (few_round listed) r ts h.rest h.trees; ends = h.ends }
 
--- after lexemes that are no white space stand others that are none
+-- after lexemes that are no white space come others that are none
 not_blank_behind : (x : ℕ × Lexeme) (xs : List (ℕ × Lexeme)) → HasNoBlank (x ∷ xs) → HasNoBlank xs
 not_blank_behind (at, blank) xs h = absurd h
 not_blank_behind (at, opens) xs h = h
@@ -161,7 +161,7 @@ ending_in : (listed : Bool) (end : ℕ) (rest : List (ℕ × Lexeme)) → HasNoB
 ending_in false end rest h s = row_ending end rest s
 ending_in true end rest h s = list_ending end rest h s
 
--- from lexemes on stand commands, or none, and something ends them
+-- from lexemes on there are commands, or none, and something ends them
 pub some_left : (listed : Bool) (end : ℕ) (xs : List (ℕ × Lexeme)) → HasNoBlank xs → (ts : Trees) × (e : Ending) × AreLeft listed end xs ts e
 some_left listed end xs h =
     let p = each_parsed end (lists_round listed) xs (few_round listed) h in

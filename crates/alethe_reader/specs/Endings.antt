@@ -1,4 +1,4 @@
--- What ends the commands of a proof's text, and which of them stand from a lexeme on.
+-- What ends the commands of a proof's text, and which of them are there from a lexeme on.
 use Rattle.std.specs.Prelude.{◌≡◌, ℕ, Bool, true, false, List, ◌∷◌, length, Option, Some, None, Result, Ok, Err}
 use Rattle.spec_text.specs.Lexemes.{Lexeme, opens, closes}
 use Rattle.spec_text.specs.Trees.{Trees, none}

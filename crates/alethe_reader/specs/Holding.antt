@@ -15,7 +15,7 @@ abbrev pub entries_of : TableView → List Name → List (List TermId) → List 
 entries_of t (n ∷ ns) (c ∷ cs) = (record { name = n; clause = clause_at t c }) ∷ entries_of t ns cs
 entries_of t _ _ = []
 
--- What a state stands for.
+-- What a state represents.
 pub record IsKnown (h : ProofState) (k : Known) : Type 0 where
   -- names stand for what the script and the proof declare and define
   pub scope : ScopeMeans h.table h.scope k.scope
@@ -32,7 +32,7 @@ pub record IsKnown (h : ProofState) (k : Known) : Type 0 where
   -- each clause has its name
   pub entries : entries_of h.table h.names h.clauses.items ≡ k.entries
 
--- the state stands for something
+-- the state represents something
 abbrev pub HasKnown : ProofState → Type 0
 HasKnown h = (k : Known) × IsKnown h k
 

@@ -86,7 +86,7 @@ impl ProofState {
 
     /// Adds a command's name with its clause.
     ///
-    /// `Memory` comes where memory runs out; of what is known then nothing is said. Source: Alethe specification, commands.
+    /// `Memory` comes where memory runs out; then nothing is promised of what is known. Source: Alethe specification, commands.
     pub fn add(&mut self, name: &[u8], clause: Clause) -> Result<(), CommandError>
         requires known { HasKnown self.old }
         requires new { among self.old.names name.now ≡ false }

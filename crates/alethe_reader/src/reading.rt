@@ -153,7 +153,7 @@ fn by_shape<'a>(
 ///   than 2^24. A step's rule: `UnknownRule`. Its premises: `UnknownPremise`.
 /// - `Memory` may come at any allocation, and says nothing of the command.
 ///
-/// After each of these of what is known nothing is said. Source: Alethe specification, commands.
+/// After each of these nothing is promised of what is known. Source: Alethe specification, commands.
 pub fn proof_command<'a>(
     alloc: Global,
     state: &mut ProofState,

@@ -2,7 +2,7 @@
 mod Starts
 mod Counted
 mod Closing
-mod Resting
+mod Supports
 mod Printed
 mod Texts
 mod TermNumbers

@@ -10,7 +10,7 @@ use Rattle.spec_text.proofs.Members.{to_image, from_image}
 use Rattle.spec_sorts.specs.Terms.{Term, no_term}
 use Rattle.spec_sorts.specs.Subsets.{arguments_of, IsClosed}
 use Rattle.spec_derivations.specs.Derivations.{conclusion, conclusion_at, no_inference}
-use Rattle.spec_proof_texts.specs.Plans.{IsPrinted, in_clause, as_argument, AreRests, ArePrinted}
+use Rattle.spec_proof_texts.specs.Plans.{IsPrinted, in_clause, as_argument, IsSupport, ArePrinted}
 use Rattle.term_core.specs.declared.ids.TermId.{TermId}
 use Rattle.term_core.specs.Tables.{TableView, term_at, clause_at, IsIn, AreDifferent, Shape, shape_term}
 use Rattle.term_core.proofs.TermsClosed.{argument_of, argument_in}
@@ -24,16 +24,16 @@ pub plain_more : (ids : List TermId) (k : ℕ) → k < length ids → plain_numb
 plain_more ids k lt = ap plain_numbers (take_more ids k (record { 0 = 0 }) lt) ∙ map-append (λ (s : TermId). s.0) (take k ids) (get_or ids k (record { 0 = 0 }) ∷ [])
 
 -- the marks of the terms of the first clauses
-pub record AreOfFirst (t : TableView) (log : List Logged) (rests : List Bool) (upto : ℕ) (marks : List Bool) : Type 0 where
+pub record AreOfFirst (t : TableView) (log : List Logged) (support : List Bool) (upto : ℕ) (marks : List Bool) : Type 0 where
   pub as_many : length marks ≡ length t.terms
-  pub each : (m : ℕ) (id : TermId) → m < upto → IsNumberMarked rests m → Contains (named (get_or log m no_logged)) id → IsNumberMarked marks id.0
-  pub only : (k : ℕ) → IsNumberMarked marks k → (m : ℕ) × (id : TermId) × IsNumberMarked rests m × Contains (named (get_or log m no_logged)) id × (id.0 ≡ k)
+  pub each : (m : ℕ) (id : TermId) → m < upto → IsNumberMarked support m → Contains (named (get_or log m no_logged)) id → IsNumberMarked marks id.0
+  pub only : (k : ℕ) → IsNumberMarked marks k → (m : ℕ) × (id : TermId) × IsNumberMarked support m × Contains (named (get_or log m no_logged)) id × (id.0 ≡ k)
 
-pub first_none : (t : TableView) (log : List Logged) (rests marks : List Bool) → length marks ≡ length t.terms → ((k : ℕ) → IsNumberMarked marks k → ⊥) → AreOfFirst t log rests 0 marks
-first_none t log rests marks as_many empty = record { as_many = as_many; each = λ m id lt. absurd (omega (arith, lt)); only = λ k e. absurd (empty k e) }
+pub first_none : (t : TableView) (log : List Logged) (support marks : List Bool) → length marks ≡ length t.terms → ((k : ℕ) → IsNumberMarked marks k → ⊥) → AreOfFirst t log support 0 marks
+first_none t log support marks as_many empty = record { as_many = as_many; each = λ m id lt. absurd (omega (arith, lt)); only = λ k e. absurd (empty k e) }
 
-pub first_more : (t : TableView) (log : List Logged) (rests : List Bool) (n : ℕ) (old new : List Bool) → IsNumberMarked rests n → AreOfFirst t log rests n old → MarksNumbers old (plain_numbers (named (get_or log n no_logged))) new → AreOfFirst t log rests (n + 1) new
-first_more t log rests n old new here h m = record {
+pub first_more : (t : TableView) (log : List Logged) (support : List Bool) (n : ℕ) (old new : List Bool) → IsNumberMarked support n → AreOfFirst t log support n old → MarksNumbers old (plain_numbers (named (get_or log n no_logged))) new → AreOfFirst t log support (n + 1) new
+first_more t log support n old new here h m = record {
   as_many = m.same_length ∙ h.as_many;
   each = λ k id lt e c. elim (cases_eq k n) [
     | inl same ↦ m.there id.0 (to_image (λ (s : TermId). s.0) (named (get_or log n no_logged)) id (subst (λ i. Contains (named (get_or log i no_logged)) id) same c))
@@ -45,25 +45,25 @@ first_more t log rests n old new here h m = record {
   ];
 }
 
-pub first_skip : (t : TableView) (log : List Logged) (rests : List Bool) (n : ℕ) (marks : List Bool) → (IsNumberMarked rests n → ⊥) → AreOfFirst t log rests n marks → AreOfFirst t log rests (n + 1) marks
-first_skip t log rests n marks free h = record {
+pub first_skip : (t : TableView) (log : List Logged) (support : List Bool) (n : ℕ) (marks : List Bool) → (IsNumberMarked support n → ⊥) → AreOfFirst t log support n marks → AreOfFirst t log support (n + 1) marks
+first_skip t log support n marks free h = record {
   as_many = h.as_many;
   each = λ k id lt e c. elim (cases_eq k n) [
-    | inl same ↦ absurd (free (subst (IsNumberMarked rests) same e))
+    | inl same ↦ absurd (free (subst (IsNumberMarked support) same e))
     | inr differ ↦ h.each k id (grind (arith, lt, differ)) e c
   ];
   only = h.only;
 }
 
 -- one clause more, marked or not
-pub first_either : (t : TableView) (log : List Logged) (rests : List Bool) (n : ℕ) (b : Bool) (old new : List Bool) → get_or rests n false ≡ b → AreOfFirst t log rests n old → MatchBool b (MarksNumbers old (plain_numbers (named (get_or log n no_logged))) new) (new ≡ old) → AreOfFirst t log rests (n + 1) new
-first_either t log rests n true old new e h m = first_more t log rests n old new e h m
-first_either t log rests n false old new e h m = subst (AreOfFirst t log rests (n + 1)) (sym m) (first_skip t log rests n old (λ f. false≢true (sym e ∙ f)) h)
+pub first_either : (t : TableView) (log : List Logged) (support : List Bool) (n : ℕ) (b : Bool) (old new : List Bool) → get_or support n false ≡ b → AreOfFirst t log support n old → MatchBool b (MarksNumbers old (plain_numbers (named (get_or log n no_logged))) new) (new ≡ old) → AreOfFirst t log support (n + 1) new
+first_either t log support n true old new e h m = first_more t log support n old new e h m
+first_either t log support n false old new e h m = subst (AreOfFirst t log support (n + 1)) (sym m) (first_skip t log support n old (λ f. false≢true (sym e ∙ f)) h)
 
-pub first_end : (t : TableView) (log : List Logged) (rests : List Bool) (n : ℕ) (marks : List Bool) → length rests ≤ n → AreOfFirst t log rests n marks → AreOfClauses t log rests marks
-first_end t log rests n marks le h = record {
+pub first_end : (t : TableView) (log : List Logged) (support : List Bool) (n : ℕ) (marks : List Bool) → length support ≤ n → AreOfFirst t log support n marks → AreOfClauses t log support marks
+first_end t log support n marks le h = record {
   as_many = h.as_many;
-  each = λ m id e c. let lt = marked_below rests m e in h.each m id (omega (arith, lt, le)) e c;
+  each = λ m id e c. let lt = marked_below support m e in h.each m id (omega (arith, lt, le)) e c;
   only = h.only;
 }
 
@@ -105,16 +105,16 @@ clause_there t log m lt = ap conclusion (get_or-map (inference_of t) log m no_lo
     go (stepped r ps qs c) = refl
 
 -- a term that is printed has a place that is reached
-has_place : (t : TableView) (log : List Logged) (rests old : List Bool) (n : ℕ) → IsClosed t.terms → IsLogOf t log → length rests ≤ length log → AreRests (derivation_in t log) n rests → AreOfClauses t log rests old → (u : Term) → IsPrinted (derivation_in t log) n u → (k : ℕ) × (slice_get t.terms k ≡ Some u) × Reaches (IsNumberMarked old) (IsArgument t) k
-has_place t log rests old n closed right short are h u (in_clause m _ on c) =
+has_place : (t : TableView) (log : List Logged) (support old : List Bool) (n : ℕ) → IsClosed t.terms → IsLogOf t log → length support ≤ length log → IsSupport (derivation_in t log) n support → AreOfClauses t log support old → (u : Term) → IsPrinted (derivation_in t log) n u → (k : ℕ) × (slice_get t.terms k ≡ Some u) × Reaches (IsNumberMarked old) (IsArgument t) k
+has_place t log support old n closed right short are h u (in_clause m _ on c) =
     let e = are.each m on in
-    let lt = marked_below rests m e in
+    let lt = marked_below support m e in
     let within : m < length log = omega (arith, lt, short) in
     let x = from_image (term_at t) (named (get_or log m no_logged)) u (subst (λ d. Contains d u) (clause_there t log m within) c) in
     let there : IsIn t x.0 = All-contains (IsIn t) (named (get_or log m no_logged)) x.0 (entry_there t log m within right) x.1 in
     (x.0.0, slice_get-get_or t.terms x.0.0 no_term there ∙ ap Some x.2, root x.0.0 (h.each m x.0 e x.1))
-has_place t log rests old n closed right short are h u (as_argument w _ p c) =
-    let x = has_place t log rests old n closed right short are h w p in
+has_place t log support old n closed right short are h u (as_argument w _ p c) =
+    let x = has_place t log support old n closed right short are h w p in
     let there : Contains t.terms u = closed w (in_terms x.0 x.1) u c in
     let at : slice_get t.terms there.0 ≡ Some u = slice_get-get_or t.terms there.0 u there.1 ∙ ap Some there.2 in
     let w_is : get_or t.terms x.0 no_term ≡ w = get_or_from_slice_get t.terms x.0 w no_term x.1 in
@@ -125,21 +125,21 @@ has_place t log rests old n closed right short are h u (as_argument w _ p c) =
     in_terms k e = (k, slice_get_within t.terms k w e, get_or_from_slice_get t.terms k w w e)
 
 -- a place that is reached has a term that is printed
-is_printed : (t : TableView) (log : List Logged) (rests old : List Bool) (n : ℕ) → length rests ≤ length log → AreRests (derivation_in t log) n rests → AreOfClauses t log rests old → (k : ℕ) → Reaches (IsNumberMarked old) (IsArgument t) k → IsPrinted (derivation_in t log) n (get_or t.terms k no_term)
-is_printed t log rests old n short are h k (root _ e) =
+is_printed : (t : TableView) (log : List Logged) (support old : List Bool) (n : ℕ) → length support ≤ length log → IsSupport (derivation_in t log) n support → AreOfClauses t log support old → (k : ℕ) → Reaches (IsNumberMarked old) (IsArgument t) k → IsPrinted (derivation_in t log) n (get_or t.terms k no_term)
+is_printed t log support old n short are h k (root _ e) =
     let x = h.only k e in
-    let lt = marked_below rests x.0 x.2 in
+    let lt = marked_below support x.0 x.2 in
     let within : x.0 < length log = omega (arith, lt, short) in
     let c : Contains (clause_at t (named (get_or log x.0 no_logged))) (term_at t x.1) = to_image (term_at t) (named (get_or log x.0 no_logged)) x.1 x.3 in
     subst (λ i. IsPrinted (derivation_in t log) n (get_or t.terms i no_term)) x.4 (in_clause x.0 (term_at t x.1) (are.only x.0 x.2) (subst (λ d. Contains d (term_at t x.1)) (sym (clause_there t log x.0 within)) c))
-is_printed t log rests old n short are h k (onward j _ r a) = as_argument (get_or t.terms j no_term) (get_or t.terms k no_term) (is_printed t log rests old n short are h j r) a.1
+is_printed t log support old n short are h k (onward j _ r a) = as_argument (get_or t.terms j no_term) (get_or t.terms k no_term) (is_printed t log support old n short are h j r) a.1
 
-pub printed_are : (t : TableView) (log : List Logged) (rests old new : List Bool) (n : ℕ) → IsClosed t.terms → AreDifferent t.terms → IsLogOf t log → length rests ≤ length log → AreOfClauses t log rests old → Closes t old new → AreRests (derivation_in t log) n rests → ArePrinted t.terms (derivation_in t log) n new
-printed_are t log rests old new n closed apart right short h closes are = record {
+pub printed_are : (t : TableView) (log : List Logged) (support old new : List Bool) (n : ℕ) → IsClosed t.terms → AreDifferent t.terms → IsLogOf t log → length support ≤ length log → AreOfClauses t log support old → Closes t old new → IsSupport (derivation_in t log) n support → ArePrinted t.terms (derivation_in t log) n new
+printed_are t log support old new n closed apart right short h closes are = record {
   as_many = closes.same_length ∙ h.as_many;
   each = λ k u at p.
-      let x = has_place t log rests old n closed right short are h u p in
+      let x = has_place t log support old n closed right short are h u p in
       let same : x.0 ≡ k = apart x.0 k (slice_get_within t.terms x.0 u x.1) (slice_get_within t.terms k u at) (get_or_from_slice_get t.terms x.0 u no_term x.1 ∙ sym (get_or_from_slice_get t.terms k u no_term at)) in
       closes.each k (subst (Reaches (IsNumberMarked old) (IsArgument t)) same x.2);
-  only = λ k u at e. subst (IsPrinted (derivation_in t log) n) (get_or_from_slice_get t.terms k u no_term at) (is_printed t log rests old n short are h k (closes.only k e));
+  only = λ k u at e. subst (IsPrinted (derivation_in t log) n) (get_or_from_slice_get t.terms k u no_term at) (is_printed t log support old n short are h k (closes.only k e));
 }

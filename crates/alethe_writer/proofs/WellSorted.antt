@@ -5,7 +5,7 @@ use Rattle.spec_text.proofs.Members.{cases, none as no_member}
 use Rattle.spec_sorts.specs.Terms.{Symbol, Term, Terms, app, nil, cons, list_of, sorts_of, head_takes, is_sorted, are_sorted}
 use Rattle.spec_sorts.specs.Subsets.{arguments_of}
 use Rattle.spec_sorts.specs.WellSorted.{AllHeads, AllHeadsIn, IsHeadOver, IsWellSorted}
-use Rattle.spec_derivations.specs.Derivations.{Derivation, RestsOn, conclusion_at}
+use Rattle.spec_derivations.specs.Derivations.{Derivation, DependsOn, conclusion_at}
 use Rattle.spec_proof_texts.specs.Plans.{IsPrinted, in_clause, as_argument}
 
 module _ (symbols : List Symbol) where
@@ -24,6 +24,6 @@ module _ (symbols : List Symbol) where
   arguments_sorted (app h ts) u w c = argument_sorted ts u (and_parts (head_takes [] h (sorts_of ts)) (are_sorted [] ts) w.sorted).1 w.heads.1 c
 
   -- so is each term that is printed, where those of all clauses are
-  pub printed_sorted : (d : Derivation) (n : ℕ) → ((m : ℕ) (u : Term) → RestsOn d n m → Contains (conclusion_at d m) u → IsWellSorted symbols [] u) → (u : Term) → IsPrinted d n u → IsWellSorted symbols [] u
+  pub printed_sorted : (d : Derivation) (n : ℕ) → ((m : ℕ) (u : Term) → DependsOn d n m → Contains (conclusion_at d m) u → IsWellSorted symbols [] u) → (u : Term) → IsPrinted d n u → IsWellSorted symbols [] u
   printed_sorted d n each u (in_clause m _ on c) = each m u on c
   printed_sorted d n each u (as_argument t _ p c) = arguments_sorted t u (printed_sorted d n each t p) c

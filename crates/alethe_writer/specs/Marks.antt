@@ -4,7 +4,7 @@ use Rattle.spec_sorts.specs.Terms.{no_term}
 use Rattle.spec_sorts.specs.Subsets.{arguments_of}
 use Rattle.term_core.specs.declared.ids.TermId.{TermId}
 use Rattle.term_core.specs.Tables.{TableView}
-use Rattle.spec_proof_texts.specs.Plans.{AreRests, ArePrinted}
+use Rattle.spec_proof_texts.specs.Plans.{IsSupport, ArePrinted}
 use Rattle.proof_log.specs.Logs.{Logged, named, no_logged, derivation_in}
 
 -- the number is marked
@@ -37,14 +37,14 @@ IsArgument t j k = (k < length t.terms)
     × Contains (arguments_of (slice_index_or t.terms j no_term)) (slice_index_or t.terms k no_term)
 
 -- The marks are of the terms of marked clauses.
-pub record AreOfClauses (t : TableView) (log : List Logged) (rests : List Bool) (marks : List Bool) : Type 0 where
+pub record AreOfClauses (t : TableView) (log : List Logged) (support : List Bool) (marks : List Bool) : Type 0 where
   -- there is one for each term
   pub as_many : length marks ≡ length t.terms
   -- each term of a marked clause is marked
-  pub each : (m : ℕ) (id : TermId) → IsNumberMarked rests m → Contains (named (slice_index_or log m no_logged)) id
+  pub each : (m : ℕ) (id : TermId) → IsNumberMarked support m → Contains (named (slice_index_or log m no_logged)) id
       → IsNumberMarked marks id.0
   -- and nothing else
-  pub only : (k : ℕ) → IsNumberMarked marks k → (m : ℕ) × (id : TermId) × IsNumberMarked rests m
+  pub only : (k : ℕ) → IsNumberMarked marks k → (m : ℕ) × (id : TermId) × IsNumberMarked support m
       × Contains (named (slice_index_or log m no_logged)) id × (id.0 ≡ k)
 
 -- The marks are those of the marked terms and of all their subterms.
@@ -58,5 +58,5 @@ pub record Closes (t : TableView) (old new : List Bool) : Type 0 where
 
 -- of each clause on whose antecedents the first marks are, the others are on the terms that are printed
 abbrev pub ArePrintedFor : TableView → List Logged → List Bool → List Bool → Type 0
-ArePrintedFor t log rests marks = (n : ℕ) → AreRests (derivation_in t log) n rests
+ArePrintedFor t log support marks = (n : ℕ) → IsSupport (derivation_in t log) n support
     → ArePrinted t.terms (derivation_in t log) n marks

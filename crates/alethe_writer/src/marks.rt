@@ -3,7 +3,7 @@
 ghost use Rattle.std.specs.Prelude.{◌≡◌, ℕ, ◌+◌, ◌<◌, ◌≤◌, length, All, IfOk, MatchBool};
 ghost use Rattle.term_core.specs.Tables.{TableView};
 ghost use Rattle.proof_log.specs.Logs.{IsLogOf, logged_at, named, premises_in, derivation_in, numbers_of};
-ghost use Rattle.spec_proof_texts.specs.Plans.{AreRests};
+ghost use Rattle.spec_proof_texts.specs.Plans.{IsSupport};
 ghost use Rattle.alethe_writer.specs.Marks.{MarksNumbers, IsNumberMarked, AreOfClauses, ArePrintedFor, Closes, plain_numbers};
 
 use no_memory::NoMemory;
@@ -14,23 +14,23 @@ use term_core::{TermId, TermTable};
 /// Marks the numbers of the clauses that a clause depends on, its own among them.
 ///
 /// It goes from the greatest number down, since premises have smaller ones.
-pub(crate) fn rests_of(alloc: Global, log: &ProofLog, step: StepId) -> Result<Vec<bool>, NoMemory>
+pub(crate) fn support_of(alloc: Global, log: &ProofLog, step: StepId) -> Result<Vec<bool>, NoMemory>
     requires { step.0 < length log.now }
-    ensures { IfOk result (λ marks. (t : TableView) → AreRests (derivation_in t log.now) step.0 marks.items) }
+    ensures { IfOk result (λ marks. (t : TableView) → IsSupport (derivation_in t log.now) step.0 marks.items) }
 {
     let clauses = log.len();
     prove!(step.0 < clauses);
     let mut marks = vec![in alloc; false; step.0 as usize + 1]?;
-    mark_rests(log, step, &mut marks);
+    mark_support(log, step, &mut marks);
     Ok(marks)
 }
 
 /// Marks the clauses that a clause depends on, where nothing is marked.
-fn mark_rests(log: &ProofLog, step: StepId, marks: &mut [bool])
+fn mark_support(log: &ProofLog, step: StepId, marks: &mut [bool])
     requires there { step.0 < length log.now }
     requires up_to { length marks.old ≡ step.0 + 1 }
     requires none { (k : ℕ) → IsNumberMarked marks.old k → ⊥ }
-    ensures { (t : TableView) → AreRests (derivation_in t log.now) step.0 marks.new }
+    ensures { (t : TableView) → IsSupport (derivation_in t log.now) step.0 marks.new }
 {
     log.premises_are_earlier();
     mark_steps(marks, &[step]);
@@ -68,43 +68,43 @@ pub(crate) fn printed_of(
     alloc: Global,
     log: &ProofLog,
     table: &TermTable,
-    rests: &[bool],
+    support: &[bool],
 ) -> Result<Vec<bool>, NoMemory>
     requires log { IsLogOf table.now log.now }
-    requires short { length rests.now ≤ length log.now }
+    requires short { length support.now ≤ length log.now }
     ensures as_many { IfOk result (λ marks. length marks.items ≡ length table.now.terms) }
-    ensures printed { IfOk result (λ marks. ArePrintedFor table.now log.now rests.now marks.items) }
+    ensures printed { IfOk result (λ marks. ArePrintedFor table.now log.now support.now marks.items) }
 {
     let mut marks = vec![in alloc; false; table.len() as usize]?;
-    mark_printed(log, table, rests, &mut marks);
+    mark_printed(log, table, support, &mut marks);
     Ok(marks)
 }
 
 /// Marks the terms that are printed for marked clauses, where nothing is marked.
-fn mark_printed(log: &ProofLog, table: &TermTable, rests: &[bool], marks: &mut [bool])
+fn mark_printed(log: &ProofLog, table: &TermTable, support: &[bool], marks: &mut [bool])
     requires log { IsLogOf table.now log.now }
-    requires short { length rests.now ≤ length log.now }
+    requires short { length support.now ≤ length log.now }
     requires as_many { length marks.old ≡ length table.now.terms }
     requires none { (k : ℕ) → IsNumberMarked marks.old k → ⊥ }
-    ensures printed { ArePrintedFor table.now log.now rests.now marks.new }
+    ensures printed { ArePrintedFor table.now log.now support.now marks.new }
     ensures as_many { length marks.new ≡ length marks.old }
 {
     table.ids_are_unique();
     table.terms_are_closed();
-    mark_clauses(log, table, rests, marks);
+    mark_clauses(log, table, support, marks);
     mark_arguments(table, marks);
 }
 
 /// Marks the terms of marked clauses, where nothing is marked.
-fn mark_clauses(log: &ProofLog, table: &TermTable, rests: &[bool], marks: &mut [bool])
+fn mark_clauses(log: &ProofLog, table: &TermTable, support: &[bool], marks: &mut [bool])
     requires log { IsLogOf table.now log.now }
-    requires short { length rests.now ≤ length log.now }
+    requires short { length support.now ≤ length log.now }
     requires as_many { length marks.old ≡ length table.now.terms }
     requires none { (k : ℕ) → IsNumberMarked marks.old k → ⊥ }
-    ensures { AreOfClauses table.now log.now rests.now marks.new }
+    ensures { AreOfClauses table.now log.now support.now marks.new }
 {
-    'clauses: for number in 0..rests.len() {
-        mark_clause(log, table, StepId(number as u64), rests[number], marks);
+    'clauses: for number in 0..support.len() {
+        mark_clause(log, table, StepId(number as u64), support[number], marks);
     }
 }
 

@@ -8,7 +8,7 @@ ghost use Rattle.alethe_writer.specs.Counting.{IsNextOf};
 ghost use Rattle.alethe_writer.specs.Printing.{PlanFits};
 
 use crate::counter::Counter;
-use crate::marks::{printed_of, rests_of};
+use crate::marks::{printed_of, support_of};
 use no_memory::NoMemory;
 use proof_log::{ProofLog, StepId};
 use std::alloc::Global;
@@ -92,11 +92,11 @@ pub fn prepare(
     ensures plan { IfOk result (λ plan. IsPlan table.now.terms (derivation_in table.now log.now) step.0 plan) }
     ensures fits { IfOk result (λ plan. PlanFits table.now log.now plan) }
 {
-    let rests = rests_of(alloc, log, step)?;
-    let printed = printed_of(alloc, log, table, &rests)?;
+    let support = support_of(alloc, log, step)?;
+    let printed = printed_of(alloc, log, table, &support)?;
     Ok(Plan {
         terms: number_terms(alloc, table, &printed)?,
-        steps: number_steps(alloc, log, &rests)?,
+        steps: number_steps(alloc, log, &support)?,
     })
 }
 
@@ -139,17 +139,21 @@ fn has_arguments(table: &TermTable, id: TermId) -> bool
 }
 
 /// Numbers the marked clauses: assumes and steps each have their own numbers.
-fn number_steps(alloc: Global, log: &ProofLog, rests: &[bool]) -> Result<Vec<Option<u64>>, NoMemory>
-    requires { length rests.now ≤ length log.now }
+fn number_steps(
+    alloc: Global,
+    log: &ProofLog,
+    support: &[bool],
+) -> Result<Vec<Option<u64>>, NoMemory>
+    requires { length support.now ≤ length log.now }
     ensures { IfOk result (λ numbers. (t : TableView)
-        → numbers.items ≡ counted_inferences 1 1 rests.now (derivation_in t log.now)) }
+        → numbers.items ≡ counted_inferences 1 1 support.now (derivation_in t log.now)) }
 {
     let mut numbers = Vec::new(alloc);
     let mut assumes = Counter::new();
     let mut steps = Counter::new();
-    'steps: for number in 0..rests.len() {
+    'steps: for number in 0..support.len() {
         let id = StepId(number as u64);
-        let given = number_step(log, id, &mut assumes, &mut steps, rests[number]);
+        let given = number_step(log, id, &mut assumes, &mut steps, support[number]);
         numbers.push(given)?;
     }
     Ok(numbers)

@@ -1,4 +1,4 @@
--- What a scope stands for while the table grows.
+-- What a scope represents while the table grows.
 use Rattle.std.proofs.Common.{◌≡◌, ◌<◌, List, length, Option, Some, None, sym, ap, ◌∙◌, subst, arith, length-append}
 use Rattle.std.proofs.lemmas.List.{get_or_append_left}
 use Rattle.spec_sorts.specs.Terms.{Sort}

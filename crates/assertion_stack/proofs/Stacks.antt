@@ -262,12 +262,12 @@ module _ (limit at : ℕ) (s : Stack) (d : Parts) where
     define_fails new errors.Memory e = tt
 
 -- a stack with names and terms that were read
-module _ (limit : ℕ) (old new : TableView) (x : CodeStack) (s : Stack) (v : ScopeView) (ds : List Definition) (h : IsStack limit (over_table old x) s) (k : KeepsTable old new) (stands : ScopeMeans new v (signatures.with_definitions (signature_of s) ds)) where
+module _ (limit : ℕ) (old new : TableView) (x : CodeStack) (s : Stack) (v : ScopeView) (ds : List Definition) (h : IsStack limit (over_table old x) s) (k : KeepsTable old new) (represents : ScopeMeans new v (signatures.with_definitions (signature_of s) ds)) where
   -- definitions more
   pub named : IsStack limit (over_table new (record x { scope = v })) (with_definitions s ds)
   named = record {
     limit_is = h.limit_is;
-    scope = subst (ScopeMeans new v) (sym (signature_with s ds)) stands;
+    scope = subst (ScopeMeans new v) (sym (signature_with s ds)) represents;
     symbols = ap (λ d. d.symbols) k.declared ∙ h.symbols ∙ sym (symbols_with (signature_of s) ds) ∙ ap symbols_in (sym (signature_with s ds));
     sorts = λ n e. ap (λ d. among d.sorts n) k.declared ∙ h.sorts n (sym (sorts_with (signature_of s) ds n) ∙ ap (λ g. sort_as g n) (sym (signature_with s ds)) ∙ e);
     inside = AreIn-kept old new k.extends x.assertions.ids h.inside;

@@ -41,8 +41,8 @@ module _ (limit : ℕ) (s : Stack) (t : Tree) (c : Command) (at : ℕ) (read : c
 pub placed_fault : (limit : ℕ) (s : Stack) (x : Sexpr) (n : ℕ) (f : Fault) (p : Place) → step limit s (tree_of x) ≡ Err (record { offset = n; fault = f })
     → ((l : ℕ) (z : Stack) (t : Tree) (g : Located) → step l z t ≡ Err g → HasOffset t g.offset) → AllOffsets (λ m. (start_of x ≤ m) × (m < length (text_of x))) (tree_of x) → (start_of x ≤ n → n < length (text_of x) → p.offset ≡ n)
     → step limit s (tree_of x) ≡ Err (record { offset = p.offset; fault = f })
-placed_fault limit s x n f p e stands all placed =
-    let within = at_offset (λ m. (start_of x ≤ m) × (m < length (text_of x))) (tree_of x) n all (stands limit s (tree_of x) (record { offset = n; fault = f }) e) in
+placed_fault limit s x n f p e law_within all placed =
+    let within = at_offset (λ m. (start_of x ≤ m) × (m < length (text_of x))) (tree_of x) n all (law_within limit s (tree_of x) (record { offset = n; fault = f }) e) in
     e ∙ (λ i. Err (record { offset = sym (placed within.0 within.1) i; fault = f }))
 
 -- what holds anyway holds where all went well

@@ -1,4 +1,4 @@
--- The definitions that contracts cite: what a stack of the code holds, the stack of the definitions that it stands for
+-- The definitions that contracts cite: what a stack of the code holds, the stack of the definitions that it represents
 -- in a table, and what commands make of it.
 pub mod Views
 pub mod Assertions

@@ -1,4 +1,4 @@
--- The stack of the definitions that a stack of the code stands for in a table, and what commands make of it.
+-- The stack of the definitions that a stack of the code represents in a table, and what commands make of it.
 use Rattle.std.specs.Prelude.{◌≡◌, ℕ, true, false, List, [], ◌∷◌, ◌++◌, None, Result, Ok, Err}
 use Rattle.spec_text.specs.Places.{IsPlaceOf}
 use Rattle.spec_text.specs.Answers.{Answer}
@@ -74,7 +74,7 @@ pub record IsStack (limit : ℕ) (x : OverTable) (s : Stack) : Type 0 where
   -- whether a command has begun it
   pub started : x.stack.started ≡ s.started
 
--- in a table the stack stands for some stack
+-- in a table the stack represents some stack
 abbrev pub HasStack : OverTable → Type 0
 HasStack x = (limit : ℕ) × (s : Stack) × IsStack limit x s
 

@@ -10,7 +10,7 @@ use Rattle.term_reader.specs.declared.faults.ReadError.{ReadError}
 use Rattle.term_reader.specs.declared.faults.ReadError.TheVariants.{Fault, Memory}
 use Rattle.term_reader.specs.Names.{located_of}
 
--- the fault is the same; of memory that ran out nothing is said
+-- the fault is the same; of memory that ran out nothing is stated
 abbrev pub Fails : {Y : Type 0} → ReadError → Answer Y → Type 0
 Fails (Fault f) read = read ≡ Err (located_of f)
 Fails Memory read = Unit {0}

@@ -1,6 +1,6 @@
 //! What a script of the whole language has stated: its names, assertions and options, command by command.
 //!
-//! The terms are in a table that is beside the stack. A command that is refused changes neither. Levels of assertions
+//! The terms are in a table outside the stack. A command that is refused changes neither. Levels of assertions
 //! are kept, of which no command opens one yet.
 #![tactic(auto)]
 

@@ -22,7 +22,7 @@ use world_io::Bytes;
 /// The most names that a script may have, and the most different subterms that the terms of one command may have. It is own.
 pub const TERM_LIMIT: u64 = 1 << 24;
 
-/// What a script has stated: its names, its assertions, and its options. The terms are in a table that is beside it.
+/// What a script has stated: its names, its assertions, and its options. The terms are in a table outside it.
 ///
 /// Contracts see it as a `Stack` of the definitions, by the relation `IsStack`. While the table grows by terms alone, it
 /// stays the same stack (`stacks_hold_in_grown_tables`). Source: SMT-LIB 2.6, section 4.1.4.

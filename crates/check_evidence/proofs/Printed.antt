@@ -92,5 +92,5 @@ module _ (made : AreMadeReadable) (atoms_in : AreAtomsReadable) (p : Problem) (w
 
     -- so each term that is printed can be read
     pub printed_readable : (n : ℕ) (u : Term) → IsPrinted d n u → IsReadableWhole u
-    printed_readable n _ (in_clause m u rests i) = stated_readable m u i
+    printed_readable n _ (in_clause m u depends i) = stated_readable m u i
     printed_readable n _ (as_argument t u q i) = argument_readable t (printed_readable n t q) u i

@@ -42,17 +42,17 @@ module _ (limits : Limits) (t : TableView) (s : Stack) (symbols : symbols_in (si
   pub model_shown : ((i : Interpretation) → All (HasValue (signature_of s) i) (assertions_of s)) → (interp : Interp) → o.answer ≡ Sat interp → (interface : List Term) → HasEvidence t (speaking asked interface) o.log o.budget (Sat interp) → IsShown limits t s (found.Model interp) o
   model_shown values interp is interface h =
       let i = h.interpretation.0 in
-      let stands = h.interpretation.1 in
-      let interprets = h.interprets i stands in
-      let terms : All (λ u. value_at i [] u ≡ truth true) asked = subst (All (λ u. value_at i [] u ≡ truth true)) (append-nil asked) (h.holds i stands) in
+      let represents = h.interpretation.1 in
+      let interprets = h.interprets i represents in
+      let terms : All (λ u. value_at i [] u ≡ truth true) asked = subst (All (λ u. value_at i [] u ≡ truth true)) (append-nil asked) (h.holds i represents) in
       let each = texts_true (signature_of s) i (assertions_of s) (values i) terms in (
         model i,
         record {
           interprets = subst (Interprets i) (sym symbols) interprets;
           each = subst (All (IsTrueAssertion i (signature_of s))) (sym (append-nil (assertions_of s))) each;
         },
-        (i, record { count = omega (arith, h.tables); named = h.named }, stands, interprets, refl),
-        (interp, is, stands),
+        (i, record { count = omega (arith, h.tables); named = h.named }, represents, interprets, refl),
+        (interp, is, represents),
       )
 
   -- what the search keeps

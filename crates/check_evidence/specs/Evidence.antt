@@ -45,7 +45,7 @@ check_on s = record { stack = s; assumptions = [] }
 abbrev pub checked_on : Stack → Found → Checked
 checked_on s f = record { check = check_on s; found = f }
 
--- A stack of the code stands for a stack, which commands left under a limit on terms and names.
+-- A stack of the code represents a stack, which commands left under a limit on terms and names.
 pub record IsHeld (terms : ℕ) (x : OverTable) (s : Stack) : Type 0 where
   -- it is the stack
   pub stack : IsStack terms x s
@@ -54,7 +54,7 @@ pub record IsHeld (terms : ℕ) (x : OverTable) (s : Stack) : Type 0 where
   -- its definitions stand for terms that can be read back
   pub readable : AreReadable (signature_of s)
 
--- it stands for some stack
+-- it represents some stack
 abbrev pub HoldsSome : ℕ → OverTable → Type 0
 HoldsSome terms x = (s : Stack) × IsHeld terms x s
 
@@ -114,7 +114,7 @@ abbrev pub HasLearned : Limits → TableView → Stack → Found → BudgetView 
 HasLearned limits t s f budget =
     (o : Outcome) × Decides limits t s o × IsFoundBy t o f × (budget ≡ o.budget)
 
--- What a check of a stack found, and the stack of the code stands for the same stack.
+-- What a check of a stack found, and the stack of the code represents the same stack.
 pub record HasChecked (limits : Limits) (s : Stack) (e : Evidence) (x : OverTable) (budget : BudgetView) : Type 0 where
   -- the outcome of the decision
   pub outcome : Outcome
@@ -124,7 +124,7 @@ pub record HasChecked (limits : Limits) (s : Stack) (e : Evidence) (x : OverTabl
   pub budget_is : budget ≡ outcome.budget
   -- what was found shows what it should
   pub shown : IsShown limits x.table s e outcome
-  -- the stack stands for the same stack
+  -- the stack represents the same stack
   pub held : IsHeld limits.terms x s
 
 -- a check of a stack found something; or memory ran out

@@ -8,8 +8,8 @@ use Rattle.clause_store.specs.declared.pair.Pair.{Pair}
 use Rattle.clause_store.specs.declared.parts.StoreParts.{StoreParts}
 use Rattle.clause_store.specs.Stores.{no_pair}
 use Rattle.clause_store.specs.Entries.{clauses_of}
-use Rattle.clause_store.specs.Watching.{AreResting}
-use Rattle.clause_store.specs.Resting.{IsAtWork}
+use Rattle.clause_store.specs.Watching.{AreQuietPairs}
+use Rattle.clause_store.specs.QuietPairs.{IsAtWork}
 use Rattle.clause_store.proofs.Stored.{clause_count}
 
 module _ (p : StoreParts) (t : TrailView) (w : IsAtWork p t) (list : List ℕ) (is : list ≡ p.short.items) where
@@ -52,7 +52,7 @@ module _ (p : StoreParts) (t : TrailView) (w : IsAtWork p t) (list : List ℕ) (
       ]
 
   -- where all of them hold, the clauses are quiet at no prefix
-  pub again_all : (k : ℕ) → length list ≤ k → (held : List Lit) → Hold held k → AreResting p.attached p.watched.pairs.items [] held
+  pub again_all : (k : ℕ) → length list ≤ k → (held : List Lit) → Hold held k → AreQuietPairs p.attached p.watched.pairs.items [] held
   again_all k le held h n lt = record {
     by_first = λ c. absurd (omega (arith, c.1));
     by_second = λ c. absurd (omega (arith, c.1));

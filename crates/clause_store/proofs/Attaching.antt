@@ -7,7 +7,7 @@ use Rattle.clause_store.specs.declared.pair.Pair.{Pair}
 use Rattle.clause_store.specs.Stores.{no_pair}
 use Rattle.clause_store.specs.Entries.{clauses_of}
 use Rattle.clause_store.specs.Watching.{IsPairOf, ArePairs, IsRepaired}
-use Rattle.clause_store.proofs.Resting.{shapes_none, shapes_on}
+use Rattle.clause_store.proofs.QuietPairs.{shapes_none, shapes_on}
 
 -- nothing is repaired
 pub repaired_none : (n : ℕ) (pairs : List Pair) → IsRepaired n pairs pairs

@@ -11,29 +11,29 @@ use Rattle.clause_store.specs.declared.watched.Watched.{Watched}
 use Rattle.clause_store.specs.Stores.{StoreView, HasSeen, no_pair}
 use Rattle.clause_store.specs.Entries.{clauses_of, bare}
 use Rattle.clause_store.specs.Propagating.{AddsImplied, Advances, IsPropagated}
-use Rattle.clause_store.specs.Watching.{IsWatched, ArePairs, AreKnownIn, Rests, AreResting, AreLiteralsAmong, IsFresh, PropagatesPart}
-use Rattle.clause_store.specs.Resting.{store_of, IsPrefixOf, HaveRested, AreAttached, StoreFits, IsAtWork, WorksOn, IsSameBut}
+use Rattle.clause_store.specs.Watching.{IsWatched, ArePairs, AreKnownIn, IsQuietPair, AreQuietPairs, AreLiteralsAmong, IsFresh, PropagatesPart}
+use Rattle.clause_store.specs.QuietPairs.{store_of, IsPrefixOf, QuietLengths, AreAttached, StoreFits, IsAtWork, WorksOn, IsSameBut}
 use Rattle.clause_store.proofs.Adding.{adds_on, advances_none, advances_on, holds_on, same_front}
-use Rattle.clause_store.proofs.Resting.{front_within, quiet, resting_on}
+use Rattle.clause_store.proofs.QuietPairs.{front_within, quiet, all_quiet_on}
 use Rattle.clause_store.proofs.Seen.{seen_more}
 use Rattle.clause_store.proofs.Stored.{clause_count}
-use Rattle.clause_store.proofs.Working.{front_had, rested_by, rested_front, rested_goes, rested_more, attached_on}
+use Rattle.clause_store.proofs.Working.{front_had, quiet_by_other, quiet_front, quiet_lengths_go, quiet_lengths_more, attached_on}
 
 -- after propagation that ended early the parts fit by what was seen
 pub kept_by : (p : StoreParts) (t : TrailView) → IsAtWork p t → StoreFits p
 kept_by p t w = record {
   watched = w.watched;
   attached = w.attached;
-  rests = rested_by p.rests.items p.attached p.watched.pairs.items t.propagated t.propagated (length p.seen.items) t.literals p.seen.items w.seen.same w.seen.within w.rests.within w.rests;
+  quiet_at = quiet_by_other p.quiet_at.items p.attached p.watched.pairs.items t.propagated t.propagated (length p.seen.items) t.literals p.seen.items w.seen.same w.seen.within w.quiet_at.within w.quiet_at;
 }
 
 -- before it they fit by the trail, where no prefix is longer than what is marked
 pub work_by : (p : StoreParts) (t : TrailView) → IsWatched p.watched → AreAttached (clauses_of p.watched.entries.items) p.watched.pairs.items p.attached p.short.items → AreKnownIn p.watched t.vars → HasSeen (store_of p) t
-    → ((r : ℕ) → Contains p.rests.items r → r ≤ t.propagated) → HaveRested p.rests.items p.attached p.watched.pairs.items (length p.seen.items) p.seen.items → IsAtWork p t
+    → ((r : ℕ) → Contains p.quiet_at.items r → r ≤ t.propagated) → QuietLengths p.quiet_at.items p.attached p.watched.pairs.items (length p.seen.items) p.seen.items → IsAtWork p t
 work_by p t w s k seen within h = record {
   watched = w;
   attached = s;
-  rests = rested_by p.rests.items p.attached p.watched.pairs.items (length p.seen.items) t.propagated t.propagated p.seen.items t.literals (sym seen.same) (omega arith) within h;
+  quiet_at = quiet_by_other p.quiet_at.items p.attached p.watched.pairs.items (length p.seen.items) t.propagated t.propagated p.seen.items t.literals (sym seen.same) (omega arith) within h;
   known = k;
   seen = seen;
 }
@@ -51,14 +51,14 @@ works_on p q r t u v g h = record {
 }
 
 -- the first pairs are quiet by what holds now
-pub resting_goes : (es : List StoredClause) (count : ℕ) (old new : Watched) (t u : TrailView) → PropagatesPart (bare es) count old.pairs.items new.pairs.items t u → (F : List Lit) → AreLiteralsAmong F t.literals → AreResting count old.pairs.items F t.literals → AreResting count new.pairs.items F u.literals
-resting_goes es count old new t u g F w h = resting_on count new.pairs.items F t.literals u.literals (holds_on (bare es) t u g.advances.0) (g.prefixes F t.literals w (λ l i. i) h)
+pub quiet_goes : (es : List StoredClause) (count : ℕ) (old new : Watched) (t u : TrailView) → PropagatesPart (bare es) count old.pairs.items new.pairs.items t u → (F : List Lit) → AreLiteralsAmong F t.literals → AreQuietPairs count old.pairs.items F t.literals → AreQuietPairs count new.pairs.items F u.literals
+quiet_goes es count old new t u g F w h = all_quiet_on count new.pairs.items F t.literals u.literals (holds_on (bare es) t u g.advances.0) (g.prefixes F t.literals w (λ l i. i) h)
 
 -- with one pair more
-resting_more : (count : ℕ) (pairs : List Pair) (F held : List Lit) → AreResting count pairs F held → Rests F held (get_or pairs count no_pair) → AreResting (count + 1) pairs F held
-resting_more count pairs F held h one n lt = elim (cases_lt n count) [
+quiet_with_one : (count : ℕ) (pairs : List Pair) (F held : List Lit) → AreQuietPairs count pairs F held → IsQuietPair F held (get_or pairs count no_pair) → AreQuietPairs (count + 1) pairs F held
+quiet_with_one count pairs F held h one n lt = elim (cases_lt n count) [
   | inl before ↦ h n before
-  | inr last ↦ let is : count ≡ n = omega (arith, last, lt) in subst (λ (k : ℕ). Rests F held (get_or pairs k no_pair)) is one
+  | inr last ↦ let is : count ≡ n = omega (arith, last, lt) in subst (λ (k : ℕ). IsQuietPair F held (get_or pairs k no_pair)) is one
 ]
 
 -- ---- a part of propagation, from parts at work
@@ -80,18 +80,18 @@ module _ (p q : StoreParts) (t u : TrailView) (le : t.propagated ≤ length t.li
   pub attached_now : AreAttached (clauses_of p.watched.entries.items) q.watched.pairs.items p.attached p.short.items
   attached_now = attached_on (clauses_of p.watched.entries.items) p.attached p.short.items p.watched.pairs.items q.watched.pairs.items g.shapes pairs_now h.attached
 
-  rested_now : HaveRested p.rests.items p.attached q.watched.pairs.items u.propagated u.literals
-  rested_now = rested_goes (bare p.watched.entries.items) p.rests.items p.attached p.watched.pairs.items q.watched.pairs.items t u le g h.rests
+  quiet_now : QuietLengths p.quiet_at.items p.attached q.watched.pairs.items u.propagated u.literals
+  quiet_now = quiet_lengths_go (bare p.watched.entries.items) p.quiet_at.items p.attached p.watched.pairs.items q.watched.pairs.items t u le g h.quiet_at
 
   -- no more was looked at
-  pub work_goes : q.attached ≡ p.attached → q.short.items ≡ p.short.items → q.rests.items ≡ p.rests.items → IsAtWork q u
+  pub work_goes : q.attached ≡ p.attached → q.short.items ≡ p.short.items → q.quiet_at.items ≡ p.quiet_at.items → IsAtWork q u
   work_goes st sh re = record {
     watched = ok;
     attached = subst (λ (es : List StoredClause). AreAttached (clauses_of es) q.watched.pairs.items q.attached q.short.items) (sym es)
         (subst (λ (n : ℕ). AreAttached (clauses_of p.watched.entries.items) q.watched.pairs.items n q.short.items) (sym st)
         (subst (AreAttached (clauses_of p.watched.entries.items) q.watched.pairs.items p.attached) (sym sh) attached_now));
-    rests = subst (λ (n : ℕ). HaveRested q.rests.items n q.watched.pairs.items u.propagated u.literals) (sym st)
-        (subst (λ (rs : List ℕ). HaveRested rs p.attached q.watched.pairs.items u.propagated u.literals) (sym re) rested_now);
+    quiet_at = subst (λ (n : ℕ). QuietLengths q.quiet_at.items n q.watched.pairs.items u.propagated u.literals) (sym st)
+        (subst (λ (rs : List ℕ). QuietLengths rs p.attached q.watched.pairs.items u.propagated u.literals) (sym re) quiet_now);
     known = known_now;
     seen = seen_now;
   }
@@ -101,35 +101,35 @@ module _ (p q : StoreParts) (t u : TrailView) (le : t.propagated ≤ length t.li
     advances = g.advances;
     entries = es;
     seen = se;
-    prefixes = λ F w x. subst (λ (n : ℕ). AreResting n q.watched.pairs.items F u.literals) (sym st) (resting_goes p.watched.entries.items p.attached p.watched q.watched t u g F w x);
+    prefixes = λ F w x. subst (λ (n : ℕ). AreQuietPairs n q.watched.pairs.items F u.literals) (sym st) (quiet_goes p.watched.entries.items p.attached p.watched q.watched t u g F w x);
   }
 
   -- one more was looked at, and the prefixes that are left are safe for it
   module _ (Safe : ℕ → Type 0) (st : q.attached ≡ p.attached + 1) (attached : AreAttached (clauses_of p.watched.entries.items) q.watched.pairs.items (p.attached + 1) q.short.items)
       (fr : IsFresh (get_or (clauses_of p.watched.entries.items) p.attached []) u.literals (get_or q.watched.pairs.items p.attached no_pair) Safe)
-      (front : IsPrefixOf q.rests.items p.rests.items) (safe : (r : ℕ) → Contains q.rests.items r → Safe r) where
+      (front : IsPrefixOf q.quiet_at.items p.quiet_at.items) (safe : (r : ℕ) → Contains q.quiet_at.items r → Safe r) where
     pub work_one : IsAtWork q u
     work_one = record {
       watched = ok;
       attached = subst (λ (es : List StoredClause). AreAttached (clauses_of es) q.watched.pairs.items q.attached q.short.items) (sym es)
           (subst (λ (n : ℕ). AreAttached (clauses_of p.watched.entries.items) q.watched.pairs.items n q.short.items) (sym st) attached);
-      rests = subst (λ (n : ℕ). HaveRested q.rests.items n q.watched.pairs.items u.propagated u.literals) (sym st)
-          (rested_more q.rests.items p.attached q.watched.pairs.items u.propagated u.literals
-          (rested_front q.rests.items p.rests.items p.attached q.watched.pairs.items u.propagated u.literals front rested_now) one);
+      quiet_at = subst (λ (n : ℕ). QuietLengths q.quiet_at.items n q.watched.pairs.items u.propagated u.literals) (sym st)
+          (quiet_lengths_more q.quiet_at.items p.attached q.watched.pairs.items u.propagated u.literals
+          (quiet_front q.quiet_at.items p.quiet_at.items p.attached q.watched.pairs.items u.propagated u.literals front quiet_now) one);
       known = known_now;
       seen = seen_now;
     }
       where
-        one : (r : ℕ) → Contains q.rests.items r → Rests (take r u.literals) (take r u.literals) (get_or q.watched.pairs.items p.attached no_pair)
-        one r c = fr.prefixes r (omega (arith, rested_now.within r (front_had q.rests.items p.rests.items front r c), g.advances.1, le, ap length g.advances.0.literals, length-append t.literals g.advances.0.more)) (safe r c)
+        one : (r : ℕ) → Contains q.quiet_at.items r → IsQuietPair (take r u.literals) (take r u.literals) (get_or q.watched.pairs.items p.attached no_pair)
+        one r c = fr.prefixes r (omega (arith, quiet_now.within r (front_had q.quiet_at.items p.quiet_at.items front r c), g.advances.1, le, ap length g.advances.0.literals, length-append t.literals g.advances.0.more)) (safe r c)
 
     pub works_one : WorksOn p q t u
     works_one = record {
       advances = g.advances;
       entries = es;
       seen = se;
-      prefixes = λ F w x. subst (λ (n : ℕ). AreResting n q.watched.pairs.items F u.literals) (sym st)
-          (resting_more p.attached q.watched.pairs.items F u.literals (resting_goes p.watched.entries.items p.attached p.watched q.watched t u g F w x)
+      prefixes = λ F w x. subst (λ (n : ℕ). AreQuietPairs n q.watched.pairs.items F u.literals) (sym st)
+          (quiet_with_one p.attached q.watched.pairs.items F u.literals (quiet_goes p.watched.entries.items p.attached p.watched q.watched t u g F w x)
           (fr.now F (λ l i. holds_on (bare p.watched.entries.items) t u g.advances.0 l (w l i))));
     }
 
@@ -144,7 +144,7 @@ module _ (p : StoreParts) (ok : IsWatched p.watched) (all : p.attached ≡ lengt
 
 -- the parts with another count of those that were looked at
 abbrev pub looked : StoreParts → ℕ → StoreParts
-looked p n = record { watched = p.watched; attached = n; short = p.short; seen = p.seen; rests = p.rests }
+looked p n = record { watched = p.watched; attached = n; short = p.short; seen = p.seen; quiet_at = p.quiet_at }
 
 -- ---- the whole of propagation
 
@@ -167,10 +167,10 @@ adds_marked s t u v g e = record {
 }
 
 -- a prefix that was there is left, and the pairs are quiet by it
-pub rested_still : (p q : StoreParts) (t u : TrailView) (n : ℕ) → n ≤ length t.literals → WorksOn p q t u → AreResting p.attached p.watched.pairs.items (take n t.literals) t.literals → AreResting q.attached q.watched.pairs.items (take n u.literals) u.literals
-rested_still p q t u n le g h = subst (λ (F : List Lit). AreResting q.attached q.watched.pairs.items F u.literals) (sym (same_front (bare p.watched.entries.items) t u n g.advances.0 le))
+pub quiet_still : (p q : StoreParts) (t u : TrailView) (n : ℕ) → n ≤ length t.literals → WorksOn p q t u → AreQuietPairs p.attached p.watched.pairs.items (take n t.literals) t.literals → AreQuietPairs q.attached q.watched.pairs.items (take n u.literals) u.literals
+quiet_still p q t u n le g h = subst (λ (F : List Lit). AreQuietPairs q.attached q.watched.pairs.items F u.literals) (sym (same_front (bare p.watched.entries.items) t u n g.advances.0 le))
     (g.prefixes (take n t.literals) (front_within n t.literals le) h)
 
 -- where all are quiet, nothing follows
-pub quiet_by : (p : StoreParts) (t : TrailView) → IsAtWork p t → p.attached ≡ length p.watched.entries.items → AreResting p.attached p.watched.pairs.items t.literals t.literals → IsPropagated (clauses_of p.watched.entries.items) t.literals
+pub quiet_by : (p : StoreParts) (t : TrailView) → IsAtWork p t → p.attached ≡ length p.watched.entries.items → AreQuietPairs p.attached p.watched.pairs.items t.literals t.literals → IsPropagated (clauses_of p.watched.entries.items) t.literals
 quiet_by p t w all h = quiet (clauses_of p.watched.entries.items) p.watched.pairs.items t.literals w.watched.pairs_by (λ n lt. w.attached.there n (omega (arith, lt, all, clause_count p.watched.entries.items))) (λ n lt. h n (omega (arith, lt, all, clause_count p.watched.entries.items)))

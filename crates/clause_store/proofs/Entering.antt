@@ -8,8 +8,8 @@ use Rattle.clause_store.specs.declared.pair.Pair.{Pair}
 use Rattle.clause_store.specs.declared.watched.Watched.{Watched}
 use Rattle.clause_store.specs.Stores.{no_pair}
 use Rattle.clause_store.specs.Entries.{clauses_of}
-use Rattle.clause_store.specs.Watching.{IsPairOf, ArePairs, IsEnteredIfTwo, IsWatched, IsOneMore, IsAsBefore, Rests}
-use Rattle.clause_store.specs.Resting.{HaveRested, AreAttached}
+use Rattle.clause_store.specs.Watching.{IsPairOf, ArePairs, IsEnteredIfTwo, IsWatched, IsOneMore, IsAsBefore, IsQuietPair}
+use Rattle.clause_store.specs.QuietPairs.{QuietLengths, AreAttached}
 use Rattle.clause_store.proofs.Stored.{clause_count}
 use Rattle.clause_store.proofs.Indexing.{indexed_more}
 
@@ -51,11 +51,11 @@ attached_more clauses pairs count short clause p ps h = record {
     same : (n : ℕ) → n < count → get_or (pairs ++ p ∷ []) n no_pair ≡ get_or pairs n no_pair
     same n lt = get_or_append_left pairs (p ∷ []) no_pair n (omega (arith, lt, h.within, ps.paired))
 
-pub rested_more : (rests : List ℕ) (count : ℕ) (pairs : List Pair) (most : ℕ) (held : List Lit) (p : Pair) → count ≤ length pairs → HaveRested rests count pairs most held → HaveRested rests count (pairs ++ p ∷ []) most held
-rested_more rests count pairs most held p le h = record {
+pub quiet_lengths_more : (quiet_at : List ℕ) (count : ℕ) (pairs : List Pair) (most : ℕ) (held : List Lit) (p : Pair) → count ≤ length pairs → QuietLengths quiet_at count pairs most held → QuietLengths quiet_at count (pairs ++ p ∷ []) most held
+quiet_lengths_more quiet_at count pairs most held p le h = record {
   rising = h.rising;
   within = h.within;
-  rested = λ r c n lt. subst (Rests (take r held) (take r held)) (sym (get_or_append_left pairs (p ∷ []) no_pair n (omega (arith, lt, le)))) (h.rested r c n lt);
+  were_quiet = λ r c n lt. subst (IsQuietPair (take r held) (take r held)) (sym (get_or_append_left pairs (p ∷ []) no_pair n (omega (arith, lt, le)))) (h.were_quiet r c n lt);
 }
 
 module _ (old new : Watched) (e : StoredClause) (w : IsWatched old) (m : IsOneMore old e new) (count : ℕ) (short : List ℕ) (h : AreAttached (clauses_of old.entries.items) old.pairs.items count short) where
@@ -64,13 +64,13 @@ module _ (old new : Watched) (e : StoredClause) (w : IsWatched old) (m : IsOneMo
       (subst (λ (cs : List (List Lit)). AreAttached cs (old.pairs.items ++ m.pair ∷ []) count short) (sym (ap clauses_of m.entries ∙ clauses_more old.entries.items e))
       (attached_more (clauses_of old.entries.items) old.pairs.items count short e.literals.items m.pair w.pairs_by h))
 
-  pub rested_with : (rests : List ℕ) (most : ℕ) (held : List Lit) → HaveRested rests count old.pairs.items most held → HaveRested rests count new.pairs.items most held
-  rested_with rests most held r = subst (λ (qs : List Pair). HaveRested rests count qs most held) (sym m.pairs)
-      (rested_more rests count old.pairs.items most held m.pair (omega (arith, h.within, w.pairs_by.paired)) r)
+  pub quiet_with : (quiet_at : List ℕ) (most : ℕ) (held : List Lit) → QuietLengths quiet_at count old.pairs.items most held → QuietLengths quiet_at count new.pairs.items most held
+  quiet_with quiet_at most held r = subst (λ (qs : List Pair). QuietLengths quiet_at count qs most held) (sym m.pairs)
+      (quiet_lengths_more quiet_at count old.pairs.items most held m.pair (omega (arith, h.within, w.pairs_by.paired)) r)
 
 -- where nothing came they are as they were
 pub attached_before : (old new : Watched) (count : ℕ) (short : List ℕ) → IsAsBefore old new → AreAttached (clauses_of old.entries.items) old.pairs.items count short → AreAttached (clauses_of new.entries.items) new.pairs.items count short
 attached_before old new count short m h = rw (m.entries, m.pairs) h
 
-pub rested_before : (old new : Watched) (rests : List ℕ) (count most : ℕ) (held : List Lit) → IsAsBefore old new → HaveRested rests count old.pairs.items most held → HaveRested rests count new.pairs.items most held
-rested_before old new rests count most held m h = rw m.pairs h
+pub quiet_before : (old new : Watched) (quiet_at : List ℕ) (count most : ℕ) (held : List Lit) → IsAsBefore old new → QuietLengths quiet_at count old.pairs.items most held → QuietLengths quiet_at count new.pairs.items most held
+quiet_before old new quiet_at count most held m h = rw m.pairs h

@@ -4,7 +4,7 @@ pub mod Reasons
 pub mod Values
 pub mod Stored
 pub mod Indexing
-pub mod Resting
+pub mod QuietPairs
 pub mod Looking
 pub mod Walking
 pub mod Working

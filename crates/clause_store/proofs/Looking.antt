@@ -9,8 +9,8 @@ use Rattle.clause_literals.proofs.LiteralLists.{decide}
 use Rattle.watch_index.specs.Indexes.{code, one_if, list_of, IsMoved}
 use Rattle.clause_store.specs.declared.pair.Pair.{Pair}
 use Rattle.clause_store.specs.Stores.{no_pair, hits}
-use Rattle.clause_store.specs.Watching.{Has, IsPairOf, ArePairs, IsIndexed, Rests, Passes, IsExchanged, IsRepaired, AreFalseBut}
-use Rattle.clause_store.proofs.Resting.{shapes_set}
+use Rattle.clause_store.specs.Watching.{Has, IsPairOf, ArePairs, IsIndexed, IsQuietPair, Passes, IsExchanged, IsRepaired, AreFalseBut}
+use Rattle.clause_store.proofs.QuietPairs.{shapes_set}
 use Rattle.clause_store.proofs.Indexing.{code_tells, hits_two, listed, indexed_moved, lost}
 
 -- the one literal of a pair, and the other
@@ -72,7 +72,7 @@ module _ (f other : Lit) (p : Pair) (w : IsOther f other p) (d : p.first ≢ p.s
       go (first_is a b) = omega (arith, hits_two p k d, ap (λ (x : Lit). one_if (code x == k)) a, ap (λ (x : Lit). one_if (code x == k)) b)
 
   -- where the other is false in a prefix, this one holds
-  pub keeps : (F G : List Lit) → Rests F G p → Contains F (lit_complement other) → Contains G f
+  pub keeps : (F G : List Lit) → IsQuietPair F G p → Contains F (lit_complement other) → Contains G f
   keeps F G h c = go w
     where
       go : IsOther f other p → Contains G f

@@ -11,10 +11,10 @@ use Rattle.sat_trail.specs.Trails.{TrailView, no_lit}
 use Rattle.watch_index.specs.Indexes.{code, list_of}
 use Rattle.clause_store.specs.declared.pair.Pair.{Pair}
 use Rattle.clause_store.specs.Stores.{StoreView, no_pair}
-use Rattle.clause_store.specs.Watching.{Rests, AreResting, Passes, HavePassed, HaveAllPassed, IsIndexed, IsExchanged, AreLiteralsAmong, PropagatesPart}
+use Rattle.clause_store.specs.Watching.{IsQuietPair, AreQuietPairs, Passes, HavePassed, HaveAllPassed, IsIndexed, IsExchanged, AreLiteralsAmong, PropagatesPart}
 use Rattle.clause_store.proofs.Adding.{holds_on, same_front}
 use Rattle.clause_store.proofs.Indexing.{lists, one_or_two}
-use Rattle.clause_store.proofs.Resting.{rests_on, front_within}
+use Rattle.clause_store.proofs.QuietPairs.{quiet_on, front_within}
 
 passes_on : (held more : List Lit) (f : Lit) (p : Pair) → AreLiteralsAmong held more → Passes held f p → Passes more f p
 passes_on held more f p w h = record { as_first = λ e. w _ (h.as_first e); as_second = λ e. w _ (h.as_second e) }
@@ -55,15 +55,15 @@ passed_all pairs index at held f ix le h n lt d = record {
     found (j, within, e) = subst (λ (k : ℕ). Passes held f (get_or pairs k no_pair)) (get_or_default (list_of index f) j 0 n within ∙ e) (h j (omega (arith, within, le)) within)
 
 -- one literal of the trail is done
-pub rests_more : (s : StoreView) (a b : List Pair) (u v : TrailView) (done : ℕ) (f : Lit) → done < length u.literals → f ≡ lit_complement (get_or u.literals done no_lit) → PropagatesPart s (length a) a b u v → HaveAllPassed b v.literals f
-    → AreResting (length a) a (take done u.literals) u.literals → AreResting (length a) b (take (done + 1) v.literals) v.literals
-rests_more s a b u v done f lt is g passed r n below = go (one_or_two (get_or b n no_pair))
+pub quiet_by_one : (s : StoreView) (a b : List Pair) (u v : TrailView) (done : ℕ) (f : Lit) → done < length u.literals → f ≡ lit_complement (get_or u.literals done no_lit) → PropagatesPart s (length a) a b u v → HaveAllPassed b v.literals f
+    → AreQuietPairs (length a) a (take done u.literals) u.literals → AreQuietPairs (length a) b (take (done + 1) v.literals) v.literals
+quiet_by_one s a b u v done f lt is g passed r n below = go (one_or_two (get_or b n no_pair))
   where
     front : take (done + 1) v.literals ≡ take done u.literals ++ get_or u.literals done no_lit ∷ []
     front = same_front s u v (done + 1) g.advances.0 (omega (arith, lt)) ∙ take_more u.literals done no_lit lt
 
-    after : Rests (take done u.literals) v.literals (get_or b n no_pair)
-    after = rests_on (take done u.literals) u.literals v.literals _ (holds_on s u v g.advances.0) (g.prefixes (take done u.literals) u.literals (front_within done u.literals (omega (arith, lt))) (λ l x. x) r n below)
+    after : IsQuietPair (take done u.literals) v.literals (get_or b n no_pair)
+    after = quiet_on (take done u.literals) u.literals v.literals _ (holds_on s u v g.advances.0) (g.prefixes (take done u.literals) u.literals (front_within done u.literals (omega (arith, lt))) (λ l x. x) r n below)
 
     one : (p q : Lit) → Contains (take (done + 1) v.literals) (lit_complement p) → (Contains (take done u.literals) (lit_complement p) → Contains v.literals q) → (p ≡ f → Contains v.literals q) → Contains v.literals q
     one p q c before here = elim (Contains-push_cases (take done u.literals) (get_or u.literals done no_lit) (lit_complement p) (subst (λ (xs : List Lit). Contains xs (lit_complement p)) front c)) [
@@ -71,7 +71,7 @@ rests_more s a b u v done f lt is g passed r n below = go (one_or_two (get_or b 
       | inr e ↦ here (sym (negation_twice p) ∙ ap lit_complement (sym e) ∙ sym is)
     ]
 
-    go : ((get_or b n no_pair).first ≡ (get_or b n no_pair).second) ⊎ ((get_or b n no_pair).first ≢ (get_or b n no_pair).second) → Rests (take (done + 1) v.literals) v.literals (get_or b n no_pair)
+    go : ((get_or b n no_pair).first ≡ (get_or b n no_pair).second) ⊎ ((get_or b n no_pair).first ≢ (get_or b n no_pair).second) → IsQuietPair (take (done + 1) v.literals) v.literals (get_or b n no_pair)
     go (inl e) = record { by_first = λ c. subst (Contains v.literals) e (after.alone e); by_second = λ c. after.alone e; alone = after.alone }
     go (inr d) =
         let here = passed n (omega (arith, below, g.paired)) d in

@@ -3,4 +3,4 @@ pub mod Stores
 pub mod Entries
 pub mod Propagating
 pub mod Watching
-pub mod Resting
+pub mod QuietPairs

@@ -127,7 +127,7 @@ pub record IsAnother (clause : List Lit) (other l : Lit) : Type 0 where
   pub differs : l ≢ other
 
 -- Where one of the two is false in the prefix, the other holds; where they are one, it holds.
-pub record Rests (front held : List Lit) (p : Pair) : Type 0 where
+pub record IsQuietPair (front held : List Lit) (p : Pair) : Type 0 where
   -- where the one is false
   pub by_first : Contains front (lit_complement p.first) → Contains held p.second
   -- where the other is
@@ -136,8 +136,8 @@ pub record Rests (front held : List Lit) (p : Pair) : Type 0 where
   pub alone : p.first ≡ p.second → Contains held p.first
 
 -- so it is with the first pairs
-abbrev pub AreResting : ℕ → List Pair → List Lit → List Lit → Type 0
-AreResting count pairs front held = (n : ℕ) → n < count → Rests front held (get_or pairs n no_pair)
+abbrev pub AreQuietPairs : ℕ → List Pair → List Lit → List Lit → Type 0
+AreQuietPairs count pairs front held = (n : ℕ) → n < count → IsQuietPair front held (get_or pairs n no_pair)
 
 -- where one of the two is the literal, the other holds
 pub record Passes (held : List Lit) (f : Lit) (p : Pair) : Type 0 where
@@ -187,7 +187,7 @@ pub record PropagatesPart (s : StoreView) (count : ℕ) (old new : List Pair) (b
   pub shapes : HaveSameShapes old new
   -- where the pairs were quiet, at whatever prefix of the literals, they are quiet
   pub prefixes : (F G : List Lit) → AreLiteralsAmong F before.literals → AreLiteralsAmong G before.literals
-      → AreResting count old F G → AreResting count new F G
+      → AreQuietPairs count old F G → AreQuietPairs count new F G
 
 -- A clause by its number, and the place at which it is in the list of a literal that came to be false.
 pub record Visit : Type 0 where
@@ -235,9 +235,9 @@ pub record IsFresh (clause held : List Lit) (p : Pair) (Safe : ℕ → Type 0) :
   -- it has a literal
   pub there : Contains clause p.first
   -- it is quiet by what holds now
-  pub now : (F : List Lit) → AreLiteralsAmong F held → Rests F held p
+  pub now : (F : List Lit) → AreLiteralsAmong F held → IsQuietPair F held p
   -- and by each prefix that is safe
-  pub prefixes : (r : ℕ) → r ≤ length held → Safe r → Rests (take r held) (take r held) p
+  pub prefixes : (r : ℕ) → r ≤ length held → Safe r → IsQuietPair (take r held) (take r held) p
 
 -- no prefix
 abbrev pub NoPrefix : ℕ → Type 0

@@ -3,9 +3,9 @@
 ghost use Rattle.std.specs.Prelude.{◌≡◌, ◌+◌, ◌<◌, ◌≤◌, ◌⊎◌, [], ℕ, Contains, OnOk, OnErr, IfOk, MatchOption, length, take};
 ghost use Rattle.clause_store.specs.Entries.{clauses_of, bare};
 ghost use Rattle.clause_store.specs.Stores.{HasSeen};
-ghost use Rattle.clause_store.specs.Watching.{AreKnownIn, AreResting, IsFalseOf, Below};
+ghost use Rattle.clause_store.specs.Watching.{AreKnownIn, AreQuietPairs, IsFalseOf, Below};
 ghost use Rattle.clause_store.specs.Propagating.{AddsImplied, Advances, IsPropagated};
-ghost use Rattle.clause_store.specs.Resting.{LengthsRise, IsPrefixOf, last_of, StoreFits, IsAtWork, WorksOn, AttachesOne, IsSameBut, store_of};
+ghost use Rattle.clause_store.specs.QuietPairs.{LengthsRise, IsPrefixOf, last_of, StoreFits, IsAtWork, WorksOn, AttachesOne, IsSameBut, store_of};
 
 use crate::fresh::Fresh;
 use crate::watched::Watched;
@@ -26,37 +26,37 @@ pub(crate) struct StoreParts {
     /// What held when propagation was quiet last.
     pub(crate) seen: Vec<Lit>,
     /// The lengths of prefixes of this at which those that were looked at are quiet, rising.
-    pub(crate) rests: Vec<usize>,
+    pub(crate) quiet_at: Vec<usize>,
 }
 
 /// Drops the prefixes that are longer than one.
-fn drop_longer(rests: &mut Vec<usize>, most: usize)
-    requires { LengthsRise rests.old.items }
-    ensures front { IsPrefixOf rests.new.items rests.old.items }
-    ensures within { (r : ℕ) → Contains rests.new.items r → r ≤ most }
+fn drop_longer(quiet_at: &mut Vec<usize>, most: usize)
+    requires { LengthsRise quiet_at.old.items }
+    ensures front { IsPrefixOf quiet_at.new.items quiet_at.old.items }
+    ensures within { (r : ℕ) → Contains quiet_at.new.items r → r ≤ most }
 {
-    'prefixes: while rests.len() > 0 {
-        if rests[rests.len() - 1] <= most {
+    'prefixes: while quiet_at.len() > 0 {
+        if quiet_at[quiet_at.len() - 1] <= most {
             return;
         }
-        rests.pop();
+        quiet_at.pop();
     }
 }
 
 /// Drops the prefixes of a trail that have literals of a level or of one above.
-fn drop_levels(rests: &mut Vec<usize>, level: u64, trail: &SatTrail)
-    requires rising { LengthsRise rests.old.items }
-    requires within { (r : ℕ) → Contains rests.old.items r → r ≤ length trail.now.literals }
-    ensures front { IsPrefixOf rests.new.items rests.old.items }
-    ensures below { (r : ℕ) → Contains rests.new.items r → Below trail.now level r }
+fn drop_levels(quiet_at: &mut Vec<usize>, level: u64, trail: &SatTrail)
+    requires rising { LengthsRise quiet_at.old.items }
+    requires within { (r : ℕ) → Contains quiet_at.old.items r → r ≤ length trail.now.literals }
+    ensures front { IsPrefixOf quiet_at.new.items quiet_at.old.items }
+    ensures below { (r : ℕ) → Contains quiet_at.new.items r → Below trail.now level r }
 {
     trail.is_sound();
-    'prefixes: while rests.len() > 0 {
-        let last = rests[rests.len() - 1];
+    'prefixes: while quiet_at.len() > 0 {
+        let last = quiet_at[quiet_at.len() - 1];
         if last == 0 || trail.level_of(last as u64 - 1) < level {
             return;
         }
-        rests.pop();
+        quiet_at.pop();
     }
 }
 
@@ -77,17 +77,17 @@ fn see(seen: &mut Vec<Lit>, trail: &SatTrail) -> Result<(), NoMemory>
 }
 
 /// Puts a length last, if it is not the last already.
-fn note(rests: &mut Vec<usize>, len: usize) -> Result<(), NoMemory>
-    requires rising { LengthsRise rests.old.items }
-    requires most { (r : ℕ) → Contains rests.old.items r → r ≤ len }
-    ensures rising { LengthsRise rests.new.items }
-    ensures each { (r : ℕ) → Contains rests.new.items r → Contains rests.old.items r ⊎ (r ≡ len) }
-    ensures err { OnErr result (rests.new.items ≡ rests.old.items) }
+fn note(quiet_at: &mut Vec<usize>, len: usize) -> Result<(), NoMemory>
+    requires rising { LengthsRise quiet_at.old.items }
+    requires most { (r : ℕ) → Contains quiet_at.old.items r → r ≤ len }
+    ensures rising { LengthsRise quiet_at.new.items }
+    ensures each { (r : ℕ) → Contains quiet_at.new.items r → Contains quiet_at.old.items r ⊎ (r ≡ len) }
+    ensures err { OnErr result (quiet_at.new.items ≡ quiet_at.old.items) }
 {
-    if !rests.is_empty() && rests[rests.len() - 1] == len {
+    if !quiet_at.is_empty() && quiet_at[quiet_at.len() - 1] == len {
         return Ok(());
     }
-    match rests.push(len) {
+    match quiet_at.push(len) {
         Ok(()) => Ok(()),
         Err(_) => Err(NoMemory),
     }
@@ -99,7 +99,7 @@ impl StoreParts {
         requires { IsAtWork self.now trail.old }
         ensures goes { Advances (bare self.now.watched.entries.items) trail.old trail.new }
         ensures ends { MatchOption result
-            (AreResting self.now.attached self.now.watched.pairs.items [] trail.new.literals)
+            (AreQuietPairs self.now.attached self.now.watched.pairs.items [] trail.new.literals)
             (IsFalseOf (clauses_of self.now.watched.entries.items) trail.new.literals) }
     {
         for n in &self.short {
@@ -127,10 +127,10 @@ impl StoreParts {
         match self.watched.attach(n, trail)? {
             Fresh::Clash => return Ok(true),
             Fresh::Open => {}
-            Fresh::Forced(level) => drop_levels(&mut self.rests, level, trail),
+            Fresh::Forced(level) => drop_levels(&mut self.quiet_at, level, trail),
             Fresh::Single => {
                 self.short.push(n)?;
-                self.rests.clear();
+                self.quiet_at.clear();
             }
         }
         self.attached = n + 1;
@@ -158,13 +158,13 @@ impl StoreParts {
         requires work { IsAtWork self.old trail.old }
         requires all { self.old.attached ≡ length self.old.watched.entries.items }
         requires from { from ≤ length trail.old.literals }
-        requires rested { AreResting self.old.attached self.old.watched.pairs.items
+        requires were_quiet { AreQuietPairs self.old.attached self.old.watched.pairs.items
             (take from trail.old.literals) trail.old.literals }
         ensures work { IsAtWork self.new trail.new }
         ensures all { self.new.attached ≡ length self.new.watched.entries.items }
         ensures goes { WorksOn self.old self.new trail.old trail.new }
         ensures ends { IfOk result (λ o. MatchOption o
-            (AreResting self.new.attached self.new.watched.pairs.items trail.new.literals trail.new.literals)
+            (AreQuietPairs self.new.attached self.new.watched.pairs.items trail.new.literals trail.new.literals)
             (IsFalseOf (clauses_of self.new.watched.entries.items) trail.new.literals)) }
     {
         let mut done = from;
@@ -189,13 +189,13 @@ impl StoreParts {
         ensures watched { self.new.watched ≡ self.old.watched }
         ensures seen { self.new.seen.items ≡ self.old.seen.items }
         ensures advances { Advances (bare self.old.watched.entries.items) trail.old trail.new }
-        ensures ends { MatchOption result (AreResting self.new.attached self.new.watched.pairs.items
-            (take (last_of self.new.rests.items) trail.new.literals) trail.new.literals)
+        ensures ends { MatchOption result (AreQuietPairs self.new.attached self.new.watched.pairs.items
+            (take (last_of self.new.quiet_at.items) trail.new.literals) trail.new.literals)
             (IsFalseOf (clauses_of self.new.watched.entries.items) trail.new.literals) }
     {
         trail.is_sound();
-        drop_longer(&mut self.rests, trail.propagated() as usize);
-        if self.rests.is_empty() {
+        drop_longer(&mut self.quiet_at, trail.propagated() as usize);
+        if self.quiet_at.is_empty() {
             return self.look_again(trail);
         }
         None
@@ -204,7 +204,7 @@ impl StoreParts {
     /// Keeps what holds as what was seen, with a prefix of its length, and marks the trail.
     fn finish(&mut self, trail: &mut SatTrail) -> Result<(), NoMemory>
         requires work { IsAtWork self.old trail.old }
-        requires rested { AreResting self.old.attached self.old.watched.pairs.items
+        requires were_quiet { AreQuietPairs self.old.attached self.old.watched.pairs.items
             trail.old.literals trail.old.literals }
         ensures kept { StoreFits self.new }
         ensures watched { self.new.watched ≡ self.old.watched }
@@ -213,7 +213,7 @@ impl StoreParts {
     {
         trail.is_sound();
         see(&mut self.seen, trail)?;
-        note(&mut self.rests, trail.len() as usize)?;
+        note(&mut self.quiet_at, trail.len() as usize)?;
         trail.mark_propagated();
         Ok(())
     }
@@ -235,10 +235,10 @@ impl StoreParts {
             return Ok(Some(n));
         }
         trail.is_sound();
-        let from = if self.rests.is_empty() {
+        let from = if self.quiet_at.is_empty() {
             0
         } else {
-            self.rests[self.rests.len() - 1]
+            self.quiet_at[self.quiet_at.len() - 1]
         };
         if let Some(n) = self.attach_all(trail)? {
             return Ok(Some(n));

@@ -31,7 +31,7 @@ impl Model for ClauseStore {
 
     ghost Value = { StoreView };
 
-    ghost use Rattle.clause_store.specs.Resting.{store_of, StoreFits};
+    ghost use Rattle.clause_store.specs.QuietPairs.{store_of, StoreFits};
 
     ghost view = { λ s. store_of s.parts };
 
@@ -55,7 +55,7 @@ impl ClauseStore {
                 attached: 0,
                 short: Vec::new(alloc),
                 seen: Vec::new(alloc),
-                rests: Vec::new(alloc),
+                quiet_at: Vec::new(alloc),
             },
         }
     }

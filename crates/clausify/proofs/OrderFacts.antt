@@ -22,17 +22,17 @@ subterms_among ts us among = (least_of ts).least (subterms_of us) (λ t t_in. (l
 pub are_ordered : (t u : TableView) (p : Problem) (us : List Term) (some all : List TermId) → AreSpoken t p some → AreAmong (subterms_of (clause_at t some)) us → AreAmong us (subterms_of (clause_at t some))
     → HasMore t u some all (flat_map order_facts us) → AreOrdered u p all
 are_ordered t u p us some all spoken each only more =
-    let said = spoken_terms p in
+    let terms_spoken = spoken_terms p in
     let found = clause_at t some in
     let wanted = search_terms p in
-    let there : AreAmong wanted us = λ w w_in. each w (subterms_among said found spoken.each w w_in) in
-    let back : AreAmong us wanted = λ w w_in. subterms_among found said spoken.only w (only w w_in) in
+    let there : AreAmong wanted us = λ w w_in. each w (subterms_among terms_spoken found spoken.each w w_in) in
+    let back : AreAmong us wanted = λ w w_in. subterms_among found terms_spoken spoken.only w (only w w_in) in
     record {
       formulas = more.formulas;
       each = λ w w_in.
           subst (λ (vs : List Term). Contains vs w) (sym more.same)
-          (within_append said (flat_map order_facts wanted) found (flat_map order_facts us) spoken.each (within_flat order_facts wanted us there) w w_in);
+          (within_append terms_spoken (flat_map order_facts wanted) found (flat_map order_facts us) spoken.each (within_flat order_facts wanted us there) w w_in);
       only = λ w w_in.
-          within_append found (flat_map order_facts us) said (flat_map order_facts wanted) spoken.only (within_flat order_facts us wanted back) w
+          within_append found (flat_map order_facts us) terms_spoken (flat_map order_facts wanted) spoken.only (within_flat order_facts us wanted back) w
           (subst (λ (vs : List Term). Contains vs w) more.same w_in);
     }

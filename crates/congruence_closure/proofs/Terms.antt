@@ -10,7 +10,7 @@ use Rattle.term_core.specs.Tables.{Shape}
 use Rattle.class_table.specs.Classes.{class_at}
 use Rattle.explain_forest.specs.declared.types.Edge.{Edge}
 use Rattle.explain_forest.specs.Forest.{root, Linked}
-use Rattle.explain_forest.proofs.Roots.{root-under, root-beside}
+use Rattle.explain_forest.proofs.Roots.{root-under, root-elsewhere}
 use Rattle.congruence_relation.specs.Relation.{Application, truth_of, StatesEqual, decides, equates}
 use Rattle.congruence_relation.specs.Edges.{roots}
 use Rattle.congruence_closure.specs.Listed.{nth, no_application, IsListed, equality_of}
@@ -122,12 +122,12 @@ module _ (numbers : List ℕ) (es : List Edge) (joint : AreJoint numbers es) whe
 abbrev AreBelow : ℕ → List Edge → Type 0
 AreBelow n es = All (λ (e : Edge). (e.a.0 < n) × (e.b.0 < n)) es
 
-under_or_beside : (n : ℕ) (e : Edge) (es : List Edge) (t : ℕ) → root es e.b.0 < n → root es t < n → root (e ∷ es) t < n
-under_or_beside n e es t end own = go (cases_eq (root es t) (root es e.a.0))
+under_or_other : (n : ℕ) (e : Edge) (es : List Edge) (t : ℕ) → root es e.b.0 < n → root es t < n → root (e ∷ es) t < n
+under_or_other n e es t end own = go (cases_eq (root es t) (root es e.a.0))
   where
     go : (root es t ≡ root es e.a.0) ⊎ (root es t ≢ root es e.a.0) → root (e ∷ es) t < n
     go (inl p) = subst (λ k. k < n) (sym (root-under e es t p)) end
-    go (inr p) = subst (λ k. k < n) (sym (root-beside e es t p)) own
+    go (inr p) = subst (λ k. k < n) (sym (root-elsewhere e es t p)) own
 
 -- the root of a term of the edges is one
 pub root_below : (n : ℕ) (es : List Edge) (t : ℕ) → AreBelow n es → t < n → root es t < n
@@ -135,7 +135,7 @@ root_below n [] t low lt = lt
 root_below n (e ∷ es) t low lt =
     let ends = All-head (λ (e : Edge). (e.a.0 < n) × (e.b.0 < n)) e es low in
     let rest = All-tail (λ (e : Edge). (e.a.0 < n) × (e.b.0 < n)) e es low in
-    under_or_beside n e es t (root_below n es e.b.0 rest ends.1) (root_below n es t rest lt)
+    under_or_other n e es t (root_below n es e.b.0 rest ends.1) (root_below n es t rest lt)
 
 -- a term past those of the edges is its own root
 pub root_past : (n : ℕ) (es : List Edge) (t : ℕ) → AreBelow n es → n ≤ t → root es t ≡ t
@@ -145,7 +145,7 @@ root_past n (e ∷ es) t low past =
     let rest = All-tail (λ (e : Edge). (e.a.0 < n) × (e.b.0 < n)) e es low in
     let own : root es t ≡ t = root_past n es t rest past in
     let end : root es e.a.0 < n = root_below n es e.a.0 rest ends.0 in
-    root-beside e es t (λ p. omega (arith, p, past, own, end)) ∙ own
+    root-elsewhere e es t (λ p. omega (arith, p, past, own, end)) ∙ own
 
 -- which terms are linked, where classes tell it: terms that are not there to themselves alone
 pub linked_past : (numbers : List ℕ) (es : List Edge) (t u : TermId) → AreJoint numbers es → length numbers ≤ t.0 → Linked es t.0 u.0 → t ≡ u

@@ -22,7 +22,7 @@ use Rattle.explain_forest.specs.declared.types.Edge.{Edge}
 use Rattle.explain_forest.specs.declared.types.Label.{Label}
 use Rattle.explain_forest.specs.declared.types.Label.TheVariants.{Held, Arguments}
 use Rattle.explain_forest.specs.Forest.{ForestState, root, Linked, numbered, older}
-use Rattle.explain_forest.proofs.Roots.{root-under, root-beside}
+use Rattle.explain_forest.proofs.Roots.{root-under, root-elsewhere}
 use Rattle.explain_forest.proofs.Linking.{older-all, older-later}
 use Rattle.explain_forest.proofs.Levels.{numbered-top, numbered-older}
 use Rattle.congruence_relation.specs.declared.Truths.{Truths}
@@ -195,7 +195,7 @@ module _ (t : TableView) (ts : Truths) (v : ForestState) (f : Facts) (b : IsBasi
     where
       go : (root es n ≡ root es e.a.0) ⊎ (root es n ≢ root es e.a.0) → ((n : ℕ) → number_sort t (root es n) ≡ number_sort t n) → number_sort t (root (e ∷ es) n) ≡ number_sort t n
       go (inl p) ih = ap (number_sort t) (root-under e es n p) ∙ ih e.b.0 ∙ sym (reason_sorts es ih e e.label ok.0) ∙ sym (ih e.a.0) ∙ ap (number_sort t) (sym p) ∙ ih n
-      go (inr p) ih = ap (number_sort t) (root-beside e es n p) ∙ ih n
+      go (inr p) ih = ap (number_sort t) (root-elsewhere e es n p) ∙ ih n
 
   -- linked terms have one sort
   pub linked_sorts : (x y : ℕ) → Linked v.edges x y → number_sort t x ≡ number_sort t y

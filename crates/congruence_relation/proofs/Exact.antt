@@ -6,7 +6,7 @@ use Rattle.explain_forest.specs.declared.types.Edge.{Edge}
 use Rattle.explain_forest.specs.declared.types.Label.{Label}
 use Rattle.explain_forest.specs.declared.types.Label.TheVariants.{Held, Arguments}
 use Rattle.explain_forest.specs.Forest.{root, Linked}
-use Rattle.explain_forest.proofs.Roots.{root-under, root-beside}
+use Rattle.explain_forest.proofs.Roots.{root-under, root-elsewhere}
 use Rattle.congruence_relation.specs.Relation.{Facts, IsCongruentIn, AreCongruentIn, stated, itself, turned, joined, by_arguments, none, more}
 use Rattle.congruence_relation.specs.Edges.{roots, IsEdgeReason, EdgesHaveReasons, IsClosed}
 
@@ -20,9 +20,9 @@ linked_cases e es x y h = go (cases_eq (root es x) (root es e.a.0)) (cases_eq (r
   where
     go : (root es x ≡ root es e.a.0) ⊎ (root es x ≢ root es e.a.0) → (root es y ≡ root es e.a.0) ⊎ (root es y ≢ root es e.a.0) → Linked es x y ⊎ IsJoinedBy e es x y ⊎ IsJoinedBy e es y x
     go (inl p) (inl q) = inl (p ∙ sym q)
-    go (inl p) (inr q) = inr (inl (p, sym (root-under e es x p) ∙ h ∙ root-beside e es y q))
-    go (inr p) (inl q) = inr (inr (q, sym (root-under e es y q) ∙ sym h ∙ root-beside e es x p))
-    go (inr p) (inr q) = inl (sym (root-beside e es x p) ∙ h ∙ root-beside e es y q)
+    go (inl p) (inr q) = inr (inl (p, sym (root-under e es x p) ∙ h ∙ root-elsewhere e es y q))
+    go (inr p) (inl q) = inr (inr (q, sym (root-under e es y q) ∙ sym h ∙ root-elsewhere e es x p))
+    go (inr p) (inr q) = inl (sym (root-elsewhere e es x p) ∙ h ∙ root-elsewhere e es y q)
 
 module _ (f : Facts) where
   -- the terms that edges link are congruent

@@ -5,7 +5,7 @@ use Rattle.explain_forest.specs.declared.types.Edge.{Edge}
 use Rattle.explain_forest.specs.Forest.{root, Linked}
 use Rattle.explain_forest.specs.Kept.{EdgesAreApart, parents_by, stamps_by, height, root_at, ArraysShow, Tops, IsOlder, Climbs}
 use Rattle.explain_forest.proofs.Roots.{stamp-root, stamp-less, stamp-one, parent-low, height-less, length-stamps}
-use Rattle.explain_forest.proofs.Levels.{at-all, at-none, at-until, at-again, stamp-says, next-under, next-beside}
+use Rattle.explain_forest.proofs.Levels.{at-all, at-none, at-until, at-again, stamp-says, next-under, next-elsewhere}
 
 module _ (n : ℕ) (es : List Edge) (x y : ℕ) (ok : EdgesAreApart n es) where
   pub climbs-start : x < n → y < n → x ≢ y → Climbs n es (stamps_by n es) (x, y) (x, y)
@@ -108,7 +108,7 @@ module _ (n : ℕ) (es : List Edge) (x y : ℕ) (ok : EdgesAreApart n es) where
           later_left = above u c.low.0 own;
           later_right = later;
           over_left = next-under k es x says.there (px ∙ sym says.under) ∙ says.above;
-          over_right = next-beside k es y says.there (λ r. c.apart (sym says.under ∙ sym r ∙ py)) ∙ py;
+          over_right = next-elsewhere k es y says.there (λ r. c.apart (sym says.under ∙ sym r ∙ py)) ∙ py;
           apart = met;
         }
 
@@ -122,7 +122,7 @@ module _ (n : ℕ) (es : List Edge) (x y : ℕ) (ok : EdgesAreApart n es) where
           low = (c.low.0, parent-low n es v ok c.low.1);
           later_left = later;
           later_right = above v c.low.1 own;
-          over_left = next-beside k es x says.there (λ r. c.apart (sym px ∙ r ∙ says.under)) ∙ px;
+          over_left = next-elsewhere k es x says.there (λ r. c.apart (sym px ∙ r ∙ says.under)) ∙ px;
           over_right = next-under k es y says.there (py ∙ sym says.under) ∙ says.above;
           apart = met;
         }

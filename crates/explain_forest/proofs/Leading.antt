@@ -7,7 +7,7 @@ use Rattle.explain_forest.specs.declared.types.Edge.{Edge}
 use Rattle.explain_forest.specs.declared.types.PathStep.{PathStep}
 use Rattle.explain_forest.specs.Forest.{root, Linked, forth, back, path, numbered, PathLeads, IsAlong}
 use Rattle.explain_forest.specs.Telling.{}
-use Rattle.explain_forest.proofs.Roots.{root-under, root-beside}
+use Rattle.explain_forest.proofs.Roots.{root-under, root-elsewhere}
 use Rattle.explain_forest.proofs.Levels.{numbered-top, numbered-older, path-kept, path-forth, path-back}
 
 leads-append : (x : ℕ) (ss ts : List PathStep) (m y : ℕ) → PathLeads x ss m → PathLeads m ts y → PathLeads x (ss ++ ts) y
@@ -21,14 +21,14 @@ path-leads (e ∷ es) x y h = go (cases_eq (root es x) (root es y)) (cases_eq (r
     go : (root es x ≡ root es y) ⊎ (root es x ≢ root es y) → (root es x ≡ root es e.a.0) ⊎ (root es x ≢ root es e.a.0) → ((v w : ℕ) → Linked es v w → PathLeads v (path es v w) w) → PathLeads x (path (e ∷ es) x y) y
     go (inl p) q ih = subst (λ l. PathLeads x l y) (sym (path-kept e es x y p)) (ih x y p)
     go (inr p) (inl q) ih =
-        let by : root es e.b.0 ≡ root es y = sym (root-under e es x q) ∙ h ∙ root-beside e es y (λ r. p (q ∙ sym r)) in
+        let by : root es e.b.0 ≡ root es y = sym (root-under e es x q) ∙ h ∙ root-elsewhere e es y (λ r. p (q ∙ sym r)) in
         subst (λ l. PathLeads x l y) (sym (path-forth e es x y p q)) (leads-append x (path es x e.a.0) (forth (length es) e ∷ path es e.b.0 y) e.a.0 y (ih x e.a.0 q) (refl, ih e.b.0 y by))
     go (inr p) (inr q) ih = last (cases_eq (root es y) (root es e.a.0))
       where
         last : (root es y ≡ root es e.a.0) ⊎ (root es y ≢ root es e.a.0) → PathLeads x (path (e ∷ es) x y) y
-        last (inr r) = absurd (p (sym (root-beside e es x q) ∙ h ∙ root-beside e es y r))
+        last (inr r) = absurd (p (sym (root-elsewhere e es x q) ∙ h ∙ root-elsewhere e es y r))
         last (inl r) =
-            let bx : root es x ≡ root es e.b.0 = sym (root-beside e es x q) ∙ h ∙ root-under e es y r in
+            let bx : root es x ≡ root es e.b.0 = sym (root-elsewhere e es x q) ∙ h ∙ root-under e es y r in
             subst (λ l. PathLeads x l y) (sym (path-back e es x y p q)) (leads-append x (path es x e.b.0) (back (length es) e ∷ path es e.a.0 y) e.b.0 y (ih x e.b.0 bx) (refl, ih e.a.0 y (sym r)))
 
 -- a newer edge leaves the numbers of older ones

@@ -20,8 +20,8 @@ at-later k e es t h = grind (arith, nat_tests)
 pub at-under : (k : ℕ) (e : Edge) (es : List Edge) (t : ℕ) → length es < k → root_at k es t ≡ root_at k es e.a.0 → root_at k (e ∷ es) t ≡ root_at k es e.b.0
 at-under k e es t h p = grind (arith, nat_tests)
 
-pub at-beside : (k : ℕ) (e : Edge) (es : List Edge) (t : ℕ) → root_at k es t ≢ root_at k es e.a.0 → root_at k (e ∷ es) t ≡ root_at k es t
-at-beside k e es t p = grind (arith, nat_tests)
+pub at-elsewhere : (k : ℕ) (e : Edge) (es : List Edge) (t : ℕ) → root_at k es t ≢ root_at k es e.a.0 → root_at k (e ∷ es) t ≡ root_at k es t
+at-elsewhere k e es t p = grind (arith, nat_tests)
 
 -- all of them
 pub at-all : (k : ℕ) (es : List Edge) (t : ℕ) → length es ≤ k → root_at k es t ≡ root es t
@@ -54,7 +54,7 @@ at-until n k (e ∷ es) t ok h z = go (cases_eq t (root es e.a.0)) (cases_eq (ro
         older (inr r) = inr (subst (λ o. k < o) (stamp-other n e es ok t p) r)
 
         step : (root_at k es t ≡ root_at k es e.a.0) ⊎ (root_at k es t ≢ root_at k es e.a.0) → root_at k es t ≡ t → root_at k (e ∷ es) t ≡ t
-        step (inr r) own = at-beside k e es t r ∙ own
+        step (inr r) own = at-elsewhere k e es t r ∙ own
         step (inl r) own = late (cases_lt (length es) k) own
           where
             late : (length es < k) ⊎ (k ≤ length es) → root_at k es t ≡ t → root_at k (e ∷ es) t ≡ t
@@ -132,13 +132,13 @@ next-under k (e ∷ es) x h p = go (cases_eq k (length es)) (next-under k es x)
     go (inr q) ih = at-later (suc k) e es x (omega arith) ∙ ih (omega arith) (sym (at-later k e es x (omega arith)) ∙ p ∙ ap (λ y. root_at k (e ∷ es) y.a.0) (numbered-older e es k q) ∙ at-later k e es _ (omega arith))
         ∙ sym (at-later k e es _ (omega arith)) ∙ ap (λ y. root_at k (e ∷ es) y.b.0) (sym (numbered-older e es k q))
 
-pub next-beside : (k : ℕ) (es : List Edge) (x : ℕ) → k < length es → root_at k es x ≢ root_at k es (numbered es k).a.0 → root_at (suc k) es x ≡ root_at k es x
-next-beside k [] x h p = absurd (omega arith)
-next-beside k (e ∷ es) x h p = go (cases_eq k (length es)) (next-beside k es x)
+pub next-elsewhere : (k : ℕ) (es : List Edge) (x : ℕ) → k < length es → root_at k es x ≢ root_at k es (numbered es k).a.0 → root_at (suc k) es x ≡ root_at k es x
+next-elsewhere k [] x h p = absurd (omega arith)
+next-elsewhere k (e ∷ es) x h p = go (cases_eq k (length es)) (next-elsewhere k es x)
   where
     go : (k ≡ length es) ⊎ (k ≢ length es) → (k < length es → root_at k es x ≢ root_at k es (numbered es k).a.0 → root_at (suc k) es x ≡ root_at k es x)
         → root_at (suc k) (e ∷ es) x ≡ root_at k (e ∷ es) x
-    go (inl q) ih = at-beside (suc k) e es x (λ r. p (at-later k e es x (omega arith) ∙ at-all k es x (omega arith) ∙ sym (at-all (suc k) es x (omega arith)) ∙ r ∙ at-all (suc k) es e.a.0 (omega arith)
+    go (inl q) ih = at-elsewhere (suc k) e es x (λ r. p (at-later k e es x (omega arith) ∙ at-all k es x (omega arith) ∙ sym (at-all (suc k) es x (omega arith)) ∙ r ∙ at-all (suc k) es e.a.0 (omega arith)
         ∙ sym (at-all k es e.a.0 (omega arith)) ∙ sym (at-later k e es e.a.0 (omega arith)) ∙ ap (λ y. root_at k (e ∷ es) y.a.0) (sym (numbered-top e es k q))))
         ∙ at-all (suc k) es x (omega arith) ∙ sym (at-all k es x (omega arith)) ∙ sym (at-later k e es x (omega arith))
     go (inr q) ih = at-later (suc k) e es x (omega arith) ∙ ih (omega arith) (λ r. p (at-later k e es x (omega arith) ∙ r ∙ sym (at-later k e es _ (omega arith)) ∙ ap (λ y. root_at k (e ∷ es) y.a.0) (sym (numbered-older e es k q))))
@@ -180,7 +180,7 @@ module _ (n k : ℕ) where
           let dd : root_at k es x ≢ root_at k es y = λ r. d (later x ∙ r ∙ sym (later y)) in
           let lx : Linked es x f.a.0 = linked-from n k es x f.a.0 ok.3 (omega arith) px in
           let ly : Linked es f.b.0 y = linked-from n k es f.b.0 y ok.3 (omega arith) (sym py) in
-          let lxy : Linked es x y = linked-from n (suc k) es x y ok.3 (omega arith) (next-under k es x (omega arith) px ∙ sym py ∙ sym (next-beside k es y (omega arith) (λ r. dd (px ∙ sym r)))) in
+          let lxy : Linked es x y = linked-from n (suc k) es x y ok.3 (omega arith) (next-under k es x (omega arith) px ∙ sym py ∙ sym (next-elsewhere k es y (omega arith) (λ r. dd (px ∙ sym r)))) in
           subst (λ g. path (e ∷ es) x y ≡ path (e ∷ es) x g.a.0 ++ forth k g ∷ path (e ∷ es) g.b.0 y) (sym (numbered-older e es k t))
           (path-kept e es x y lxy ∙ ih (omega arith) dd px py ∙ (λ i. sym (path-kept e es x f.a.0 lx) i ++ forth k f ∷ sym (path-kept e es f.b.0 y ly) i))
 
@@ -207,7 +207,7 @@ module _ (n k : ℕ) where
           let dd : root_at k es x ≢ root_at k es y = λ r. d (later x ∙ r ∙ sym (later y)) in
           let lx : Linked es x f.b.0 = linked-from n k es x f.b.0 ok.3 (omega arith) px in
           let ly : Linked es f.a.0 y = linked-from n k es f.a.0 y ok.3 (omega arith) (sym py) in
-          let lxy : Linked es x y = linked-from n (suc k) es x y ok.3 (omega arith) (next-beside k es x (omega arith) (λ r. dd (r ∙ sym py)) ∙ px ∙ sym (next-under k es y (omega arith) py)) in
+          let lxy : Linked es x y = linked-from n (suc k) es x y ok.3 (omega arith) (next-elsewhere k es x (omega arith) (λ r. dd (r ∙ sym py)) ∙ px ∙ sym (next-under k es y (omega arith) py)) in
           subst (λ g. path (e ∷ es) x y ≡ path (e ∷ es) x g.b.0 ++ back k g ∷ path (e ∷ es) g.a.0 y) (sym (numbered-older e es k t))
           (path-kept e es x y lxy ∙ ih (omega arith) dd px py ∙ (λ i. sym (path-kept e es x f.b.0 lx) i ++ back k f ∷ sym (path-kept e es f.a.0 y ly) i))
 

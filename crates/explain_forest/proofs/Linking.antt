@@ -4,7 +4,7 @@ use Rattle.std.proofs.lemmas.Bool.{cases_eq, cases_lt}
 use Rattle.std.proofs.lemmas.Bool.Decides.{nat_tests}
 use Rattle.explain_forest.specs.declared.types.Edge.{Edge}
 use Rattle.explain_forest.specs.Forest.{root, Linked, IsBetween, path, numbered, older}
-use Rattle.explain_forest.proofs.Roots.{root-under, root-beside, linked-more}
+use Rattle.explain_forest.proofs.Roots.{root-under, root-elsewhere, linked-more}
 use Rattle.explain_forest.proofs.Levels.{numbered-top, numbered-older, path-kept}
 
 between-linked : (e : Edge) (es : List Edge) (x y : ℕ) → Linked es x e.a.0 → Linked es e.b.0 y → Linked (e ∷ es) x y
@@ -12,7 +12,7 @@ between-linked e es x y p q = root-under e es x p ∙ go (cases_eq (root es y) (
   where
     go : (root es y ≡ root es e.a.0) ⊎ (root es y ≢ root es e.a.0) → root es e.b.0 ≡ root (e ∷ es) y
     go (inl r) = sym (root-under e es y r)
-    go (inr r) = q ∙ sym (root-beside e es y r)
+    go (inr r) = q ∙ sym (root-elsewhere e es y r)
 
 -- With one edge more those are linked that were, and those between which it is.
 pub linked-after : (e : Edge) (es : List Edge) (x y : ℕ) → Linked (e ∷ es) x y ↔ (Linked es x y ⊎ IsBetween es e x y)
@@ -20,9 +20,9 @@ linked-after e es x y = (there (cases_eq (root es x) (root es e.a.0)) (cases_eq 
   where
     there : (root es x ≡ root es e.a.0) ⊎ (root es x ≢ root es e.a.0) → (root es y ≡ root es e.a.0) ⊎ (root es y ≢ root es e.a.0) → Linked (e ∷ es) x y → Linked es x y ⊎ IsBetween es e x y
     there (inl p) (inl q) h = inl (p ∙ sym q)
-    there (inl p) (inr q) h = inr (inl (p, sym (root-under e es x p) ∙ h ∙ root-beside e es y q))
-    there (inr p) (inl q) h = inr (inr (sym (root-beside e es x p) ∙ h ∙ root-under e es y q, sym q))
-    there (inr p) (inr q) h = inl (sym (root-beside e es x p) ∙ h ∙ root-beside e es y q)
+    there (inl p) (inr q) h = inr (inl (p, sym (root-under e es x p) ∙ h ∙ root-elsewhere e es y q))
+    there (inr p) (inl q) h = inr (inr (sym (root-elsewhere e es x p) ∙ h ∙ root-under e es y q, sym q))
+    there (inr p) (inr q) h = inl (sym (root-elsewhere e es x p) ∙ h ∙ root-elsewhere e es y q)
 
     back_again : Linked es x y ⊎ IsBetween es e x y → Linked (e ∷ es) x y
     back_again (inl h) = linked-more e es x y h

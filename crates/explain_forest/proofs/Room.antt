@@ -5,7 +5,7 @@ use Rattle.std.proofs.lemmas.Bool.Decides.{nat_tests}
 use Rattle.explain_forest.specs.declared.types.Edge.{Edge}
 use Rattle.explain_forest.specs.Forest.{root, Linked}
 use Rattle.explain_forest.specs.Kept.{EdgesAreApart}
-use Rattle.explain_forest.proofs.Roots.{root-low, root-again, root-under, root-beside}
+use Rattle.explain_forest.proofs.Roots.{root-low, root-again, root-under, root-elsewhere}
 
 count_below : (ℕ → Bool) → ℕ → ℕ
 count_below f zero = 0
@@ -70,7 +70,7 @@ roots-count n (e ∷ es) ok =
     other i d = go (cases_eq (root es i) (root es e.a.0))
       where
         go : (root es i ≡ root es e.a.0) ⊎ (root es i ≢ root es e.a.0) → is_root (e ∷ es) i ≡ is_root es i
-        go (inr q) = ap (λ r. r == i) (root-beside e es i q)
+        go (inr q) = ap (λ r. r == i) (root-elsewhere e es i q)
         go (inl q) =
             let not_own : root es i ≢ i = λ r. d (sym r ∙ q) in
             let not_b : root es e.b.0 ≢ i = λ r. not_own (ap (root es) (sym r) ∙ root-again n es e.b.0 ok.3 ∙ r) in

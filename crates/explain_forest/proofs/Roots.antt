@@ -16,8 +16,8 @@ use Rattle.explain_forest.specs.Telling.{}
 pub root-under : (e : Edge) (es : List Edge) (t : ℕ) → root es t ≡ root es e.a.0 → root (e ∷ es) t ≡ root es e.b.0
 root-under e es t h = grind (arith, nat_tests)
 
-pub root-beside : (e : Edge) (es : List Edge) (t : ℕ) → root es t ≢ root es e.a.0 → root (e ∷ es) t ≡ root es t
-root-beside e es t h = grind (arith, nat_tests)
+pub root-elsewhere : (e : Edge) (es : List Edge) (t : ℕ) → root es t ≢ root es e.a.0 → root (e ∷ es) t ≡ root es t
+root-elsewhere e es t h = grind (arith, nat_tests)
 
 pub root-low : (n : ℕ) (es : List Edge) (t : ℕ) → EdgesAreApart n es → t < n → root es t < n
 root-low n [] t ok h = h
@@ -25,7 +25,7 @@ root-low n (e ∷ es) t ok h = go (cases_eq (root es t) (root es e.a.0)) (λ s. 
   where
     go : (root es t ≡ root es e.a.0) ⊎ (root es t ≢ root es e.a.0) → ((s : ℕ) → s < n → root es s < n) → root (e ∷ es) t < n
     go (inl p) ih = subst (λ r. r < n) (sym (root-under e es t p)) (ih e.b.0 ok.1)
-    go (inr p) ih = subst (λ r. r < n) (sym (root-beside e es t p)) (ih t h)
+    go (inr p) ih = subst (λ r. r < n) (sym (root-elsewhere e es t p)) (ih t h)
 
 -- what has one root keeps one
 pub linked-more : (e : Edge) (es : List Edge) (x y : ℕ) → Linked es x y → Linked (e ∷ es) x y
@@ -36,8 +36,8 @@ root-again n [] t ok = refl
 root-again n (e ∷ es) t ok = go (cases_eq (root es t) (root es e.a.0)) (λ s. root-again n es s ok.3)
   where
     go : (root es t ≡ root es e.a.0) ⊎ (root es t ≢ root es e.a.0) → ((s : ℕ) → root es (root es s) ≡ root es s) → root (e ∷ es) (root (e ∷ es) t) ≡ root (e ∷ es) t
-    go (inl p) ih = ap (root (e ∷ es)) (root-under e es t p) ∙ root-beside e es (root es e.b.0) (λ q. ok.2 (sym (sym (ih e.b.0) ∙ q))) ∙ ih e.b.0 ∙ sym (root-under e es t p)
-    go (inr p) ih = ap (root (e ∷ es)) (root-beside e es t p) ∙ root-beside e es (root es t) (λ q. p (sym (ih t) ∙ q)) ∙ ih t ∙ sym (root-beside e es t p)
+    go (inl p) ih = ap (root (e ∷ es)) (root-under e es t p) ∙ root-elsewhere e es (root es e.b.0) (λ q. ok.2 (sym (sym (ih e.b.0) ∙ q))) ∙ ih e.b.0 ∙ sym (root-under e es t p)
+    go (inr p) ih = ap (root (e ∷ es)) (root-elsewhere e es t p) ∙ root-elsewhere e es (root es t) (λ q. p (sym (ih t) ∙ q)) ∙ ih t ∙ sym (root-elsewhere e es t p)
 
 -- one number more
 pub range-next : (a n : ℕ) → range_with_len a (suc n) ≡ range_with_len a n ++ (a + n) ∷ []
@@ -93,7 +93,7 @@ stamp-root n (e ∷ es) t ok h z = go (cases_eq t (root es e.a.0)) (stamp-root n
       where
         zero_suc : 0 ≡ suc (length es) → ⊥
         zero_suc q = omega arith
-    go (inr p) ih = let r = ih (sym (stamp-other n e es ok t p) ∙ z) in root-beside e es t (λ q. p (sym r ∙ q)) ∙ r
+    go (inr p) ih = let r = ih (sym (stamp-other n e es ok t p) ∙ z) in root-elsewhere e es t (λ q. p (sym r ∙ q)) ∙ r
 
 pub root-stamp : (n : ℕ) (es : List Edge) (t : ℕ) → EdgesAreApart n es → t < n → root es t ≡ t → slice_index (stamps_by n es) t ≡ 0
 root-stamp n [] t ok h z = blank-at n t h
@@ -106,7 +106,7 @@ root-stamp n (e ∷ es) t ok h z = go (cases_eq t (root es e.a.0)) (cases_eq (ro
       where
         b_is : t ≡ root es e.b.0
         b_is = sym z ∙ root-under e es t q
-    go (inr p) (inr q) ih = stamp-other n e es ok t p ∙ ih (sym (root-beside e es t q) ∙ z)
+    go (inr p) (inr q) ih = stamp-other n e es ok t p ∙ ih (sym (root-elsewhere e es t q) ∙ z)
 
 pub root-parent : (n : ℕ) (es : List Edge) (t : ℕ) → EdgesAreApart n es → t < n → root es t ≡ t → slice_index (parents_by n es) t ≡ t
 root-parent n [] t ok h z = range-at n t h
@@ -119,7 +119,7 @@ root-parent n (e ∷ es) t ok h z = go (cases_eq t (root es e.a.0)) (cases_eq (r
       where
         b_is : t ≡ root es e.b.0
         b_is = sym z ∙ root-under e es t q
-    go (inr p) (inr q) ih = parent-other n e es ok t p ∙ ih (sym (root-beside e es t q) ∙ z)
+    go (inr p) (inr q) ih = parent-other n e es ok t p ∙ ih (sym (root-elsewhere e es t q) ∙ z)
 
 pub parent-low : (n : ℕ) (es : List Edge) (t : ℕ) → EdgesAreApart n es → t < n → slice_index (parents_by n es) t < n
 parent-low n [] t ok h = let k = range-at n t h in omega arith
@@ -136,7 +136,7 @@ parent-linked n (e ∷ es) t ok h = go (cases_eq t (root es e.a.0)) (parent-link
   where
     go : (t ≡ root es e.a.0) ⊎ (t ≢ root es e.a.0) → Linked es (slice_index (parents_by n es) t) t → Linked (e ∷ es) (slice_index (parents_by n (e ∷ es)) t) t
     go (inl p) ih = subst (λ s. Linked (e ∷ es) (slice_index (parents_by n (e ∷ es)) s) s) (sym p)
-        (ap (root (e ∷ es)) (parent-top n e es ok) ∙ root-beside e es (root es e.b.0) (λ q. above_top n e es ok (sym (root-again n es e.b.0 ok.3) ∙ q)) ∙ root-again n es e.b.0 ok.3 ∙ sym (root-under e es (root es e.a.0) (root-again n es e.a.0 ok.3)))
+        (ap (root (e ∷ es)) (parent-top n e es ok) ∙ root-elsewhere e es (root es e.b.0) (λ q. above_top n e es ok (sym (root-again n es e.b.0 ok.3) ∙ q)) ∙ root-again n es e.b.0 ok.3 ∙ sym (root-under e es (root es e.a.0) (root-again n es e.a.0 ok.3)))
     go (inr p) ih = ap (root (e ∷ es)) (parent-other n e es ok t p) ∙ linked-more e es _ _ ih
 
 -- the edge over the term above is newer, if there is one

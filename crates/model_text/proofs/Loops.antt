@@ -82,5 +82,5 @@ lines_meant i (s ∷ ss) (t ∷ ts) l h =
 
 -- under an interpretation that the tables represent, their text is the model's
 pub text_meant : (t : TableView) (interp : Interp) (i : Interpretation) → HasTables t interp → HasSymbolTables t interp i → text_by t.symbols (tables_meant t.sorts interp) ≡ model_text i t.symbols
-text_meant t interp i there stands =
-    ap (λ x. 40 ∷ 10 ∷ x ++ 41 ∷ 10 ∷ []) (lines_meant i t.symbols (tables_meant t.sorts interp) (omega (arith, there.count, length-map interp.tables.items (table_meant t.sorts))) (λ k l. stands (record { 0 = k }) l))
+text_meant t interp i there represents =
+    ap (λ x. 40 ∷ 10 ∷ x ++ 41 ∷ 10 ∷ []) (lines_meant i t.symbols (tables_meant t.sorts interp) (omega (arith, there.count, length-map interp.tables.items (table_meant t.sorts))) (λ k l. represents (record { 0 = k }) l))

@@ -6,8 +6,8 @@ use Rattle.spec_sorts.specs.Terms.{Symbol, Term}
 use Rattle.spec_sorts.specs.Values.{Interpretation, Interprets}
 use Rattle.spec_sorts.specs.WellSorted.{IsFormulaOver}
 use Rattle.spec_rules.specs.Clauses.{term_true, clause_true}
-use Rattle.spec_derivations.specs.Derivations.{Derivation, «assumption», conclusion, no_inference, inference_at, conclusion_at, IsDerivation, RestsOn}
-use Rattle.spec_derivations.proofs.Spending.{rests_there}
+use Rattle.spec_derivations.specs.Derivations.{Derivation, «assumption», conclusion, no_inference, inference_at, conclusion_at, IsDerivation, DependsOn}
+use Rattle.spec_derivations.proofs.Spending.{depends_there}
 use Rattle.term_core.specs.declared.ids.TermId.{TermId}
 use Rattle.term_core.specs.Tables.{TableView, term_at, clause_at}
 use Rattle.proof_log.specs.declared.premises.StepId.{StepId}
@@ -28,7 +28,7 @@ assumed_as t (stepped r ps qs c) u e = cc
 abbrev pub IsLaw : Type 0
 IsLaw = (symbols : List Symbol) (d : Derivation) (i : Interpretation) → IsDerivation d → Interprets i symbols
     → All (λ x. All (IsFormulaOver symbols) (conclusion x)) d → (n : ℕ) → n < length d
-    → ((m : ℕ) (u : Term) → RestsOn d n m → inference_at d m ≡ «assumption» u → term_true i u ≡ true)
+    → ((m : ℕ) (u : Term) → DependsOn d n m → inference_at d m ≡ «assumption» u → term_true i u ≡ true)
     → clause_true i (conclusion_at d n) ≡ true
 
 module _ (t : TableView) (log : List Logged) (i : Interpretation) (h : IsLogOf t log) (interprets : Interprets i t.symbols) where
@@ -40,17 +40,17 @@ module _ (t : TableView) (log : List Logged) (i : Interpretation) (h : IsLogOf t
 
   -- a clause is true where the assumed terms that it depends on are
   pub clause_sound : IsLaw → (s : StepId) → s.0 < length log
-      → ((m : StepId) (id : TermId) → RestsOn (derivation_in t log) s.0 m.0 → m.0 < length log → logged_at log m ≡ assumed id → term_true i (term_at t id) ≡ true)
+      → ((m : StepId) (id : TermId) → DependsOn (derivation_in t log) s.0 m.0 → m.0 < length log → logged_at log m ≡ assumed id → term_true i (term_at t id) ≡ true)
       → clause_true i (clause_at t (named (logged_at log s))) ≡ true
   clause_sound law s lt assumptions =
       let lt_d : s.0 < length (derivation_in t log) = subst (λ n. s.0 < n) (sym (length-map log (inference_of t))) lt in
-      ap (clause_true i) (sym (conclusion_there t log s lt)) ∙ law t.symbols (derivation_in t log) i h.right interprets formulas_there s.0 lt_d (λ m u rests is.
-      let m_d : m < length (derivation_in t log) = rests_there (derivation_in t log) h.right s.0 m lt_d rests in
+      ap (clause_true i) (sym (conclusion_there t log s lt)) ∙ law t.symbols (derivation_in t log) i h.right interprets formulas_there s.0 lt_d (λ m u depends is.
+      let m_d : m < length (derivation_in t log) = depends_there (derivation_in t log) h.right s.0 m lt_d depends in
       let m_lt : m < length log = subst (λ n. m < n) (length-map log (inference_of t)) m_d in
       let a = assumed_as t (get_or log m no_logged) u (sym (get_or-map (inference_of t) log m no_logged no_inference m_lt) ∙ is) in
-      ap (term_true i) (sym a.means) ∙ assumptions (record { 0 = m }) a.id rests m_lt a.is)
+      ap (term_true i) (sym a.means) ∙ assumptions (record { 0 = m }) a.id depends m_lt a.is)
 
   -- all clauses are true where the assumed terms are
   pub all_sound : IsLaw → ((id : TermId) → Contains log (assumed id) → term_true i (term_at t id) ≡ true) → All (λ l. clause_true i (clause_at t (named l)) ≡ true) log
   all_sound law assumptions = All-from_get_or (λ l. clause_true i (clause_at t (named l)) ≡ true) log no_logged (λ k lt.
-      clause_sound law (record { 0 = k }) lt (λ m id rests m_lt is. assumptions id (subst (λ l. Contains log l) is (Contains-get_or log m.0 no_logged m_lt))))
+      clause_sound law (record { 0 = k }) lt (λ m id depends m_lt is. assumptions id (subst (λ l. Contains log l) is (Contains-get_or log m.0 no_logged m_lt))))

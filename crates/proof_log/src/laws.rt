@@ -3,7 +3,7 @@
 ghost use Rattle.std.specs.Prelude.{◌≡◌, ℕ, ◌<◌, true, List, [], length, take, All, Contains};
 ghost use Rattle.spec_sorts.specs.Values.{Interpretation, Interprets};
 ghost use Rattle.spec_rules.specs.Clauses.{term_true, clause_true};
-ghost use Rattle.spec_derivations.specs.Derivations.{RestsOn};
+ghost use Rattle.spec_derivations.specs.Derivations.{DependsOn};
 ghost use Rattle.term_core.specs.declared.ids.TermId.{TermId};
 ghost use Rattle.term_core.specs.Tables.{TableView, term_at, clause_at, Extends};
 ghost use Rattle.proof_log.specs.declared.premises.StepId.{StepId};
@@ -35,7 +35,7 @@ pub fn logs_hold_in_cut_tables()
 pub fn logs_are_sound()
     ensures each { (t : TableView) (log : List Logged) (i : Interpretation) → IsLogOf t log → Interprets i t.symbols
         → (s : StepId) → s.0 < length log
-        → ((m : StepId) (id : TermId) → RestsOn (derivation_in t log) s.0 m.0 → m.0 < length log
+        → ((m : StepId) (id : TermId) → DependsOn (derivation_in t log) s.0 m.0 → m.0 < length log
         → logged_at log m ≡ assumed id → term_true i (term_at t id) ≡ true)
         → clause_true i (clause_at t (named (logged_at log s))) ≡ true }
     ensures all { (t : TableView) (log : List Logged) (i : Interpretation) → IsLogOf t log → Interprets i t.symbols

@@ -72,12 +72,12 @@ quiet_more clauses c held quiet s d i = elim (Contains-push_cases clauses c d i)
 pub decided_learned : (atoms : List TermId) (clauses : List (List Lit)) (c : List Lit) (a b : TrailView) (n : ℕ) → length a.levels ≡ length a.literals
     → ((p : ℕ) → p < length a.literals → get_or a.reasons p None ≡ None → get_or a.levels p 0 ≤ n → PropagatesNothing (take p a.literals) c)
     → IsCutTo a n b → AreDecided atoms clauses a → AreDecided atoms (clauses ++ c ∷ []) b
-decided_learned atoms clauses c a b n paired settled x h = record {
+decided_learned atoms clauses c a b n paired stays_quiet x h = record {
   quiet = λ p lt none.
       let small = early p lt in
       let was = reason p small ∙ none in
       subst (IsPropagated (clauses ++ c ∷ [])) (front p small)
-      (quiet_more clauses c (take p a.literals) (h.quiet p (inside p small) was) (settled p (inside p small) was (x.below p small)));
+      (quiet_more clauses c (take p a.literals) (h.quiet p (inside p small) was) (stays_quiet p (inside p small) was (x.below p small)));
   of_atoms = λ p lt none.
       let small = early p lt in
       subst (λ (l : Lit). Contains atoms l.term) (literal p small) (h.of_atoms p (inside p small) (reason p small ∙ none));

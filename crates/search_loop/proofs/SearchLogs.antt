@@ -20,14 +20,14 @@ use Rattle.spec_derivations.specs.Lemmas.{IsLemma}
 use Rattle.spec_derivations.specs.Learned.{IsNew}
 use Rattle.spec_derivations.specs.Spent.{IsLearnedFrom, IsOverAtoms}
 use Rattle.spec_derivations.proofs.Onward.{new_pushed}
-use Rattle.spec_derivations.proofs.Spending.{rests_there}
+use Rattle.spec_derivations.proofs.Spending.{depends_there}
 use Rattle.search_loop.specs.Rounds.{AreSteps, nothing, lemmas as some_lemmas, learning as one_clause, HasSteps, HasLemma, ComesFrom, HasDerived}
 
 -- a derivation whose assumptions are all among terms
 module _ (problem : Problem) (d : Derivation) (right : IsDerivation d) (among : All (AssumesAmong (terms_of_problem problem)) d) where
   -- each of its numbers is derived from the terms
   pub derived_from : (n : ℕ) → n < length d → IsDerivedFrom (terms_of_problem problem) d n
-  derived_from n lt = record { there = lt; assumptions = λ m rests. among m no_inference (rests_there d right n m lt rests) }
+  derived_from n lt = record { there = lt; assumptions = λ m depends. among m no_inference (depends_there d right n m lt depends) }
 
   -- what was learned before is derived from the terms still
   module _ (earlier : Derivation) (x : Inference) (is : d ≡ earlier ++ x ∷ []) where

@@ -60,6 +60,6 @@ interpretation t interp apart = (
 -- an interpretation with these tables is one by the values of the listed terms
 pub models_by : (t : TableView) (held : List Lit) (terms : List TermId) (classes : List ℕ) (numbers : List Fraction) (interp : Interp) → IsModelOf t held terms classes numbers interp
     → (i : Interpretation) → HasSymbolTables t interp i → IsModelBy i (values_of t held terms classes numbers) t.symbols (clause_at t terms)
-models_by t held terms classes numbers interp model i stands s c =
+models_by t held terms classes numbers interp model i represents s c =
     subst (λ (x : Symbol). i.table x.name ≡ table_of (values_of t held terms classes numbers) x (clause_at t terms)) (sym (get_or_default t.symbols c.0 s no_symbol c.1) ∙ c.2)
-    (stands (record { 0 = c.0 }) c.1 ∙ model.each c.0 c.1)
+    (represents (record { 0 = c.0 }) c.1 ∙ model.each c.0 c.1)

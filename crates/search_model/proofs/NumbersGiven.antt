@@ -88,9 +88,9 @@ module _ (terms : List Term) (truths : Term → Bool) (class : Term → ℕ) (nu
 pub models_by_numbers : (t : TableView) (held : List Lit) (terms : List TermId) (classes : List ℕ) (number : Term → Fraction) (interp : Interp) → TakeNumbersOf number (clause_at t terms)
     → IsModelOf t held terms classes (map number (clause_at t terms)) interp → (i : Interpretation) → HasSymbolTables t interp i
     → IsModelBy i (value_by (term_true_by (truths_of t held)) (number_at number) (class_in (clause_at t terms) classes)) t.symbols (clause_at t terms)
-models_by_numbers t held terms classes number interp taken model i stands s c =
+models_by_numbers t held terms classes number interp taken model i represents s c =
     let listed = clause_at t terms in
     let truths = term_true_by (truths_of t held) in
     let class = class_in listed classes in
-    models_by t held terms classes (map number listed) interp model i stands s c
+    models_by t held terms classes (map number listed) interp model i represents s c
     ∙ tables_agree (value_by truths (number_in listed (map number listed)) class) (value_by truths (number_at number) class) s listed (numbers_agree listed truths class number taken s)

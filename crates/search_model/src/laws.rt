@@ -18,8 +18,8 @@ ghost use Rattle.search_model.specs.Models.{truths_of, values_of, TakeNumbersOf,
 
 /// States that the tables of a search's model are those of an interpretation, where no name of a symbol occurs twice.
 /// Each that has them is the one that the values of the listed terms give.
-pub fn made_models_stand()
-    ensures stands { (t : TableView) (held : List Lit) (terms : List TermId) (classes : List ℕ)
+pub fn made_models_have_interpretations()
+    ensures represents { (t : TableView) (held : List Lit) (terms : List TermId) (classes : List ℕ)
         (numbers : List Fraction) (interp : Interp) → HaveNoTwice (names_of t.symbols)
         → IsModelOf t held terms classes numbers interp → (i : Interpretation) × HasSymbolTables t interp i }
     ensures models { (t : TableView) (held : List Lit) (terms : List TermId) (classes : List ℕ)

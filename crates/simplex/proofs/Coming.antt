@@ -18,7 +18,7 @@ use Rattle.spec_causes.specs.Bounds.{AreBounds}
 use Rattle.spec_causes.specs.Reached.{IsReached, IsStoppedAt}
 use Rattle.spec_causes.specs.Reached as reached
 use Rattle.spec_causes.specs.Counts.{counted}
-use Rattle.spec_causes.proofs.Resting.{kept_makes_none, kept_is_not_short}
+use Rattle.spec_causes.proofs.IdleChecks.{kept_makes_none, kept_is_not_short}
 use Rattle.no_memory.specs.declared.NoMemory.{NoMemory}
 use Rattle.term_core.specs.declared.ids.TermId.{TermId}
 use Rattle.term_core.specs.declared.ids.Lit.{Lit}
@@ -147,8 +147,8 @@ module _ (t : TableView) (ts : List Term) where
 
   module _ (n : ℕ) (es : List (ℕ × ℕ)) (old new : SimplexView) (came : CameBy t ts n es old) where
     -- it is in the state that it was in
-    stands : (m : ℕ) → AreFew new m came.runs → new.atoms ≡ old.atoms → new.assignment ≡ old.assignment → AllOf new.theory.watched → AtomsOf new.theory.held → CameBy t ts m es new
-    stands m few a b watched held = record {
+    comes_there : (m : ℕ) → AreFew new m came.runs → new.atoms ≡ old.atoms → new.assignment ≡ old.assignment → AllOf new.theory.watched → AtomsOf new.theory.held → CameBy t ts m es new
+    comes_there m few a b watched held = record {
       watched = all_among new.theory.watched watched;
       held = held;
       runs = came.runs;
@@ -164,12 +164,12 @@ module _ (t : TableView) (ts : List Term) where
     -- it watches and holds the same
     pub came_same : new.atoms ≡ old.atoms → new.assignment ≡ old.assignment → new.bounds.held ≡ old.bounds.held → new.theory.watched ≡ old.theory.watched → new.theory.held ≡ old.theory.held → CameBy t ts n es new
     came_same a b bounds watched held =
-        stands n (same_few b bounds) a b (subst AllOf (sym watched) (each_among old.theory.watched came.watched)) (subst AtomsOf (sym held) came.held)
+        comes_there n (same_few b bounds) a b (subst AllOf (sym watched) (each_among old.theory.watched came.watched)) (subst AtomsOf (sym held) came.held)
 
     -- it watches a term more
     pub came_watching : (id : TermId) → Contains ts (term_at t id) → new.atoms ≡ old.atoms → new.assignment ≡ old.assignment → new.bounds.held ≡ old.bounds.held → new.theory ≡ with_watched old.theory id → CameBy t ts n es new
     came_watching id there a b bounds theory =
-        stands n (same_few b bounds) a b
+        comes_there n (same_few b bounds) a b
         (subst AllOf (sym (ap (λ (v : TheoryView). v.watched) theory)) (All-push (λ id. Contains ts (term_at t id)) old.theory.watched id (each_among old.theory.watched came.watched) there))
         (subst AtomsOf (sym (ap (λ (v : TheoryView). v.held) theory)) came.held)
 
@@ -180,7 +180,7 @@ module _ (t : TableView) (ts : List Term) where
         let u = term_at t l.term in
         let watched = each_among old.theory.watched came.watched in
         let is_known = All-contains (IsKnownIn t old.atoms.slack_list) old.theory.watched l.term known there in
-        stands (counted u n)
+        comes_there (counted u n)
         (counted_few old new n came.runs u (λ e. keeps_same old new b (plain (no_slack_known (slack_in old.atoms.slack_list l.term) (constraint_of (positive_literal u)) is_known e))) came.few)
         a b
         (subst AllOf (sym (ap (λ (v : TheoryView). v.watched) theory)) watched)
@@ -196,11 +196,11 @@ module _ (t : TableView) (ts : List Term) where
 
         by : (k : ℕ) → new.theory ≡ gone_back k old.theory → CameBy t ts n es new
         by zero theory =
-            stands n few a b
+            comes_there n few a b
             (subst AllOf (sym (ap (λ (v : TheoryView). v.watched) theory)) (each_among old.theory.watched came.watched))
             (subst AtomsOf (sym (ap (λ (v : TheoryView). v.held) theory)) came.held)
         by (suc k) theory =
-            stands n few a b
+            comes_there n few a b
             (subst AllOf (sym (ap (λ (v : TheoryView). v.watched) theory)) (All-take (λ id. Contains ts (term_at t id)) _ old.theory.watched (each_among old.theory.watched came.watched)))
             (subst AtomsOf (sym (ap (λ (v : TheoryView). v.held) theory)) (All-take (λ (l : Lit). Contains ts (term_at t l.term)) _ old.theory.held came.held))
 
@@ -274,7 +274,7 @@ module _ (t : TableView) (ts : List Term) (v : SimplexView) (c : AssignmentView)
               runs = came.runs;
               reached = subst (λ es. IsReached ts came.runs es (term_tableau_of t after)) (sym none)
                   (moved (IsReached ts came.runs old)
-                  (reached.resting came.runs old (term_tableau_of t v) came.reached ranges bounds c.tableau.rows c.values lengths (subst (λ es. Ran ranges (state_of v.assignment) (state_of c) old es) none ran)));
+                  (reached.idling came.runs old (term_tableau_of t v) came.reached ranges bounds c.tableau.rows c.values lengths (subst (λ es. Ran ranges (state_of v.assignment) (state_of c) old es) none ran)));
               few = h.1;
             }
         by (inr h) = record {

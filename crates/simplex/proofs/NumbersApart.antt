@@ -79,11 +79,11 @@ module _ (t : TableView) (v : SimplexView) (unique : AreDifferent t.terms) (is :
   tells : TellsOwners t v.atoms.owners
   tells = (unique, is.right.owners_in)
 
-  abbrev stands : TermTableau
-  stands = term_tableau_of t v
+  abbrev tableau_here : TermTableau
+  tableau_here = term_tableau_of t v
 
   -- the variable that means a term does so by its number
-  owner_of : (y : ℕ) (u : Term) → owner_in stands.owners y ≡ Some u → (id : TermId) × (owner_at v.atoms.owners y ≡ Some id) × (term_at t id ≡ u)
+  owner_of : (y : ℕ) (u : Term) → owner_in tableau_here.owners y ≡ Some u → (id : TermId) × (owner_at v.atoms.owners y ≡ Some id) × (term_at t id ≡ u)
   owner_of y u k = by (owner_at v.atoms.owners y) refl (sym (owner_mapped t v.atoms.owners y) ∙ k)
     where
       by : (p : Option TermId) → owner_at v.atoms.owners y ≡ p → owner_meant t p ≡ Some u → (id : TermId) × (owner_at v.atoms.owners y ≡ Some id) × (term_at t id ≡ u)
@@ -91,7 +91,7 @@ module _ (t : TableView) (v : SimplexView) (unique : AreDifferent t.terms) (is :
       by (Some id) h m = (id, h, same_Some (term_at t id) u m)
 
   -- no two variables stand for one term
-  once : (y z : ℕ) (w : Term) → owner_in stands.owners y ≡ Some w → owner_in stands.owners z ≡ Some w → y ≡ z
+  once : (y z : ℕ) (w : Term) → owner_in tableau_here.owners y ≡ Some w → owner_in tableau_here.owners z ≡ Some w → y ≡ z
   once y z w a b =
       let i = owner_of y w a in
       is.right.once y z i.0 i.1 (term_owned t v.atoms.owners i.0 tells (is.right.owners_in y i.0 i.1) z (b ∙ ap Some (sym i.2)))
@@ -100,16 +100,16 @@ module _ (t : TableView) (v : SimplexView) (unique : AreDifferent t.terms) (is :
     abbrev own : Term → Number
     own = number_in t v e
 
-    variables_have : term_tableaux.AreOwned stands.owners own (λ y. at_number e (point_in v.assignment.values y))
+    variables_have : term_tableaux.AreOwned tableau_here.owners own (λ y. at_number e (point_in v.assignment.values y))
     variables_have y u k = let i = owner_of y u k in numbers_owned t v e unique is y i.0 i.1 ∙ ap own i.2
 
-    others_have : (u : Term) → ((y : ℕ) → owner_in stands.owners y ≡ Some u → ⊥) → own u ≡ numbers.zero
+    others_have : (u : Term) → ((y : ℕ) → owner_in tableau_here.owners y ≡ Some u → ⊥) → own u ≡ numbers.zero
     others_have u none = ap (λ (p : Pair Number). p.base) (absent t v.atoms.owners (λ y. flat (at_number e (point_in v.assignment.values y))) u
         (λ y id k same. none y (owner_mapped t v.atoms.owners y ∙ ap (owner_meant t) k ∙ ap Some same)))
 
     -- a linear term has the number of its value
-    valued : (u : Term) (p : Pair Number) → IsLinearOver t.symbols u → IsValueOf stands u p → number_at (λ w. (own w).fraction) u ≡ (at_number e p).fraction
-    valued u p linear value = value_at_number e stands own variables_have others_have t.symbols u p linear value
+    valued : (u : Term) (p : Pair Number) → IsLinearOver t.symbols u → IsValueOf tableau_here u p → number_at (λ w. (own w).fraction) u ≡ (at_number e p).fraction
+    valued u p linear value = value_at_number e tableau_here own variables_have others_have t.symbols u p linear value
 
     module _ (us : List Term) (linear : All (IsLinearOver t.symbols) us) where
       abbrev given : Term → Fraction
@@ -118,7 +118,7 @@ module _ (t : TableView) (v : SimplexView) (unique : AreDifferent t.terms) (is :
       listed : (u : Term) → Contains us u → given u ≡ number_at (λ w. (own w).fraction) u
       listed u c = ap (λ b. cond b (number_at (λ w. (own w).fraction) u) (own u).fraction) ((has_term-Decides us u).1 c)
 
-      listed_value : (u : Term) (p : Pair Number) → Contains us u → IsValueOf stands u p → given u ≡ (at_number e p).fraction
+      listed_value : (u : Term) (p : Pair Number) → Contains us u → IsValueOf tableau_here u p → given u ≡ (at_number e p).fraction
       listed_value u p c value = listed u c ∙ valued u p (All-contains (IsLinearOver t.symbols) us u linear c) value
 
       unlisted : (u : Term) → (Contains us u → ⊥) → given u ≡ (own u).fraction
@@ -137,21 +137,21 @@ module _ (t : TableView) (v : SimplexView) (unique : AreDifferent t.terms) (is :
           by true = inr refl
           by false = inl refl
 
-      module _ (ps : List (Pair Number)) (values : AreValuesOf stands us ps) where
+      module _ (ps : List (Pair Number)) (values : AreValuesOf tableau_here us ps) where
         all_reduced : (u : Term) → IsReduced (given u)
         all_reduced u = by (has_term us u) refl
           where
             by : (b : Bool) → has_term us u ≡ b → IsReduced (cond b (number_at (λ w. (own w).fraction) u) (own u).fraction)
             by true h =
                 let c = (has_term-Decides us u).0 h in
-                let x = value_among stands us ps values u c in
+                let x = value_among tableau_here us ps values u c in
                 subst IsReduced (sym (valued u x.0 (All-contains (IsLinearOver t.symbols) us u linear c) x.2)) (at_number e x.0).reduced
             by false h = (own u).reduced
 
-        own_value : (u : Term) (p : Pair Number) → Contains us u → IsValueOf stands u p → Contains ps p
+        own_value : (u : Term) (p : Pair Number) → Contains us u → IsValueOf tableau_here u p → Contains ps p
         own_value u p c value =
-            let x = value_among stands us ps values u c in
-            subst (Contains ps) (one_value stands u x.0 p once x.2 value) x.1
+            let x = value_among tableau_here us ps values u c in
+            subst (Contains ps) (one_value tableau_here u x.0 p once x.2 value) x.1
 
         pub hold_apart : (ts : List Term) (xs : List Fraction) → KeepsApart e ps → All (HoldsAt (λ u. (own u).fraction)) (literals_held t v.theory) → xs ≡ map given ts → HoldApart t v ts us xs
         hold_apart ts xs keeps hold are = record {
@@ -168,11 +168,11 @@ module _ (t : TableView) (v : SimplexView) (unique : AreDifferent t.terms) (is :
         }
 
     -- the number that the code gives
-    module _ (ids : List TermId) (ds : List Delta) (values : AreValuesOf stands (clause_at t ids) (map pair_of ds)) (told : ℕ → Option Delta) (telling : TellsValues told ids ds (length ids)) where
-      told_value : (id : TermId) (d : Delta) → told id.0 ≡ Some d → Contains (clause_at t ids) (term_at t id) × IsValueOf stands (term_at t id) (pair_of d)
+    module _ (ids : List TermId) (ds : List Delta) (values : AreValuesOf tableau_here (clause_at t ids) (map pair_of ds)) (told : ℕ → Option Delta) (telling : TellsValues told ids ds (length ids)) where
+      told_value : (id : TermId) (d : Delta) → told id.0 ≡ Some d → Contains (clause_at t ids) (term_at t id) × IsValueOf tableau_here (term_at t id) (pair_of d)
       told_value id d h =
           let x = telling.tells id.0 d h in
-          (to_image (term_at t) ids id (x.0, x.1, x.2), value_at_slack t stands ids ds values x.0 id d x.1 x.2 x.3)
+          (to_image (term_at t) ids id (x.0, x.1, x.2), value_at_slack t tableau_here ids ds values x.0 id d x.1 x.2 x.3)
 
       not_told : (id : TermId) → AreIn t ids → IsIn t id → told id.0 ≡ None → Contains (clause_at t ids) (term_at t id) → ⊥
       not_told id all there h c =
@@ -194,14 +194,14 @@ module _ (t : TableView) (v : SimplexView) (unique : AreDifferent t.terms) (is :
               ap (λ (x : Number). x.fraction) h ∙ sym (listed_value (clause_at t ids) linear (term_at t id) (pair_of d) x.0 x.1)
 
       -- its overflow
-      pub evaluating_overflows : (ts : List Term) → All (IsSharedAmong ts) (clause_at t ids) → (ranges : Ranges) → AreBounds ts stands ranges → AreWithin ranges (point_in v.assignment.values)
-          → IsEpsilon ranges (point_in v.assignment.values) (map pair_of ds) e → (id : TermId) (o : Overflow) → OverflowsNumberWith e v (told id.0) o → OverflowsAt ts stands o
+      pub evaluating_overflows : (ts : List Term) → All (IsSharedAmong ts) (clause_at t ids) → (ranges : Ranges) → AreBounds ts tableau_here ranges → AreWithin ranges (point_in v.assignment.values)
+          → IsEpsilon ranges (point_in v.assignment.values) (map pair_of ds) e → (id : TermId) (o : Overflow) → OverflowsNumberWith e v (told id.0) o → OverflowsAt ts tableau_here o
       evaluating_overflows ts shared ranges bounds within epsilon id o h = by (told id.0) refl h
         where
-          kept : AreSharedValues ts stands (map pair_of ds)
-          kept = shared_values_are ts stands (clause_at t ids) (map pair_of ds) values shared
+          kept : AreSharedValues ts tableau_here (map pair_of ds)
+          kept = shared_values_are ts tableau_here (clause_at t ids) (map pair_of ds) values shared
 
-          by : (r : Option Delta) → told id.0 ≡ r → OverflowsNumberWith e v r o → OverflowsAt ts stands o
+          by : (r : Option Delta) → told id.0 ≡ r → OverflowsNumberWith e v r o → OverflowsAt ts tableau_here o
           by None k h = evaluating ranges bounds within (map pair_of ds) kept e epsilon (h t)
           by (Some d) k h =
               let x = told_value id d k in

@@ -81,13 +81,13 @@ module _ (t : TableView) (v : SimplexView) (unique : AreDifferent t.terms) (is :
   -- the entry of a first term that a variable stands for
   at_first : (whole : List (Term × Fraction)) (x : TermId × Ratio) (xs : List (TermId × Ratio)) (sum : Pair Number) (y : ℕ) → owner_at v.atoms.owners y ≡ Some x.0 → IsIn t x.0
       → (l : Left (term_tableau_of t v) whole (variables_meant t (x ∷ xs)) sum) → (rest : List (Entry Number)) × (l.left ≡ entry x y ∷ rest) × AreOwnedEntries (term_tableau_of t v).owners rest (variables_meant t xs)
-  at_first whole x xs sum y stands there l =
-      first_owned (term_tableau_of t v).owners (meant x) (entry x y) (record { owner = owner_mapped t v.atoms.owners y ∙ ap (owner_meant t) stands; coefficient = refl })
-      (λ z k. is.right.once z y x.0 (term_owned t v.atoms.owners x.0 tells there z k) stands) l.left (variables_meant t xs) l.left_are
+  at_first whole x xs sum y represents there l =
+      first_owned (term_tableau_of t v).owners (meant x) (entry x y) (record { owner = owner_mapped t v.atoms.owners y ∙ ap (owner_meant t) represents; coefficient = refl })
+      (λ z k. is.right.once z y x.0 (term_owned t v.atoms.owners x.0 tells there z k) represents) l.left (variables_meant t xs) l.left_are
 
   pub left_more : (whole : List (Term × Fraction)) (x : TermId × Ratio) (xs : List (TermId × Ratio)) (sum next : Pair Number) → IsIn t x.0 → Left (term_tableau_of t v) whole (variables_meant t (x ∷ xs)) sum
       → IsNextSum v x.0 (number_of x.1) sum next → Left (term_tableau_of t v) whole (variables_meant t xs) next
-  left_more whole x xs sum next there l n = by n.variable n.stands n.is
+  left_more whole x xs sum next there l n = by n.variable n.represents n.is
     where
       by : (o : Option ℕ) → IsNumberOf v.atoms.owners x.0 o → next ≡ next_by v (number_of x.1) sum o → Left (term_tableau_of t v) whole (variables_meant t xs) next
       by None free e = record {
@@ -97,8 +97,8 @@ module _ (t : TableView) (v : SimplexView) (unique : AreDifferent t.terms) (is :
         left_are = first_left_out (term_tableau_of t v).owners (meant x) (term_new t v.atoms.owners x.0 tells there free) l.left (variables_meant t xs) l.left_are;
         summed = subst (Summed (point_in v.assignment.values) l.entries l.left) (sym e) l.summed;
       }
-      by (Some y) stands e =
-          let first = at_first whole x xs sum y stands there l in
+      by (Some y) represents e =
+          let first = at_first whole x xs sum y represents there l in
           record {
             entries = l.entries;
             are = l.are;
@@ -110,7 +110,7 @@ module _ (t : TableView) (v : SimplexView) (unique : AreDifferent t.terms) (is :
   pub left_overflows : (whole : List (Term × Fraction)) (x : TermId × Ratio) (xs : List (TermId × Ratio)) (sum : Pair Number) (o : Overflow) → IsIn t x.0
       → Left (term_tableau_of t v) whole (variables_meant t (x ∷ xs)) sum → OverflowsNextSum v x.0 (number_of x.1) sum o → OverflowsSumAt (term_tableau_of t v) whole o
   left_overflows whole x xs sum o there l n =
-      let first = at_first whole x xs sum n.variable n.stands there l in
+      let first = at_first whole x xs sum n.variable n.represents there l in
       record {
         entries = l.entries;
         are = l.are;
@@ -121,18 +121,18 @@ module _ (t : TableView) (v : SimplexView) (unique : AreDifferent t.terms) (is :
       }
 
 -- a step of the sum, by the operations that it takes
-module _ (v : SimplexView) (id : TermId) (y : ℕ) (k : Ratio) (sum value product : Delta) (stands : IsNumberOf v.atoms.owners id (Some y)) (of_assignment : pair_of value ≡ point_in v.assignment.values y) where
+module _ (v : SimplexView) (id : TermId) (y : ℕ) (k : Ratio) (sum value product : Delta) (represents : IsNumberOf v.atoms.owners id (Some y)) (of_assignment : pair_of value ≡ point_in v.assignment.values y) where
   multiple : pair_of product ≡ deltas.scale (number_of k) (pair_of value) → pair_of product ≡ deltas.scale (number_of k) (point_in v.assignment.values y)
   multiple e = e ∙ ap (deltas.scale (number_of k)) of_assignment
 
   pub next_is : (next : Delta) → pair_of product ≡ deltas.scale (number_of k) (pair_of value) → pair_of next ≡ deltas.plus (pair_of sum) (pair_of product) → IsNextSum v id (number_of k) (pair_of sum) (pair_of next)
-  next_is next times plus = record { variable = Some y; stands = stands; is = plus ∙ ap (deltas.plus (pair_of sum)) (multiple times) }
+  next_is next times plus = record { variable = Some y; represents = represents; is = plus ∙ ap (deltas.plus (pair_of sum)) (multiple times) }
 
   pub product_overflowing : (o : Overflow) → delta_scaled (fraction k) (delta value) ≡ Err o → OverflowsNextSum v id (number_of k) (pair_of sum) o
-  product_overflowing o h = record { variable = y; stands = stands; may_overflow = inl (ap (λ p. delta_scaled (fraction k) (delta_in p)) (sym of_assignment) ∙ h) }
+  product_overflowing o h = record { variable = y; represents = represents; may_overflow = inl (ap (λ p. delta_scaled (fraction k) (delta_in p)) (sym of_assignment) ∙ h) }
 
   pub next_overflows : (o : Overflow) → pair_of product ≡ deltas.scale (number_of k) (pair_of value) → delta_added (delta sum) (delta product) ≡ Err o → OverflowsNextSum v id (number_of k) (pair_of sum) o
-  next_overflows o times h = record { variable = y; stands = stands; may_overflow = inr (ap (λ p. delta_added (delta sum) (delta_in p)) (sym (multiple times)) ∙ h) }
+  next_overflows o times h = record { variable = y; represents = represents; may_overflow = inr (ap (λ p. delta_added (delta sum) (delta_in p)) (sym (multiple times)) ∙ h) }
 
 -- a form that leaves the bound
 pub form_overflowing : (t : TableView) (s : TermTableau) (u : Term) (x : FormFault) → Finds t (form u) (let r : Result FormView FormFault = Err x in r) → OnAtomOverflow (OverflowsTerm s u) (of_fault x)

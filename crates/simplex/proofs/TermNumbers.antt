@@ -58,16 +58,16 @@ module _ (t : TableView) (v : SimplexView) (e : Number) (unique : AreDifferent t
 
   -- a number of a term is the number that it has
   pub number_is_in : (id : TermId) (q : Number) → IsIn t id → IsNumberAt e v id q → q ≡ number_in t v e (term_at t id)
-  number_is_in id q there n = n.is ∙ by_variable id there n.variable n.stands
+  number_is_in id q there n = n.is ∙ by_variable id there n.variable n.represents
 
 -- an overflow of the value of a variable that means a term
 pub value_overflowing : (v : SimplexView) (e : Ratio) (id : TermId) (y : ℕ) (a : Delta) (r : Result Ratio Wide) → IsNumberOf v.atoms.owners id (Some y) → pair_of a ≡ point_in v.assignment.values y
     → IfErr r (λ w. delta_evaluated (delta a) (fraction e) ≡ Err (overflow w)) → IfErr r (λ w. (t : TableView) → OverflowsValueAt (number_of e) (term_tableau_of t v) (overflow w))
-value_overflowing v e id y a (Ok q) stands is h = tt
-value_overflowing v e id y a (Err w) stands is h = λ t. record {
+value_overflowing v e id y a (Ok q) represents is h = tt
+value_overflowing v e id y a (Err w) represents is h = λ t. record {
   variable = y;
   term = term_at t id;
-  stands = owner_mapped t v.atoms.owners y ∙ ap (owner_meant t) stands;
+  represents = owner_mapped t v.atoms.owners y ∙ ap (owner_meant t) represents;
   leaves = ap (λ (p : Pair Number). delta_evaluated (delta_in p) (fraction e)) (sym is) ∙ h;
 }
 

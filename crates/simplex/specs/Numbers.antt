@@ -30,7 +30,7 @@ number_by e v (Some y) = at_number e (point_in v.assignment.values y)
 pub record IsNumberAt (e : Number) (v : SimplexView) (id : TermId) (q : Number) : Type 0 where
   -- the variable that means the term, if one does
   pub variable : Option ℕ
-  pub stands : IsNumberOf v.atoms.owners id variable
+  pub represents : IsNumberOf v.atoms.owners id variable
   -- it has the number
   pub is : q ≡ number_by e v variable
 

@@ -32,14 +32,14 @@ next_by v k sum (Some y) = deltas.plus sum (deltas.scale k (point_in v.assignmen
 -- The sum with k times the value of the variable that means a term, if one does.
 pub record IsNextSum (v : SimplexView) (id : TermId) (k : Number) (sum next : Pair Number) : Type 0 where
   pub variable : Option ℕ
-  pub stands : IsNumberOf v.atoms.owners id variable
+  pub represents : IsNumberOf v.atoms.owners id variable
   pub is : next ≡ next_by v k sum variable
 
 -- It comes to the overflow o: the product does, or the sum with it.
 pub record OverflowsNextSum (v : SimplexView) (id : TermId) (k : Number) (sum : Pair Number)
     (o : Overflow) : Type 0 where
   pub variable : ℕ
-  pub stands : owner_at v.atoms.owners variable ≡ Some id
+  pub represents : owner_at v.atoms.owners variable ≡ Some id
   pub may_overflow : (delta_scaled k.fraction (delta_in (point_in v.assignment.values variable)) ≡ Err o)
       ⊎ (delta_added (delta_in sum) (delta_in (deltas.scale k (point_in v.assignment.values variable))) ≡ Err o)
 

@@ -17,21 +17,21 @@ reaches os from [] to h = h
 reaches os from (r ∷ rs) to h = let rest : suc r.basic ≤ to = reaches os (suc r.basic) rs to h.3 in omega (arith, h.0, rest)
 
 -- a variable that was there stands for what it stood for
-stands : (os : List (Option TermId)) (o : Option TermId) (n from : ℕ) (r : Row Number) (rs : List (Row Number)) → length os ≡ n → AreGrounded os from (r ∷ rs) n → owner_at (os ++ o ∷ []) r.basic ≡ None
-stands os o n from r rs e h =
+represents : (os : List (Option TermId)) (o : Option TermId) (n from : ℕ) (r : Row Number) (rs : List (Row Number)) → length os ≡ n → AreGrounded os from (r ∷ rs) n → owner_at (os ++ o ∷ []) r.basic ≡ None
+represents os o n from r rs e h =
     let rest : suc r.basic ≤ n = reaches os (suc r.basic) rs n h.3 in
     get_or-append os (o ∷ []) None r.basic (omega (arith, e, rest)) ∙ h.1
 
 -- a variable more
 variable_more : (os : List (Option TermId)) (o : Option TermId) (n from : ℕ) (rs : List (Row Number)) → length os ≡ n → AreGrounded os from rs n → AreGrounded (os ++ o ∷ []) from rs (suc n)
 variable_more os o n from [] e h = omega (arith, h)
-variable_more os o n from (r ∷ rs) e h = (h.0, stands os o n from r rs e h, h.2, variable_more os o n (suc r.basic) rs e h.3)
+variable_more os o n from (r ∷ rs) e h = (h.0, represents os o n from r rs e h, h.2, variable_more os o n (suc r.basic) rs e h.3)
 
 -- a row more, which is over variables that were there
 row_more : (os : List (Option TermId)) (n from : ℕ) (rs : List (Row Number)) (es : List (Entry Number)) → length os ≡ n → AllVariables (λ y. y < n) es → AreGrounded os from rs n
     → AreGrounded (os ++ None ∷ []) from (rs ++ record { basic = n; entries = es } ∷ []) (suc n)
 row_more os n from [] es e over h = (h, ap (owner_at (os ++ None ∷ [])) (sym e) ∙ owner_last os None, over, omega arith)
-row_more os n from (r ∷ rs) es e over h = (h.0, stands os None n from r rs e h, h.2, row_more os n (suc r.basic) rs es e over h.3)
+row_more os n from (r ∷ rs) es e over h = (h.0, represents os None n from r rs e h, h.2, row_more os n (suc r.basic) rs es e over h.3)
 
 -- on assignments
 

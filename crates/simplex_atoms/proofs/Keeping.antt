@@ -13,8 +13,8 @@ use Rattle.spec_tableaux.specs.Numbers.{Number, numbers, fractions}
 use Rattle.spec_tableaux.proofs.Numbers.{numbers_are_ordered_field}
 use Rattle.spec_tableaux.proofs.Signs.{sum_zero_right, zero_product, opposite_zero}
 use Rattle.spec_simplex.specs.Constraints.{Relation, below, at_most, equals, at_least, above, Constraint, saying, where_true, constraint_by, form_of}
-use Rattle.spec_simplex.specs.Points.{Point, base_at, tilt_at, stands, KeepsLiteral}
-use Rattle.spec_simplex.proofs.PairOrder.{stands_below, stands_above, stands_equals}
+use Rattle.spec_simplex.specs.Points.{Point, base_at, tilt_at, relates, KeepsLiteral}
+use Rattle.spec_simplex.proofs.PairOrder.{relates_below, relates_above, relates_equals}
 use Rattle.term_core.specs.declared.ids.Lit.{Lit}
 use Rattle.tableau.specs.Numbers.{number_of}
 use Rattle.simplex_bounds.specs.declared.bounds.Side.{Side}
@@ -129,33 +129,33 @@ module _ (slack : Slack) (l : Lit) (v : ℕ → Pair Number) (z : numbers.is_zer
   abbrev goal : Pair Number
   goal = flat (number_of slack.bound)
 
-  stands_left : (up : Bool) → is_positive numbers (number_of slack.factor) ≡ up → deltas.less value deltas.origin ≡ cond up (deltas.less x goal) (deltas.less goal x)
-  stands_left up p =
+  relates_left : (up : Bool) → is_positive numbers (number_of slack.factor) ≡ up → deltas.less value deltas.origin ≡ cond up (deltas.less x goal) (deltas.less goal x)
+  relates_left up p =
       less_left (number_of slack.factor) (number_of slack.constant) (number_of slack.bound) x z e ∙ ap (λ b. cond b (deltas.less x goal) (deltas.less goal x)) p
 
-  stands_right : (up : Bool) → is_positive numbers (number_of slack.factor) ≡ up → deltas.less deltas.origin value ≡ cond up (deltas.less goal x) (deltas.less x goal)
-  stands_right up p =
+  relates_right : (up : Bool) → is_positive numbers (number_of slack.factor) ≡ up → deltas.less deltas.origin value ≡ cond up (deltas.less goal x) (deltas.less x goal)
+  relates_right up p =
       less_right (number_of slack.factor) (number_of slack.constant) (number_of slack.bound) x z e ∙ ap (λ b. cond b (deltas.less goal x) (deltas.less x goal)) p
 
   -- the first of the bounds is kept
   head : (side : Side) (strict : Bool) (bs : List Limit) → AreLimitsKept v (limit_on slack l side strict ∷ bs) → KeepsLimit v (limit_on slack l side strict)
   head side strict bs h = All-head (KeepsLimit v) (limit_on slack l side strict) bs h
 
-  kept_stands : (r : Relation) (up : Bool) → is_positive numbers (number_of slack.factor) ≡ up → AreLimitsKept v (limits_where (Some r) up slack l)
-      → stands r value.base.fraction value.tilt.fraction ≡ true
-  kept_stands below true p h = stands_below value ∙ stands_left true p ∙ under_upper (number_of slack.bound) x (head Upper true [] h)
-  kept_stands below false p h = stands_below value ∙ stands_left false p ∙ over_lower (number_of slack.bound) x (head Lower true [] h)
-  kept_stands above true p h = stands_above value ∙ stands_right true p ∙ over_lower (number_of slack.bound) x (head Lower true [] h)
-  kept_stands above false p h = stands_above value ∙ stands_right false p ∙ under_upper (number_of slack.bound) x (head Upper true [] h)
-  kept_stands at_most true p h = ap not (stands_above value ∙ stands_right true p ∙ head Upper false [] h)
-  kept_stands at_most false p h = ap not (stands_above value ∙ stands_right false p ∙ head Lower false [] h)
-  kept_stands at_least true p h = ap not (stands_below value ∙ stands_left true p ∙ head Lower false [] h)
-  kept_stands at_least false p h = ap not (stands_below value ∙ stands_left false p ∙ head Upper false [] h)
-  kept_stands equals up p h =
+  kept_relates : (r : Relation) (up : Bool) → is_positive numbers (number_of slack.factor) ≡ up → AreLimitsKept v (limits_where (Some r) up slack l)
+      → relates r value.base.fraction value.tilt.fraction ≡ true
+  kept_relates below true p h = relates_below value ∙ relates_left true p ∙ under_upper (number_of slack.bound) x (head Upper true [] h)
+  kept_relates below false p h = relates_below value ∙ relates_left false p ∙ over_lower (number_of slack.bound) x (head Lower true [] h)
+  kept_relates above true p h = relates_above value ∙ relates_right true p ∙ over_lower (number_of slack.bound) x (head Lower true [] h)
+  kept_relates above false p h = relates_above value ∙ relates_right false p ∙ under_upper (number_of slack.bound) x (head Upper true [] h)
+  kept_relates at_most true p h = ap not (relates_above value ∙ relates_right true p ∙ head Upper false [] h)
+  kept_relates at_most false p h = ap not (relates_above value ∙ relates_right false p ∙ head Lower false [] h)
+  kept_relates at_least true p h = ap not (relates_below value ∙ relates_left true p ∙ head Lower false [] h)
+  kept_relates at_least false p h = ap not (relates_below value ∙ relates_left false p ∙ head Upper false [] h)
+  kept_relates equals up p h =
       let upper = limit_on slack l Upper false in
       let same : x ≡ goal =
       deltas_are_ordered.less_total x goal (head Lower false (upper ∷ []) h) (All-head (KeepsLimit v) upper [] (All-tail (KeepsLimit v) (limit_on slack l Lower false) (upper ∷ []) h)) in
-      (stands_equals value).1
+      (relates_equals value).1
       (ap (λ (y : Pair Number). come (number_of slack.factor) y (number_of slack.constant)) same
       ∙ bound_nought (number_of slack.factor) (number_of slack.constant) (number_of slack.bound) z e)
 
@@ -216,7 +216,7 @@ kept s slack atom is p v o h l bounds d says f has =
     let both = agree atom l.positive is.constraint d slack.kind is.says is.kind says in
     let form : f ≡ is.form = same_ok f is.form (sym has ∙ both.1 ∙ is.has) in
     let Bounds : Option Relation → Type 0 = λ r. AreLimitsKept v (limits_where r (is_positive numbers (number_of slack.factor)) slack l) in
-    let there = kept_stands slack l v is.is.factor is.is.bound d.relation _ refl (subst Bounds both.0 bounds) in
+    let there = kept_relates slack l v is.is.factor is.is.bound d.relation _ refl (subst Bounds both.0 bounds) in
     let base = ap (base_at p) form ∙ base_comes s slack is.form is.is p v o h in
     let tilt = ap (tilt_at p) form ∙ tilt_comes s slack is.form is.is p v o h ∙ ap (λ (n : Number). n.fraction) (sym (sum_zero_right numbers numbers_are_ordered_field (numbers.times (number_of slack.factor) (v slack.variable).tilt))) in
-    (λ i. stands d.relation (base i) (tilt i)) ∙ there
+    (λ i. relates d.relation (base i) (tilt i)) ∙ there

@@ -94,8 +94,8 @@ pub overflows_quotient : (ranges : Ranges) (t : State Number (Pair Number)) (b x
 overflows_quotient ranges t b x d c o p w a e h = quotient b x p w ((λ i. delta_divided (delta_in (sym a i)) (sym e i).fraction) ∙ h)
 
 -- overflows of a move
-pub overflows_settling : (ranges : Ranges) (t : State Number (Pair Number)) (y : ℕ) (d : Pair Number) → IsNonbasic t.rows y → Violates ranges t y → d ≡ gap ranges t y → (o : Overflow) → OverflowsMove t y d o → CheckOverflows ranges t o
-overflows_settling ranges t y d n w e o h = move y d (updates_nonbasic n w e) h
+pub overflows_updating : (ranges : Ranges) (t : State Number (Pair Number)) (y : ℕ) (d : Pair Number) → IsNonbasic t.rows y → Violates ranges t y → d ≡ gap ranges t y → (o : Overflow) → OverflowsMove t y d o → CheckOverflows ranges t o
+overflows_updating ranges t y d n w e o h = move y d (updates_nonbasic n w e) h
 
 pub overflows_entering : (ranges : Ranges) (t : State Number (Pair Number)) (b x : ℕ) (d : Pair Number) → IsPivot numbers t.rows b x → Violates ranges t b → d ≡ distance deltas ranges t b x → (o : Overflow) → OverflowsMove t x d o → CheckOverflows ranges t o
 overflows_entering ranges t b x d p w e o h = move x d (enters b p w e) h

@@ -12,20 +12,20 @@ use Rattle.spec_tableaux.specs.Points.{deltas}
 use Rattle.simplex_atoms.specs.Owners.{owner_at, AreOwnedOnce, AreOwnersIn, AreOwned}
 
 -- a variable stands for this term
-abbrev stands_for : TableView → Option TermId → Term → Bool
-stands_for t None u = false
-stands_for t (Some id) u = same_term (term_at t id) u
+abbrev represents_term : TableView → Option TermId → Term → Bool
+represents_term t None u = false
+represents_term t (Some id) u = same_term (term_at t id) u
 
 -- the value of the first variable that means a term, the origin where none does
 abbrev pub point_of : TableView → List (Option TermId) → (ℕ → Pair Number) → Point
 point_of t [] v u = deltas.origin
-point_of t (o ∷ os) v u = cond (stands_for t o u) (v zero) (point_of t os (λ y. v (suc y)) u)
+point_of t (o ∷ os) v u = cond (represents_term t o u) (v zero) (point_of t os (λ y. v (suc y)) u)
 
 nobody : (y : ℕ) (id : TermId) → owner_at [] y ≡ Some id → ⊥
 nobody zero id e = none-some id e
 nobody (suc y) id e = none-some id e
 
-here : (t : TableView) (p : Option TermId) (u : Term) → stands_for t p u ≡ true → (x : TermId) × (p ≡ Some x) × (term_at t x ≡ u)
+here : (t : TableView) (p : Option TermId) (u : Term) → represents_term t p u ≡ true → (x : TermId) × (p ≡ Some x) × (term_at t x ≡ u)
 here t None u g = absurd (true≢false (sym g))
 here t (Some x) u g = (x, refl, one_term (term_at t x) u g)
 
@@ -33,22 +33,22 @@ here t (Some x) u g = (x, refl, one_term (term_at t x) u g)
 found : (t : TableView) (os : List (Option TermId)) (v : ℕ → Pair Number) (u : Term) (w : Pair Number)
     → ((x : ℕ) (id : TermId) → owner_at os x ≡ Some id → term_at t id ≡ u → v x ≡ w) → (y : ℕ) (id : TermId) → owner_at os y ≡ Some id → term_at t id ≡ u → point_of t os v u ≡ w
 found t [] v u w h y id e f = absurd (nobody y id e)
-found t (o ∷ os) v u w h y id e f = by (stands_for t o u) refl (rest (λ z k. found t os (λ y. v (suc y)) u w (λ x i a b. h (suc x) i a b) z id k f) y e)
+found t (o ∷ os) v u w h y id e f = by (represents_term t o u) refl (rest (λ z k. found t os (λ y. v (suc y)) u w (λ x i a b. h (suc x) i a b) z id k f) y e)
   where
-    rest : ((z : ℕ) → owner_at os z ≡ Some id → point_of t os (λ y. v (suc y)) u ≡ w) → (z : ℕ) → owner_at (o ∷ os) z ≡ Some id → stands_for t o u ≡ false → point_of t os (λ y. v (suc y)) u ≡ w
-    rest later zero e g = absurd (true≢false (sym (ap (λ (p : Option TermId). stands_for t p u) e ∙ ap (λ (s : Term). same_term s u) f ∙ term_itself u) ∙ g))
+    rest : ((z : ℕ) → owner_at os z ≡ Some id → point_of t os (λ y. v (suc y)) u ≡ w) → (z : ℕ) → owner_at (o ∷ os) z ≡ Some id → represents_term t o u ≡ false → point_of t os (λ y. v (suc y)) u ≡ w
+    rest later zero e g = absurd (true≢false (sym (ap (λ (p : Option TermId). represents_term t p u) e ∙ ap (λ (s : Term). same_term s u) f ∙ term_itself u) ∙ g))
     rest later (suc z) e g = later z e
 
-    by : (q : Bool) → stands_for t o u ≡ q → (stands_for t o u ≡ false → point_of t os (λ y. v (suc y)) u ≡ w) → cond q (v zero) (point_of t os (λ y. v (suc y)) u) ≡ w
+    by : (q : Bool) → represents_term t o u ≡ q → (represents_term t o u ≡ false → point_of t os (λ y. v (suc y)) u ≡ w) → cond q (v zero) (point_of t os (λ y. v (suc y)) u) ≡ w
     by true g r = let x = here t o u g in h zero x.0 x.1 x.2
     by false g r = r g
 
 -- where no variable means the term, it has the origin
 pub absent : (t : TableView) (os : List (Option TermId)) (v : ℕ → Pair Number) (u : Term) → ((y : ℕ) (id : TermId) → owner_at os y ≡ Some id → term_at t id ≡ u → ⊥) → point_of t os v u ≡ deltas.origin
 absent t [] v u h = refl
-absent t (o ∷ os) v u h = by (stands_for t o u) refl (absent t os (λ y. v (suc y)) u (λ y id. h (suc y) id))
+absent t (o ∷ os) v u h = by (represents_term t o u) refl (absent t os (λ y. v (suc y)) u (λ y id. h (suc y) id))
   where
-    by : (q : Bool) → stands_for t o u ≡ q → point_of t os (λ y. v (suc y)) u ≡ deltas.origin → cond q (v zero) (point_of t os (λ y. v (suc y)) u) ≡ deltas.origin
+    by : (q : Bool) → represents_term t o u ≡ q → point_of t os (λ y. v (suc y)) u ≡ deltas.origin → cond q (v zero) (point_of t os (λ y. v (suc y)) u) ≡ deltas.origin
     by true g r = let x = here t o u g in absurd (h zero x.0 x.1 x.2)
     by false g r = r
 

@@ -13,7 +13,7 @@ use Rattle.spec_tableaux.proofs.PairSolutions.{parts_pair}
 use Rattle.spec_tableaux.proofs.Signs.{zero_product}
 use Rattle.spec_simplex.specs.Points.{is_over}
 use Rattle.spec_simplex.specs.Weights.{Summand, IsSummand, product_at, weighted_sum, is_strict_by, has_strict}
-use Rattle.spec_simplex.proofs.PairOrder.{stands_above}
+use Rattle.spec_simplex.proofs.PairOrder.{relates_above}
 use Rattle.term_core.specs.declared.ids.Lit.{Lit}
 use Rattle.term_core.specs.declared.ids.TermId.{TermId}
 use Rattle.term_core.specs.Tables.{TableView, term_at}
@@ -125,7 +125,7 @@ refutes laws t owners listed from to f up es ws grounded stated slack_list c rea
         same = λ n r.
             let x = solution t owners from listed to grounded (λ u. record { fraction = n u; reduced = r u }) in
             ps.sum (λ u. record { fraction = n u; reduced = r u }) x.values x.owned x.solves ∙ ap (λ (p : Pair Number). p.base.fraction) (c.same (flat x.values) (solves x.values x.solves));
-        sign = over_parts c.total.base c.total.tilt (has_strict ps.summands) (stands_above c.total ∙ c.above)
+        sign = over_parts c.total.base c.total.tilt (has_strict ps.summands) (relates_above c.total ∙ c.above)
             (λ h. sym (ap (λ (p : Pair Number). p.tilt) (c.same (flat (λ _. numbers.zero)) (solves (λ _. numbers.zero) (zero_solves listed)))) ∙ ps.tilts h (λ _. numbers.zero));
       };
     }

@@ -11,7 +11,7 @@ use Rattle.spec_tableaux.specs.Numbers.{Number, numbers, fractions}
 use Rattle.spec_tableaux.proofs.Numbers.{numbers_are_ordered_field}
 use Rattle.spec_tableaux.proofs.Signs.{zero_product}
 use Rattle.spec_simplex.specs.Constraints.{Constraint, constraint_of}
-use Rattle.spec_simplex.specs.Points.{Point, base_at, tilt_at, stands}
+use Rattle.spec_simplex.specs.Points.{Point, base_at, tilt_at, relates}
 use Rattle.spec_simplex.specs.Numbers.{HoldsAt}
 use Rattle.spec_simplex.proofs.Comparisons.{sides_compared}
 use Rattle.term_core.specs.declared.ids.Lit.{Lit}
@@ -52,21 +52,21 @@ module _ (t : TableView) (a : AtomsView) (b : AssignmentView) (bounds : BoundsVi
   owned y id is = flat_point e b.values y ∙ ap flat (own y id is)
 
   -- what a held literal says of its form is so where terms have the numbers
-  stands_there : (l : Lit) (there : Contains held l) (d : Constraint) (says : constraint_of (literal_at t l) ≡ Some d)
-      → stands d.relation (form_value (λ u. (n u).fraction) (slack_list t a c bounds held kept l there d says).is.form) zero_fraction ≡ true
-  stands_there l there d says =
+  relates_there : (l : Lit) (there : Contains held l) (d : Constraint) (says : constraint_of (literal_at t l) ≡ Some d)
+      → relates d.relation (form_value (λ u. (n u).fraction) (slack_list t a c bounds held kept l there d says).is.form) zero_fraction ≡ true
+  relates_there l there d says =
       let x = slack_list t a c bounds held kept l there d says in
       let tilt : tilt_at point x.is.form ≡ zero_fraction =
       tilt_comes (setting_of t (ground_of a.owners c)) x.slack x.is.form x.is.is point (point_in c.values) owned (solved t a c bounds held kept)
       ∙ nothing (number_of x.slack.factor) (point_in c.values x.slack.variable).tilt (ap (λ (q : Pair Number). q.tilt) (flat_point e b.values x.slack.variable)) in
-      sym (ap (stands d.relation (base_at point x.is.form)) tilt) ∙ literal_kept t a c bounds held kept point owned l there d says x.is.form x.has
+      sym (ap (relates d.relation (base_at point x.is.form)) tilt) ∙ literal_kept t a c bounds held kept point owned l there d says x.is.form x.has
 
   holds : (l : Lit) → Contains held l → IsWellSorted t.symbols [] (term_at t l.term) → HoldsAt (λ u. (n u).fraction) (literal_at t l)
   holds l there sorted d says left right =
       let x = slack_list t a c bounds held kept l there d says in
       let sides = real_sides t.symbols l.positive (term_at t l.term) d sorted says in
       (sides_compared t.symbols (λ u. (n u).fraction) d x.is.form (λ u. (n u).reduced) (record { term = sides.0.term; sort = sides.0.sort; linear = left })
-      (record { term = sides.1.term; sort = sides.1.sort; linear = right }) x.has).1 (stands_there l there d says)
+      (record { term = sides.1.term; sort = sides.1.sort; linear = right }) x.has).1 (relates_there l there d says)
 
   pub all_hold : All (λ (l : Lit). IsWellSorted t.symbols [] (term_at t l.term)) held → All (HoldsAt (λ u. (n u).fraction)) (map (literal_at t) held)
   all_hold sorted =

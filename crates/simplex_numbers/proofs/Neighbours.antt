@@ -108,9 +108,9 @@ module _ (e : Number) (p : is_positive numbers e ≡ true) where
         step : (j m : ℕ) → m ≡ j + 1 → m < length xs → InOrder (pair_of (get_or xs i d)) (pair_of (get_or xs j d)) → InOrder (pair_of (get_or xs i d)) (pair_of (get_or xs m d))
         step j m e l before =
             let next : j + 1 < length xs = omega (arith, l, e) in
-            let beside = in_order (pair_of (get_or xs j d)) (pair_of (get_or xs (j + 1) d)) (up j d (omega arith) next) (near j d next) in
+            let two_in_order = in_order (pair_of (get_or xs j d)) (pair_of (get_or xs (j + 1) d)) (up j d (omega arith) next) (near j d next) in
             ap (λ k. is_less (at_number double (pair_of (get_or xs k d))) (at_number double (pair_of (get_or xs i d)))) e
-            ∙ not_above (at_number double (pair_of (get_or xs (j + 1) d))) (at_number double (pair_of (get_or xs j d))) (at_number double (pair_of (get_or xs i d))) beside before
+            ∙ not_above (at_number double (pair_of (get_or xs (j + 1) d))) (at_number double (pair_of (get_or xs j d))) (at_number double (pair_of (get_or xs i d))) two_in_order before
 
     up_to : (i j : ℕ) (d : Delta) → i ≤ j → j < length xs → InOrder (pair_of (get_or xs i d)) (pair_of (get_or xs j d))
     up_to i j d low l =

@@ -19,7 +19,7 @@ use ratio128::{Ratio, Wide};
 /// of the number at which they meet. It looks at neighbours alone: at twice the number these are in order, and so are any two.
 ///
 /// The error is the `Wide` of an operation that computes such a half.
-fn narrowed_beside(e: Ratio, values: &[Delta]) -> Result<Ratio, Wide>
+fn narrowed_for_neighbours(e: Ratio, values: &[Delta]) -> Result<Ratio, Wide>
     requires positive { is_positive numbers (number_of e) ≡ true }
     requires sorted { IsSortedBy by_value values.now }
     ensures smaller { IfOk result (λ d. IsSmaller (number_of d) (number_of e)) }
@@ -48,5 +48,5 @@ pub(crate) fn narrowed_apart(e: Ratio, values: &mut [Delta]) -> Result<Ratio, Wi
     ensures wide { IfErr result (λ w. OverflowsApart (map pair_of values.old) (overflow w)) }
 {
     values.sort_unstable_by(|a, b| Delta::cmp(*a, *b));
-    narrowed_beside(e, values)
+    narrowed_for_neighbours(e, values)
 }

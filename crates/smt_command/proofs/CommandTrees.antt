@@ -38,7 +38,7 @@ not_taken t f e = ap (λ a. a >>= λ c. performed 0 (offset_of t) empty_stack c)
 pub placed_fault : (x : Sexpr) (n : ℕ) (f : Fault) (p : Place) → command_of (tree_of x) ≡ Err (record { offset = n; fault = f })
     → ((l : ℕ) (u : Stack) (t : Tree) (g : Located) → step l u t ≡ Err g → HasOffset t g.offset)
     → AllOffsets (λ m. (start_of x ≤ m) × (m < length (text_of x))) (tree_of x) → (start_of x ≤ n → n < length (text_of x) → p.offset ≡ n) → command_of (tree_of x) ≡ Err (record { offset = p.offset; fault = f })
-placed_fault x n f p e stands all placed =
+placed_fault x n f p e law_within all placed =
     let found : Located = record { offset = n; fault = f } in
-    let within = at_offset (λ m. (start_of x ≤ m) × (m < length (text_of x))) (tree_of x) n all (stands 0 empty_stack (tree_of x) found (not_taken (tree_of x) found e)) in
+    let within = at_offset (λ m. (start_of x ≤ m) × (m < length (text_of x))) (tree_of x) n all (law_within 0 empty_stack (tree_of x) found (not_taken (tree_of x) found e)) in
     e ∙ (λ i. Err (record { offset = sym (placed within.0 within.1) i; fault = f }))

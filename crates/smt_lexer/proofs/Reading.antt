@@ -40,8 +40,8 @@ module _ (text : List ℕ) (at : ℕ) (lt : at < length text) where
 
     -- the token that it is, from an offset before it on
     module _ (from : ℕ) (place after : Place) (behind : from ≤ place.offset) (passed : lexemes_from text from ≡ lexemes_from text at) (here : place.offset ≡ at) (size : after.offset ≡ at + n) where
-      stands : (x : Lexeme) → 0 < n → piece x n ≡ piece_from text at → lexemes_from text at ≡ (at, x) ∷ lexemes_from text (at + n) → IsFirstLexeme text from place after x
-      stands x some p f = record {
+      first_token : (x : Lexeme) → 0 < n → piece x n ≡ piece_from text at → lexemes_from text at ≡ (at, x) ∷ lexemes_from text (at + n) → IsFirstLexeme text from place after x
+      first_token x some p f = record {
         first = passed ∙ f ∙ rw (here, size) refl;
         behind = behind;
         longer = omega arith;
@@ -53,16 +53,16 @@ module _ (text : List ℕ) (at : ℕ) (lt : at < length text) where
       open_here is k kind =
           let some = rw is at within in
           let p : piece opens n ≡ piece_from text at = rw is at e in
-          rw kind (stands opens some.0 p (lexeme_here (piece opens n) p ∙ ap (λ m. (at, opens) ∷ lexemes_from text m) (one_less n some.0)))
+          rw kind (first_token opens some.0 p (lexeme_here (piece opens n) p ∙ ap (λ m. (at, opens) ∷ lexemes_from text m) (one_less n some.0)))
 
       pub close_here : w ≡ whats.Close → (k : TokenKind) → k ≡ kinds.Close → IsToken text from place after k
       close_here is k kind =
           let some = rw is at within in
           let p : piece closes n ≡ piece_from text at = rw is at e in
-          rw kind (stands closes some.0 p (lexeme_here (piece closes n) p ∙ ap (λ m. (at, closes) ∷ lexemes_from text m) (one_less n some.0)))
+          rw kind (first_token closes some.0 p (lexeme_here (piece closes n) p ∙ ap (λ m. (at, closes) ∷ lexemes_from text m) (one_less n some.0)))
 
       pub word_here : (kind : Kind) (bytes : Bor (List ℕ)) → w ≡ whats.Word kind bytes → (k : TokenKind) → k ≡ kinds.Word kind bytes → IsToken text from place after k
       word_here kind bytes is k kind_is =
           let some = rw is at within in
           let p : piece (word kind bytes.now) n ≡ piece_from text at = rw is at e in
-          rw kind_is (stands (word kind bytes.now) some.0 p (lexeme_here (piece (word kind bytes.now) n) p ∙ ap (λ m. (at, word kind bytes.now) ∷ lexemes_from text m) (one_less n some.0)))
+          rw kind_is (first_token (word kind bytes.now) some.0 p (lexeme_here (piece (word kind bytes.now) n) p ∙ ap (λ m. (at, word kind bytes.now) ∷ lexemes_from text m) (one_less n some.0)))

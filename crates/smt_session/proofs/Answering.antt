@@ -22,7 +22,7 @@ use Rattle.smt_session.specs.Sessions.{SessionView, stated, IsResponse, IsRespon
 keeps_lists : (text : List ℕ) (r : CodeResponse) (a : Answered) (old new : SessionView) → IsResponse new.table text new.budget r a.response → LearnsBy (limits_meant old.limits) new.table a.response a.stack new.budget → KeepsBudget (Ok r) old.budget new.budget → HasLists a.response a.stack old new
 keeps_lists text responses.Success a old new is learned keeps = subst (λ x. HasLists x a.stack old new) (sym is) keeps
 keeps_lists text responses.Unsupported a old new is learned keeps = subst (λ x. HasLists x a.stack old new) (sym is) keeps
-keeps_lists text (responses.Said s) a old new is learned keeps = subst (λ x. HasLists x a.stack old new) (sym is) keeps
+keeps_lists text (responses.Echoed s) a old new is learned keeps = subst (λ x. HasLists x a.stack old new) (sym is) keeps
 keeps_lists text responses.Ended a old new is learned keeps = subst (λ x. HasLists x a.stack old new) (sym is) keeps
 keeps_lists text (responses.Rejected x) a old new is learned keeps = subst (λ y. HasLists y a.stack old new) (sym is.0) keeps
 keeps_lists text (responses.Answered e) a old new (c, evidence, is) learned keeps =
@@ -56,7 +56,7 @@ means_so law limits s t a answers asked kept = by_step (step limits.terms s t) a
 pub is_answered : MeansSo → (s : Stack) (x : Sexpr) (r : CodeResponse) (old new : SessionView) (taken : AnswersCommand (limits_meant old.limits) s x r (stated new) new.budget) → new.limits ≡ old.limits → KeepsBudget (Ok r) old.budget new.budget → IsAnswered s x old new taken.a
 is_answered law s x r old new taken same kept = record {
   answers = taken.answers;
-  stands = subst (λ (l : CodeLimits). IsHeld l.terms (stated new) taken.a.stack) (sym same) taken.held;
+  represents = subst (λ (l : CodeLimits). IsHeld l.terms (stated new) taken.a.stack) (sym same) taken.held;
   asked = taken.asked;
   means = means_so law (limits_meant old.limits) s (tree_of x) taken.a taken.answers taken.asked taken.held.kept;
   lists = keeps_lists (text_of x) r taken.a old new taken.is taken.learned kept;

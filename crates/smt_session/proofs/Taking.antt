@@ -26,8 +26,8 @@ use Rattle.smt_session.specs.Sessions.{KeepsBudget, Rejects, TakesScriptCommand}
 
 -- nothing is stated at first
 pub first_held : (limit : ℕ) (t : TableView) (x : CodeStack) → t ≡ record { sorts = []; symbols = []; terms = [] } → ((u : TableView) → u.sorts ≡ [] → u.symbols ≡ [] → IsStack limit (over_table u x) empty_stack) → IsSoundStack limit empty_stack → AreScriptNames (signature_of empty_stack) → AreReadable (signature_of empty_stack) → IsHeld limit (over_table t x) empty_stack
-first_held limit t x e stands kept names readable = record {
-  stack = stands t (ap (λ (u : TableView). u.sorts) e) (ap (λ (u : TableView). u.symbols) e);
+first_held limit t x e represents kept names readable = record {
+  stack = represents t (ap (λ (u : TableView). u.sorts) e) (ap (λ (u : TableView). u.symbols) e);
   kept = record { stack = kept; assumptions = All-nil (IsAsserted limit (signature_of empty_stack)); names = names };
   readable = readable;
 }

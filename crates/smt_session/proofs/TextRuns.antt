@@ -12,7 +12,7 @@ use Rattle.spec_text.specs.Readings.{EndsTrees, kept, is_long, limited}
 use Rattle.spec_models.specs.Replies.{error_text}
 use Rattle.spec_commands.specs.Stack.{Stack, empty_stack}
 use Rattle.spec_sessions.specs.Evidence.{Limits}
-use Rattle.spec_sessions.specs.Responses.{Mode, Response, success, not_supported, answered, said, ended, rejected, Answered, Answers, response_text, is_rejected, is_end}
+use Rattle.spec_sessions.specs.Responses.{Mode, Response, success, not_supported, answered, echoed, ended, rejected, Answered, Answers, response_text, is_rejected, is_end}
 use Rattle.spec_sessions.specs.Transcripts.{answers_text, closing_text, is_fault, IsTranscript}
 use Rattle.spec_sessions.proofs.Running.{answers_more, Going, going_begins, answered_on, EachIsRead, told_more, ends_more, begun_here, text_ends, line_begun, begun_next, script_ends}
 use Rattle.smt_lexer.specs.declared.Refusal.{Refusal}
@@ -34,7 +34,7 @@ pub after_is : (r : Response) (a : After) → a ≡ after_meant r → (is_end r 
 after_is success a e = (ap is_last (sym e), ap is_refusal (sym e))
 after_is not_supported a e = (ap is_last (sym e), ap is_refusal (sym e))
 after_is (answered f) a e = (ap is_last (sym e), ap is_refusal (sym e))
-after_is (said s) a e = (ap is_last (sym e), ap is_refusal (sym e))
+after_is (echoed s) a e = (ap is_last (sym e), ap is_refusal (sym e))
 after_is ended a e = (ap is_last (sym e), ap is_refusal (sym e))
 after_is (rejected f) a e = (ap is_last (sym e), ap is_refusal (sym e))
 
@@ -53,7 +53,7 @@ module _ (limits : Limits) (mode : Mode) (text : List ℕ) (old : SinkView) wher
   pub record IsGoing (x : SessionView) (at : ℕ) (refused : Bool) (now : SinkView) : Type 0 where
     pub stack : Stack
     pub given : List Answered
-    pub stands : IsSession x stack
+    pub represents : IsSession x stack
     pub limits_are : limits_meant x.limits ≡ limits
     pub mode_is : mode_meant x.mode ≡ mode
     pub going : Going limits bytes at stack given
@@ -66,10 +66,10 @@ module _ (limits : Limits) (mode : Mode) (text : List ℕ) (old : SinkView) wher
   nothing = record { sent = nothing_sent old; passed_on = λ e. e }
 
   pub begins : (x : SessionView) (at : ℕ) → at ≡ 0 → IsSession x empty_stack → limits_meant x.limits ≡ limits → mode_meant x.mode ≡ mode → IsGoing x at false old
-  begins x at e stands l m = record {
+  begins x at e represents l m = record {
     stack = empty_stack;
     given = [];
-    stands = stands;
+    represents = represents;
     limits_are = l;
     mode_is = m;
     going = going_begins limits bytes at e;
@@ -161,7 +161,7 @@ module _ (limits : Limits) (mode : Mode) (text : List ℕ) (old : SinkView) wher
       goes_on_after b then last rejects is wrote = record {
         stack = a.stack;
         given = i.given ++ a ∷ [];
-        stands = answer.stands;
+        represents = answer.represents;
         limits_are = ap limits_meant same.0 ∙ i.limits_are;
         mode_is = ap mode_meant same.1 ∙ i.mode_is;
         going = answered_on limits bytes from.offset after.offset (tree_of s) r.is.first (omega (arith, r.is.within)) i.stack i.given i.going a answers_so last;

@@ -1,4 +1,4 @@
--- Sessions: what one stands for, and what a command comes to. Source: SMT-LIB 2.6, section 4.2.
+-- Sessions: what one represents, and what a command comes to. Source: SMT-LIB 2.6, section 4.2.
 use Rattle.std.specs.Prelude.{◌≡◌, ℕ, List, [], Result, Ok, Err, IsErr}
 use Rattle.no_memory.specs.declared.NoMemory.{NoMemory}
 use Rattle.world_io.specs.declared.fault.Failed.{Failed}
@@ -7,8 +7,8 @@ use Rattle.spec_text.specs.Places.{IsPlaceOf}
 use Rattle.spec_sorts.specs.Signatures.{symbols_in}
 use Rattle.spec_commands.specs.Stack.{Stack, signature_of}
 use Rattle.spec_sessions.specs.Evidence.{Limits, Checked}
-use Rattle.spec_sessions.specs.Responses.{Mode, solve, certify, Response, success, not_supported, answered, said, ended}
-use Rattle.spec_sessions.specs.Responses.{rejected, Answered, Answers, response_text}
+use Rattle.spec_sessions.specs.Responses.{Mode, solve, certify, Response, success, not_supported, answered, echoed}
+use Rattle.spec_sessions.specs.Responses.{ended, rejected, Answered, Answers, response_text}
 use Rattle.spec_sessions.specs.Meaning.{MeansAt}
 use Rattle.smt_lexer.specs.declared.Refused.{Refused}
 use Rattle.smt_lexer.specs.declared.Refused.TheVariants as refusals
@@ -40,7 +40,7 @@ IsResponse t text budget responses.Success r = r ≡ success
 IsResponse t text budget responses.Unsupported r = r ≡ not_supported
 IsResponse t text budget (responses.Answered e) r =
     (c : Checked) × IsEvidence t budget e c.found × (r ≡ answered c)
-IsResponse t text budget (responses.Said s) r = r ≡ said s.now
+IsResponse t text budget (responses.Echoed s) r = r ≡ echoed s.now
 IsResponse t text budget responses.Ended r = r ≡ ended
 IsResponse t text budget (responses.Rejected x) r =
     (r ≡ rejected (record { offset = x.place.offset; fault = x.fault })) × IsPlaceOf text x.place
@@ -77,7 +77,7 @@ abbrev pub KeepsBudget : Result CodeResponse NoMemory → BudgetView → BudgetV
 KeepsBudget (Ok (responses.Answered e)) old new = Unit {0}
 KeepsBudget _ old new = new ≡ old
 
--- A command is answered after a stack, and the script stands for the stack after it.
+-- A command is answered after a stack, and the script represents the stack after it.
 pub record AnswersCommand (limits : Limits) (s : Stack) (c : Sexpr) (response : CodeResponse) (x : OverTable)
     (budget : BudgetView) : Type 0 where
   -- what it is answered
@@ -88,12 +88,12 @@ pub record AnswersCommand (limits : Limits) (s : Stack) (c : Sexpr) (response : 
   pub is : IsResponse x.table (text_of c) budget response a.response
   -- a check is one of the stack
   pub asked : IsAskedOf a.response a.stack
-  -- what the script stands for
+  -- what the script represents
   pub held : IsHeld limits.terms x a.stack
   -- what was learned
   pub learned : LearnsBy limits x.table a.response a.stack budget
 
--- a command is answered after a stack; or memory ran out, and the script stands for this stack
+-- a command is answered after a stack; or memory ran out, and the script represents this stack
 abbrev pub TakesScriptCommand : Limits → Stack → Sexpr → Result CodeResponse NoMemory → OverTable → BudgetView → Type 0
 TakesScriptCommand limits s c (Ok response) x budget = AnswersCommand limits s c response x budget
 TakesScriptCommand limits s c (Err _) x budget = IsHeld limits.terms x s
@@ -126,7 +126,7 @@ pub record SessionView : Type 0 where
 abbrev pub stated : SessionView → OverTable
 stated x = over_table x.table x.stack
 
--- the session stands for the stack
+-- the session represents the stack
 abbrev pub IsSession : SessionView → Stack → Type 0
 IsSession x s = IsHeld x.limits.terms (stated x) s
 
@@ -141,12 +141,12 @@ abbrev pub ResponseMeans : Response → Type 0
 ResponseMeans (answered c) = MeansAt c.check c.found
 ResponseMeans _ = Unit {0}
 
--- a command is answered after a stack, and that is what the session then stands for
+-- a command is answered after a stack, and that is what the session then represents
 pub record IsAnswered (s : Stack) (x : Sexpr) (old new : SessionView) (a : Answered) : Type 0 where
   -- it is what the command is to be answered
   pub answers : Answers (limits_meant old.limits) s (tree_of x) a
-  -- the session stands for what is so after the command
-  pub stands : IsSession new a.stack
+  -- the session represents what is so after the command
+  pub represents : IsSession new a.stack
   -- a check is one of the stack
   pub asked : IsAskedOf a.response a.stack
   -- what its answer means

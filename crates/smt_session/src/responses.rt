@@ -31,7 +31,7 @@ pub(crate) enum Response<'a> {
     /// This was found at its check.
     Answered(Evidence),
     /// Its text is written, which is between its quotes.
-    Said(&'a [u8]),
+    Echoed(&'a [u8]),
     /// It was done, and the script ends.
     Ended,
     /// It was refused.
@@ -44,7 +44,7 @@ pub(crate) fn after_of(response: &Response<'_>) -> After
         → IsResponse t text budget response.now r → result ≡ after_meant r }
 {
     match response {
-        Response::Success | Response::Unsupported | Response::Answered(_) | Response::Said(_) =>
+        Response::Success | Response::Unsupported | Response::Answered(_) | Response::Echoed(_) =>
             After::Went,
         Response::Ended => After::Ended,
         Response::Rejected(_) => After::Refused,
@@ -104,7 +104,7 @@ fn write_response<K: Sink>(
         Response::Success | Response::Ended => send_success(stack.options.print_success, out),
         Response::Unsupported => word(ResponseWord::Unsupported, out),
         Response::Answered(evidence) => send_check(mode, table, evidence, out),
-        Response::Said(text) => send_string(text, out),
+        Response::Echoed(text) => send_string(text, out),
         Response::Rejected(refusal) => {
             error(refusal.place, refusal.fault.name().as_bytes(), out)
         }

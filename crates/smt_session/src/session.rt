@@ -181,7 +181,7 @@ fn take<'a>(
                 Err(NoMemory)
             }
         },
-        Ok(Effect::Say(text)) => Ok(Response::Said(text)),
+        Ok(Effect::Say(text)) => Ok(Response::Echoed(text)),
         Ok(Effect::Exit) => Ok(Response::Ended),
         Err(stop) => rejected(stop),
     }

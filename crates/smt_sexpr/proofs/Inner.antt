@@ -6,7 +6,7 @@ use Rattle.std.proofs.Math.Seq.{drop-append-add}
 use Rattle.spec_text.specs.Lexemes.{Lexeme, opens, closes, word, lexemes_from}
 use Rattle.spec_text.specs.Trees.{Tree, Trees, atom, list, none, more, spelled, spelled_all, offset_of}
 use Rattle.smt_sexpr.specs.declared.items.Item.{Item}
-use Rattle.smt_sexpr.specs.Means.{first_of, tree_in, flat, flat_all, StandsAt, AreRead}
+use Rattle.smt_sexpr.specs.Means.{first_of, tree_in, flat, flat_all, IsFirstAt, AreRead}
 use Rattle.smt_sexpr.specs.Printing.{last_of, ends_of, IsTreeFrom}
 use Rattle.smt_sexpr.proofs.Meaning.{means_first}
 use Rattle.smt_sexpr.proofs.Offsets.{resumes, begins_within}
@@ -73,7 +73,7 @@ mutual
 pub record IsInner (text : List ℕ) (start : ℕ) (is : List Item) (i : ℕ) (d : Item) : Type 0 where
   pub tree : Tree
   pub means : tree_in text (drop i is) ≡ tree
-  pub stands : StandsAt text (offset_of tree) tree
+  pub is_first : IsFirstAt text (offset_of tree) tree
   pub low : start ≤ offset_of tree
   pub high : offset_of tree < length text
   pub ends : ends_of (get_or is i d) ≡ (offset_of tree, last_of tree)
@@ -92,7 +92,7 @@ inner text start is i d read within =
     record {
       tree = p.part;
       means = ap (tree_in text) items ∙ ap first_of (means_first text (offset_of p.part) p.part (p.back ++ rest) p.behind here);
-      stands = rw after here;
+      is_first = rw after here;
       low = bounds.0;
       high = bounds.1;
       ends = ap ends_of (same_item is items) ∙ first_ends p.part p.behind;
@@ -118,4 +118,4 @@ pub tree_from : (text text' : List ℕ) (start : ℕ) (is : List Item) (i : ℕ)
 tree_from text text' start is i d first ends n same ends_are first_is =
     let both : ends ≡ (offset_of n.tree, last_of n.tree) = ends_are ∙ n.ends in
     let begin : first ≡ offset_of n.tree = first_is ∙ ap (λ (p : ℕ × ℕ). p.0) both in
-    (rw (same, begin) n.stands, ap (λ (p : ℕ × ℕ). p.1) both)
+    (rw (same, begin) n.is_first, ap (λ (p : ℕ × ℕ). p.1) both)

@@ -7,7 +7,7 @@ use Rattle.spec_text.specs.Trees.{Tree, Trees, atom, list, none, more, spelled, 
 use Rattle.smt_sexpr.specs.declared.items.Item.{Item}
 use Rattle.smt_sexpr.specs.Means.{bytes_at, trees_in, flat, flat_all}
 use Rattle.smt_sexpr.proofs.Flat.{trees_none, trees_atom, trees_list}
-use Rattle.smt_sexpr.proofs.Words.{AreWordsOf, words_stand}
+use Rattle.smt_sexpr.proofs.Words.{AreWordsOf, words_of_text}
 
 -- the words of each tree are in the text
 abbrev mutual
@@ -49,7 +49,7 @@ mutual
 
 -- a tree that comes first is what its items mean, whatever items follow
 pub means_first : (text : List ℕ) (from : ℕ) (t : Tree) (rest : List (ℕ × Lexeme)) (is : List Item) → lexemes_from text from ≡ spelled t ++ rest → trees_in text (flat t ++ is) ≡ more t (trees_in text is)
-means_first text from t rest is first = back_first text t is (in_first text t rest (subst (AreWordsOf text) first (words_stand text from))).0
+means_first text from t rest is first = back_first text t is (in_first text t rest (subst (AreWordsOf text) first (words_of_text text from))).0
 
 -- and where none do
 pub means_tree : (text : List ℕ) (from : ℕ) (t : Tree) (rest : List (ℕ × Lexeme)) → lexemes_from text from ≡ spelled t ++ rest → trees_in text (flat t) ≡ more t none

@@ -124,8 +124,8 @@ AreWordsOf text ((at, word k w) ∷ xs) = (w ≡ bytes_at text k at (length w)) 
 AreWordsOf text ((at, _) ∷ xs) = AreWordsOf text xs
 
 module _ (text : List ℕ) where
-  stands : (at b : ℕ) (bs : List ℕ) (p : Piece) (rest : List (ℕ × Lexeme)) → drop at text ≡ b ∷ bs → IsSpelt (b ∷ bs) p → AreWordsOf text rest → AreWordsOf text (before at p rest)
-  stands at b bs p rest here spelt more = go p.lexeme spelt
+  words_with_one : (at b : ℕ) (bs : List ℕ) (p : Piece) (rest : List (ℕ × Lexeme)) → drop at text ≡ b ∷ bs → IsSpelt (b ∷ bs) p → AreWordsOf text rest → AreWordsOf text (before at p rest)
+  words_with_one at b bs p rest here spelt more = go p.lexeme spelt
     where
       go : (x : Lexeme) → IsSpeltBy (b ∷ bs) x → AreWordsOf text (before at (piece x p.size) rest)
       go blank h = more
@@ -138,15 +138,15 @@ module _ (text : List ℕ) where
   unfolding lexemes
   words_from n at [] e = tt
   words_from (suc n) at (b ∷ bs) e = words_from n (at + 1) bs (next_here text at b bs e)
-  words_from zero at (b ∷ bs) e = stands at b bs (first_piece b bs) _ e (first_spelt b bs) (words_from ((first_piece b bs).size - 1) (at + 1) bs (next_here text at b bs e))
+  words_from zero at (b ∷ bs) e = words_with_one at b bs (first_piece b bs) _ e (first_spelt b bs) (words_from ((first_piece b bs).size - 1) (at + 1) bs (next_here text at b bs e))
 
-  pub words_stand : (at : ℕ) → AreWordsOf text (lexemes 0 at (drop at text))
-  words_stand at = words_from 0 at (drop at text) refl
+  pub words_of_text : (at : ℕ) → AreWordsOf text (lexemes 0 at (drop at text))
+  words_of_text at = words_from 0 at (drop at text) refl
 
 -- a first word has no more bytes than the text
 pub word_size : (text : List ℕ) (from at : ℕ) (k : Kind) (w : List ℕ) (rest : List (ℕ × Lexeme)) → lexemes 0 from (drop from text) ≡ (at, word k w) ∷ rest → length w ≤ length text
 word_size text from at k w rest e =
-    let s = subst (AreWordsOf text) e (words_stand text from) in
+    let s = subst (AreWordsOf text) e (words_of_text text from) in
     omega (arith, ap length s.0, length-take (length w) (drop (at + marks k) text), length-drop (at + marks k) text)
 
 -- the end of a list is one byte

@@ -53,9 +53,9 @@ abbrev mutual
   flat_all (more t ts) = flat t ++ flat_all ts
 
 -- a tree is in a text from an offset on, with nothing before it
-abbrev pub StandsAt : List ℕ → ℕ → Tree → Type 0
-StandsAt text at t = lexemes_from text at ≡ spelled t ++ drop (length (spelled t)) (lexemes_from text at)
+abbrev pub IsFirstAt : List ℕ → ℕ → Tree → Type 0
+IsFirstAt text at t = lexemes_from text at ≡ spelled t ++ drop (length (spelled t)) (lexemes_from text at)
 
 -- the items are those of the one tree that they mean, and it is in the text from an offset on
 abbrev pub AreRead : List ℕ → ℕ → List Item → Type 0
-AreRead text at is = (is ≡ flat (tree_in text is)) × StandsAt text at (tree_in text is)
+AreRead text at is = (is ≡ flat (tree_in text is)) × IsFirstAt text at (tree_in text is)

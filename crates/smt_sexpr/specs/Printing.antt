@@ -12,7 +12,7 @@ use Rattle.smt_lexer.specs.declared.TokenKind.TheVariants.{Open, Close, Word, En
 use Rattle.smt_lexer.specs.Tokens.{IsToken}
 use Rattle.smt_sexpr.specs.declared.items.Item.{Item}
 use Rattle.smt_sexpr.specs.declared.items.Item.TheVariants as items
-use Rattle.smt_sexpr.specs.Means.{StandsAt}
+use Rattle.smt_sexpr.specs.Means.{IsFirstAt}
 
 -- a space where one is wanted
 abbrev pub gap : Bool → List ℕ
@@ -55,4 +55,4 @@ ends_of (items.List at end count) = (at, end)
 
 -- a tree is in a text from an offset on, and its last token at another
 abbrev pub IsTreeFrom : List ℕ → ℕ → ℕ → Tree → Type 0
-IsTreeFrom text first last t = StandsAt text first t × (last ≡ last_of t)
+IsTreeFrom text first last t = IsFirstAt text first t × (last ≡ last_of t)

@@ -41,7 +41,7 @@ use Rattle.search_loop.specs.declared.search.Search.{Search}
 use Rattle.search_loop.specs.Asking.{HasSaturated}
 use Rattle.solve_core.specs.Sharing.{IsAskedOf, IsOpen}
 use Rattle.solve_core.specs.Agreeing.{IsTheoryValueAt, AreTheoryValuesBelow, AreTheoryValues}
-use Rattle.solve_core.proofs.SearchModelled.{related, given, rests_apart}
+use Rattle.solve_core.proofs.SearchModelled.{related, given, saturated_apart}
 
 -- each shared term is a subterm, of sort Real
 pub shared_subterm : (p : Problem) (u : Term) → IsSharedAmong (subterms_in p) u → Contains (subterms_in p) u
@@ -284,8 +284,8 @@ module _ (t : TableView) (differ : AreDifferent t.terms) (x : Search) (v : Theor
         → (b.class s ≡ b.class u) ↔ (number_at b.number s ≡ number_at b.number u))
         → (u w : Term) → Contains (clause_at t ids) u → Contains (clause_at t ids) w → Contains (whole_terms p) (pair Equal u w) → (number u ≡ number w) ↔ Congruent u w
     spoken_together law u w i j spoken =
-        let rests = rests_apart t differ x v agreed h consistent fine classes tell p a.asked place linear_in number reduced kept in
-        let both = law t.symbols p terms (map (literal_at t) x.trail.literals) (given t differ x v agreed h consistent fine classes tell p a.asked place linear_in number reduced kept) rests u w
+        let saturated_here = saturated_apart t differ x v agreed h consistent fine classes tell p a.asked place linear_in number reduced kept in
+        let both = law t.symbols p terms (map (literal_at t) x.trail.literals) (given t differ x v agreed h consistent fine classes tell p a.asked place linear_in number reduced kept) saturated_here u w
         (a.asked.listed.each (pair Equal u w) spoken) (shared_real (subterms_in p) u (a.shared.only u i)) in
         let other = by_classes u w (shared_listed u i) (shared_listed w j) in (
           λ e. other.0 (both.1 (sym (heads u i) ∙ e ∙ heads w j)),

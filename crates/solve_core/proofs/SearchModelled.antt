@@ -121,8 +121,8 @@ module _ (t : TableView) (differ : AreDifferent t.terms) (x : Search) (v : Theor
     given = record { truths = truths; class = class_in terms classes; number = number }
 
     -- where it is saturated, whether its theories agree or not
-    pub rests_apart : IsSaturatedWithNumbers t.symbols problem terms held given
-    rests_apart = record {
+    pub saturated_apart : IsSaturatedWithNumbers t.symbols problem terms held given
+    saturated_apart = record {
       formulas = formulas;
       listed = s.listed.each;
       only = only;
@@ -141,9 +141,9 @@ module _ (t : TableView) (differ : AreDifferent t.terms) (x : Search) (v : Theor
       pub taken : TakeNumbersOf number terms
       taken f ts u i j e = (h.ready.atoms_are.closed (app (Apply f) ts) i u j, heads u (shares.arguments f ts u i j e))
 
-      pub rests : IsSaturatedOnNumbers t.symbols problem terms held given
-      rests = record {
-        rests = rests_apart;
+      pub saturated_here : IsSaturatedOnNumbers t.symbols problem terms held given
+      saturated_here = record {
+        saturated_here = saturated_apart;
         shared = shared;
         shares = shares;
         agree = record {
@@ -163,6 +163,6 @@ module _ (t : TableView) (differ : AreDifferent t.terms) (x : Search) (v : Theor
       tables = m.tables;
       named = m.named;
       interpretation = interpretation;
-      interprets = λ i stands. interprets i (by i stands);
-      holds = λ i stands. all i (by i stands);
+      interprets = λ i represents. interprets i (by i represents);
+      holds = λ i represents. all i (by i represents);
     }

@@ -106,7 +106,7 @@ module _ (t : TableView) (x : Search) (problem : Problem) (s : IsSearch t proble
       limit = h.1;
       spent = record {
         count = h.2;
-        standing = term_tableau_of t v;
+        arrived = term_tableau_of t v;
         runs = came.runs;
         reached = came.reached;
         few = few came.runs (runs_within k le came);
@@ -206,5 +206,5 @@ stopped_on t u w x y z on (stops.Pivots n) h = answered_on t u w x y z on (Unkno
 stopped_on t u w x y z on stops.Memory h = tt
 
 -- a search saturated with more is saturated with less
-pub rests_with : {A B : Type 0} (t : TableView) (x : Search) (v : TheoryView) → (A → B) → HasSaturated t x v A → HasSaturated t x v B
-rests_with t x v f h = record { ready = h.ready; held = h.held; terms = h.terms; assigned = h.assigned; satisfied = h.satisfied; agrees = f h.agrees }
+pub saturated_with : {A B : Type 0} (t : TableView) (x : Search) (v : TheoryView) → (A → B) → HasSaturated t x v A → HasSaturated t x v B
+saturated_with t x v f h = record { ready = h.ready; held = h.held; terms = h.terms; assigned = h.assigned; satisfied = h.satisfied; agrees = f h.agrees }

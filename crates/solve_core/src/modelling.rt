@@ -13,7 +13,7 @@ ghost use Rattle.solve_core.specs.Answering.{HoldTogether};
 use no_memory::NoMemory;
 use ratio128::Ratio;
 use search_loop::Search;
-use search_model::laws::{made_models_are_those_of_numbers, made_models_stand};
+use search_model::laws::{made_models_are_those_of_numbers, made_models_have_interpretations};
 use search_model::model_of;
 use spec_valuations::laws::{
     listed_terms_have_their_places_class, searches_saturated_on_numbers_have_models,
@@ -59,7 +59,7 @@ pub(crate) fn model(
     listed_terms_have_their_places_class();
     terms_of_linear_checks_are_linear();
     searches_saturated_on_numbers_have_models();
-    made_models_stand();
+    made_models_have_interpretations();
     made_models_are_those_of_numbers();
     table.ids_are_unique();
     table.symbols().are_declared();

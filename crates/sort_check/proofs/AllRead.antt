@@ -32,7 +32,7 @@ pub record IsAll (w : Setting) (s : Signature) (sort : Sort) (texts : Trees × T
   -- the numbers of the terms
   pub terms : AllMean now.table ids done
   -- what they define is there
-  pub stands : ScopeMeans now.table now.scope (with_definitions s made)
+  pub represents : ScopeMeans now.table now.scope (with_definitions s made)
 
 pub all_begin : (w : Setting) (s : Signature) (sort : Sort) (all : Trees) (now : Store) → ScopeMeans now.table now.scope s → IsAll w s sort (all, all) now []
 unfolding ◌>>=◌
@@ -41,7 +41,7 @@ all_begin w s sort all now h = record {
   done = [];
   same = go (all_of_sort w s sort all) ∙ ap (λ x. all_of_sort w x sort all >>= λ rs. Ok (record { made = [] ++ rs.made; terms = [] ++ rs.terms })) (sym (with_no s));
   terms = (All-nil (λ i. IsIn now.table i), refl);
-  stands = subst (ScopeMeans now.table now.scope) (sym (with_no s)) h;
+  represents = subst (ScopeMeans now.table now.scope) (sym (with_no s)) h;
 }
   where
     go : (a : Answer Readings) → a ≡ (a >>= λ rs. Ok (record { made = [] ++ rs.made; terms = [] ++ rs.terms }))
@@ -75,7 +75,7 @@ module _ (w : Setting) (s : Signature) (sort : Sort) (all rest after : Trees) (t
             ∙ further x (all_of_sort w (with_definitions known x.made) sort after)
             ∙ ap (λ y. all_of_sort w y sort after >>= λ rs. Ok (record { made = (h.made ++ x.made) ++ rs.made; terms = (h.done ++ x.term ∷ []) ++ rs.terms })) (sym (with_both s h.made x.made));
         terms = mean_push new.table ids id h.done x.term (mean_kept now.table new.table keeps ids h.done h.terms) k.term.0 k.term.1;
-        stands = subst (ScopeMeans new.table new.scope) (sym (with_both s h.made x.made)) k.stands;
+        represents = subst (ScopeMeans new.table new.scope) (sym (with_both s h.made x.made)) k.represents;
       }
     where
       further : (x : Reading) (a : Answer Readings) → (let y : Answer Readings = (let z : Answer Readings = (a >>= λ rs. Ok (record { made = x.made ++ rs.made; terms = x.term ∷ rs.terms })) in z >>= λ rs. Ok (record { made = h.made ++ rs.made; terms = h.done ++ rs.terms })) in y)
@@ -90,5 +90,5 @@ all_end w s sort all rest now ids is h = record {
   read = h.same ∙ ap (λ ts. all_of_sort w (with_definitions s h.made) sort ts >>= λ rs. Ok (record { made = h.made ++ rs.made; terms = h.done ++ rs.terms })) is ∙ (λ i. Ok (record { made = append-nil h.made i; terms = append-nil h.done i }));
   there = h.terms.0;
   terms = h.terms.1;
-  stands = h.stands;
+  represents = h.represents;
 }

@@ -57,7 +57,7 @@ module _ (w : Setting) (root : Level) (h : Here) (f : Frame) (k : IsWalk w root 
   words_given = made_by w known (annotated_as w k.inner.base.bound at (tree_meant text) (first_term k.done)) (named_words a_keyword (trees_meant attributes))
 
   pub names_mean : NamesMean h.table h.scope known
-  names_mean = record { sorts = k.stands.sorts; functions = k.stands.functions; count = k.stands.count }
+  names_mean = record { sorts = k.represents.sorts; functions = k.represents.functions; count = k.represents.count }
 
   -- the code's words for it
   pub meant : (id d : TermId) (may : Bool) → id ≡ get_or h.values f.from d → ((t : TableView) (at : ℕ) (u : Term) → may ≡ (annotated_as w (bound_at t h.bound) at (tree_meant text) u).may_name)
@@ -90,13 +90,13 @@ module _ (w : Setting) (root : Level) (h : Here) (f : Frame) (k : IsWalk w root 
       let under : k.inner.base.bound ≡ l.base.bound = subst (λ p. IsUnder p l.base.bound k.inner.base.bound) opened o.bound in
       let waits : k.inner.waiting ≡ l.waiting = subst (λ p. IsWaiting p l.waiting k.inner.waiting) opened o.waiting in
       let s : Signature = with_definitions l.base.signature o.made in
-      let around : AreWellSorted s = sorted_before s (o.begun ++ k.made) (subst AreWellSorted (known_then w root h f k k.made ∙ with_both l.base.signature o.made (o.begun ++ k.made)) k.stands.sorted) in
+      let around : AreWellSorted s = sorted_before s (o.begun ++ k.made) (subst AreWellSorted (known_then w root h f k k.made ∙ with_both l.base.signature o.made (o.begun ++ k.made)) k.represents.sorted) in
       let after : AreWellSorted (with_definitions s (o.begun ++ x.made)) = text_keeps_sorts w s l.base.bound o.tree _ around (closed_reading w l k.inner f (row_read w root h f k) x o (row_is w root h f k) read) in
       let sorted : AreWellSorted (with_definitions k.inner.base.signature x.made) = subst AreWellSorted (sym (known_then w root h f k x.made ∙ with_both l.base.signature o.made (o.begun ++ x.made))) after in
       let both : with_definitions k.inner.base.signature x.made ≡ with_definitions known ds = with_both k.inner.base.signature k.made ds in
-      let stand : NamesMean h.table v (with_definitions k.inner.base.signature x.made) = subst (NamesMean h.table v) (sym both) g.stands in
+      let meant_now : NamesMean h.table v (with_definitions k.inner.base.signature x.made) = subst (NamesMean h.table v) (sym both) g.represents in
       close_goes w root h f k x h.table v h.bound (get_or h.values f.from d) nums (k.total ++ ds) read (keeps_same h.table) one.1.0 one.1.1
-      (record { sorts = stand.sorts; functions = stand.functions; count = stand.count; sorted = sorted })
+      (record { sorts = meant_now.sorts; functions = meant_now.functions; count = meant_now.count; sorted = sorted })
       k.bound_there (k.bound ∙ under) waits
       (both ∙ ap (λ y. with_definitions y ds) k.known ∙ sym (with_both root.base.signature k.total ds))
       (subst (AllMean h.table nums) (sym (map-append (λ (y : Definition). y.term) k.total ds)) (g.named (terms_of_definitions k.total) k.named))

@@ -39,7 +39,7 @@ module _ (w : Setting) (root : Level) (h : Here) (f : Frame) (k : IsWalk w root 
         → IsWalk w root (record h { table = t; values = take f.from h.values ++ id ∷ []; rest = trees_meant f.after })
     unfolding ◌>>=◌
     applied_closes t id ids is answers =
-        let a = answers known k.stands in
+        let a = answers known k.represents in
         let o = (popped w root h f k).opens in
         let l = (popped w root h f k).level in
         let x : Reading = record { made = k.made; term = term_at t id } in
@@ -49,7 +49,7 @@ module _ (w : Setting) (root : Level) (h : Here) (f : Frame) (k : IsWalk w root 
         let under : k.inner.base.bound ≡ l.base.bound = subst (λ p. IsUnder p l.base.bound k.inner.base.bound) opened o.bound in
         let waits : k.inner.waiting ≡ l.waiting = subst (λ p. IsWaiting p l.waiting k.inner.waiting) opened o.waiting in
         close_goes w root h f k x t h.scope h.bound id h.named k.total read a.keeps a.ends.0 refl
-        (meaning_kept h.table t a.keeps h.scope known k.stands)
+        (meaning_kept h.table t a.keeps h.scope known k.represents)
         (in_kept h.table t a.keeps h.bound.terms k.bound_there)
         (bound_kept h.table t a.keeps h.bound k.bound_there ∙ k.bound ∙ under) waits
         k.known (mean_kept h.table t a.keeps h.named (terms_of_definitions k.total) k.named)
@@ -59,7 +59,7 @@ module _ (w : Setting) (root : Level) (h : Here) (f : Frame) (k : IsWalk w root 
         → HasFault (readings_in w root.base) stop
     unfolding ◌>>=◌
     applied_stops t ids is stop answers =
-        let a = answers known k.stands in
+        let a = answers known k.represents in
         stops_by w root t (applied known (bound_at h.table h.bound) c.place c.name.now c.at (clause_at h.table ids)) stop a.ends
         (λ e wrong. close_fault w root h f k e
         (ap (λ p. closes w p k.inner (row_read w root h f k)) opened
@@ -77,7 +77,7 @@ module _ (w : Setting) (root : Level) (h : Here) (f : Frame) (k : IsWalk w root 
       let one = one_value w root h f k d (subst (λ p. HasTexts p k.inner.base.texts) opened o.texts) in
       close_goes w root h f k x h.table h.scope c (get_or h.values f.from d) h.named k.total
       (ap (λ p. closes w p k.inner (row_read w root h f k)) opened) (keeps_same h.table) one.1.0 one.1.1
-      k.stands
+      k.represents
       (subst (λ (v : BindingsView). AreIn h.table v.terms) (sym is) (All-take (λ i. IsIn h.table i) bound h.bound.terms k.bound_there))
       (ap (bound_at h.table) is ∙ bound_front h.table h.bound under.0 l.base.bound bound long (k.bound ∙ under.1) under.2) waits
       k.known k.named

@@ -118,9 +118,9 @@ module _ (w : Setting) (s : Signature) (d : Parts) where
           unfolding ◌>>=◌
           whole_read = from_the_body ∙ ap (λ a. a >>= λ r. all_made ps result r) body
 
-          pub whole_stands : (t : TableView) (v : ScopeView) → ScopeMeans t v (with_definitions s r.made) → AreWellSorted s → (m : Macro) → IsMacro t m this → length v.names ≡ length v.functions
+          pub definition_means : (t : TableView) (v : ScopeView) → ScopeMeans t v (with_definitions s r.made) → AreWellSorted s → (m : Macro) → IsMacro t m this → length v.names ≡ length v.functions
               → ScopeMeans t (record v { names = v.names ++ n ∷ []; functions = v.functions ++ Defined m ∷ [] }) (with_definitions s (r.made ++ this ∷ []))
-          whole_stands t v h sorts m macro long =
+          definition_means t v h sorts m macro long =
               let made = with_definitions s r.made in
               let none : known_as made n ≡ None = body_free w n s (bound_parameters 0 ps) result d.body r body (unknown s n (not_taken w (is_function s) d.name n fresh)) in
               let both = with_both s r.made (this ∷ []) in
@@ -171,5 +171,5 @@ macro_is old new keeps ns ss sort id n body u long there is means =
 module _ (room : Room) (w : Setting) (s : Signature) (d : Parts) where
   -- a definition that was read, and whether there is room
   pub definition_ends : (new : Store) (ids : List TermId) (h : HasMade s new (definitions_in w s d) ids) (r : Result (Unit {0}) ReadError) → EndsRoom (within room (with_definitions s h.definitions) (clause_at new.table ids)) r → EndsDefinition s new (roomy_definitions room w s d) r
-  definition_ends new ids h (Ok u) k = record { definitions = h.definitions; read = definitions_room room w s d h.definitions h.read (ap (within room (with_definitions s h.definitions)) (sym h.terms.1) ∙ k); stands = h.stands }
+  definition_ends new ids h (Ok u) k = record { definitions = h.definitions; read = definitions_room room w s d h.definitions h.read (ap (within room (with_definitions s h.definitions)) (sym h.terms.1) ∙ k); represents = h.represents }
   definition_ends new ids h (Err stop) k = definitions_room_fault room w s d h.definitions stop h.read (subst (λ ts. HasFault (within room (with_definitions s h.definitions) ts) stop) h.terms.1 k)

@@ -32,12 +32,12 @@ known_over symbols (of_function k ∷ ds) n h = go (bytes_eq (known_name k) n) h
     go false one later = later
 
 module _ (t : TableView) (v : ScopeView) (s : Signature) (h : ScopeMeans t v s) (n : Name) where
-  stands_for : (f : Option Function) → function_under v n ≡ f → FunctionMeans t f (known_as s n)
-  stands_for f e = subst (λ o. FunctionMeans t o (known_as s n)) e (h.functions n)
+  is_meant : (f : Option Function) → function_under v n ≡ f → FunctionMeans t f (known_as s n)
+  is_meant f e = subst (λ o. FunctionMeans t o (known_as s n)) e (h.functions n)
 
   -- a name that stands for nothing is not known
   pub not_known : function_under v n ≡ None → known_as s n ≡ None
-  not_known e = go (known_as s n) (stands_for None e)
+  not_known e = go (known_as s n) (is_meant None e)
     where
       go : (o : Option Known) → FunctionMeans t None o → o ≡ None
       go None g = refl
@@ -45,7 +45,7 @@ module _ (t : TableView) (v : ScopeView) (s : Signature) (h : ScopeMeans t v s) 
 
   -- a declared symbol is known as that
   pub symbol_known : (id : SymbolId) → function_under v n ≡ Some (Declared id) → IsSymbol t.symbols id × (known_as s n ≡ Some (declared (symbol_at t.symbols id)))
-  symbol_known id e = go (known_as s n) (stands_for (Some (Declared id)) e)
+  symbol_known id e = go (known_as s n) (is_meant (Some (Declared id)) e)
     where
       go : (o : Option Known) → FunctionMeans t (Some (Declared id)) o → IsSymbol t.symbols id × (o ≡ Some (declared (symbol_at t.symbols id)))
       go None g = absurd g
@@ -64,7 +64,7 @@ module _ (t : TableView) (v : ScopeView) (s : Signature) (h : ScopeMeans t v s) 
     pub sorted : is_sorted (sorts_taken definition) definition.term ≡ true
 
   pub macro_known : (m : Macro) → function_under v n ≡ Some (Defined m) → IsKnownAs m
-  macro_known m e = go (known_as s n) refl (stands_for (Some (Defined m)) e) (known_over (symbols_in s) s n (recursion_from_All (IsDeclaredOver (symbols_in s)) s h.sorted))
+  macro_known m e = go (known_as s n) refl (is_meant (Some (Defined m)) e) (known_over (symbols_in s) s n (recursion_from_All (IsDeclaredOver (symbols_in s)) s h.sorted))
     where
       go : (o : Option Known) → known_as s n ≡ o → FunctionMeans t (Some (Defined m)) o → KnownOver (symbols_in s) o → IsKnownAs m
       go None q g k = absurd g

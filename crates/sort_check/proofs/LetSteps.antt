@@ -63,7 +63,7 @@ module _ (w : Setting) (root : Level) where
         earlier = [];
         is = here s b ∙ let_starts w s b at us (x.bindings, x.body) parts ∙ ap (λ u. let_from w u b [] (x.bindings, x.body)) (sym (with_no s)) ∙ nothing_made (let_from w (with_definitions s []) b [] (x.bindings, x.body));
         values = k.values;
-        stands = subst (ScopeMeans h.table h.scope) (sym (with_no s)) k.stands;
+        represents = subst (ScopeMeans h.table h.scope) (sym (with_no s)) k.represents;
         bound_there = k.bound_there;
         bound = k.bound;
         waiting_there = k.waiting_there;
@@ -136,7 +136,7 @@ module _ (w : Setting) (root : Level) where
           row = subst (IsRow w (record { base = m.base; made = []; done = [] })) (sym texts_is) (row_start w m.base);
           chain = chain_push w h.frames root k.level m f k.chain opens;
           values = subst (AllMean h.table h.values) (sym (append-nil (k.level.below ++ k.done))) k.values;
-          stands = subst (ScopeMeans h.table h.scope) (sym (with_no in_let)) k.stands;
+          represents = subst (ScopeMeans h.table h.scope) (sym (with_no in_let)) k.represents;
           bound_there = k.bound_there;
           bound = k.bound;
           waiting_there = k.waiting_there;
@@ -186,7 +186,7 @@ module _ (w : Setting) (root : Level) where
           row = subst (IsRow w (record { base = m.base; made = []; done = [] })) (sym texts_is) (row_start w m.base);
           chain = chain_push w h.frames root k.level m f k.chain opens;
           values = subst (AllMean h.table h.values) (sym (append-nil (k.level.below ++ k.done))) k.values;
-          stands = subst (ScopeMeans h.table h.scope) (sym (with_no in_let)) k.stands;
+          represents = subst (ScopeMeans h.table h.scope) (sym (with_no in_let)) k.represents;
           bound_there = subst (AreIn h.table) (sym bind.bound_terms) (All-append (λ i. IsIn h.table i) h.bound.terms (reverse (drop x.waited h.waiting.terms)) k.bound_there (all_reversed h.table (drop x.waited h.waiting.terms) (All-drop (λ i. IsIn h.table i) x.waited h.waiting.terms k.waiting_there)));
           bound = bound_more h.table x.waited h.waiting h.bound u c k.level.waiting k.earlier b bind long also k.waited k.waiting k.bound;
           waiting_there = subst (AreIn h.table) (sym bind.terms) (All-take (λ i. IsIn h.table i) x.waited h.waiting.terms k.waiting_there);
@@ -244,7 +244,7 @@ module _ (w : Setting) (root : Level) (h : Here) (f : Frame) (k : IsWalk w root 
         earlier = z.1 ++ (name.now, u) ∷ [];
         is = whole;
         values = subst (AllMean h.table (take f.from h.values)) o.below front;
-        stands = subst (ScopeMeans h.table h.scope) known k.stands;
+        represents = subst (ScopeMeans h.table h.scope) known k.represents;
         bound_there = k.bound_there;
         bound = k.bound ∙ under;
         waiting_there = subst (λ (v : BindingsView). AreIn h.table v.terms) (sym is) (in_push h.table h.waiting.terms (get_or h.values f.from d) k.waiting_there one.1.0);

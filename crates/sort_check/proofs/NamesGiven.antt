@@ -127,7 +127,7 @@ module _ (w : Setting) where
     -- with those that are left they come to all
     pub same : made_by w s a all ≡ (made_by w (with_definitions s made) a left >>= λ es. Ok (made ++ es))
     -- the scope has them
-    pub stands : NamesMean t v (with_definitions s made)
+    pub represents : NamesMean t v (with_definitions s made)
     -- and so do the numbers of their terms
     pub named : (us : List Term) → AllMean t before us → AllMean t ids (us ++ terms_of_definitions made)
 
@@ -136,7 +136,7 @@ module _ (w : Setting) where
   naming_begins s a all t v ids h = record {
     made = [];
     same = go (made_by w s a all) ∙ ap (λ x. made_by w x a all >>= λ es. Ok ([] ++ es)) (sym (with_no s));
-    stands = subst (NamesMean t v) (sym (with_no s)) h;
+    represents = subst (NamesMean t v) (sym (with_no s)) h;
     named = λ us k. subst (AllMean t ids) (sym (append-nil us)) k;
   }
     where
@@ -154,7 +154,7 @@ module _ (w : Setting) where
           ∙ ap (λ b. (b >>= λ ds. made_by w (with_definitions (with_definitions s h.made) ds) a xs >>= λ es. Ok (ds ++ es)) >>= λ es. Ok (h.made ++ es)) k.read
           ∙ go (made_by w (with_definitions (with_definitions s h.made) k.made) a xs)
           ∙ ap (λ y. made_by w y a xs >>= λ es. Ok ((h.made ++ k.made) ++ es)) (sym (with_both s h.made k.made));
-      stands = subst (NamesMean t new) (sym (with_both s h.made k.made)) k.stands;
+      represents = subst (NamesMean t new) (sym (with_both s h.made k.made)) k.represents;
       named = λ us all_us. subst (AllMean t nums) (append_assoc us (terms_of_definitions h.made) (terms_of_definitions k.made) ∙ ap (λ ts. us ++ ts) (sym (map-append (λ (d : Definition). d.term) h.made k.made))) (k.named (us ++ terms_of_definitions h.made) (h.named us all_us));
     }
       where
@@ -171,7 +171,7 @@ module _ (w : Setting) where
   -- no name is given
   pub none_given : (s : Signature) (a : Annotated) (t : TableView) (v : ScopeView) (ids : List TermId) → NamesMean t v s → HasNamed t s v (ids, ids) (made_by w s a [])
   unfolding made_by
-  none_given s a t v ids h = record { made = []; read = refl; stands = subst (NamesMean t v) (sym (with_no s)) h; named = λ us k. subst (AllMean t ids) (sym (append-nil us)) k }
+  none_given s a t v ids h = record { made = []; read = refl; represents = subst (NamesMean t v) (sym (with_no s)) h; named = λ us k. subst (AllMean t ids) (sym (append-nil us)) k }
 
   -- the first fault of the word that is next
   pub naming_stops : (s : Signature) (a : Annotated) (all : List Word) (o : Option Word) (xs : List Word) (t : TableView) (v : ScopeView) (before ids : List TermId) (h : IsNaming s a all (listed_word o ++ xs) t v before ids) (stop : ReadError)
@@ -181,7 +181,7 @@ module _ (w : Setting) where
 
   pub naming_ends : (s : Signature) (a : Annotated) (all : List Word) (t : TableView) (v : ScopeView) (before ids : List TermId) → IsNaming s a all [] t v before ids → HasNamed t s v (before, ids) (made_by w s a all)
   unfolding ◌>>=◌ made_by
-  naming_ends s a all t v before ids h = record { made = h.made; read = h.same ∙ ap (λ ds. Ok ds) (append-nil h.made); stands = h.stands; named = h.named }
+  naming_ends s a all t v before ids h = record { made = h.made; read = h.same ∙ ap (λ ds. Ok ds) (append-nil h.made); represents = h.represents; named = h.named }
 
 -- A new name that is taken is the word's, and was free.
 pub record IsFree (x : Word) (n : Name) (taken : Bool) : Type 0 where
@@ -226,9 +226,9 @@ module _ (w : Setting) (s : Signature) (t : TableView) (a : Annotated) (x : Word
       ap (λ b. b >>= λ n. require a.may_name a.at BadShape >>= λ may. made_by w (with_definitions s (naming n a ∷ [])) a [] >>= λ ds. Ok (naming n a ∷ ds)) e
       ∙ ap (λ b. require b a.at BadShape >>= λ u. made_by w (with_definitions s (naming n a ∷ [])) a [] >>= λ ds. Ok (naming n a ∷ ds)) may
 
-  pub given_stands : (v : ScopeView) → NamesMean t v s → (n : Name) → new_name w is_taken x ≡ Ok n → (m : Macro) → IsMacro t m (naming n a) → length v.names ≡ length v.functions
+  pub given_means : (v : ScopeView) → NamesMean t v s → (n : Name) → new_name w is_taken x ≡ Ok n → (m : Macro) → IsMacro t m (naming n a) → length v.names ≡ length v.functions
       → NamesMean t (record v { names = v.names ++ n ∷ []; functions = v.functions ++ Defined m ∷ [] }) (with_definitions s (naming n a ∷ []))
-  given_stands v h n e m macro long =
+  given_means v h n e m macro long =
       let free = new_is_free w is_taken x n e in
       let none : known_as s n ≡ None = ap (known_as s) (sym free.same) ∙ no_known (known_as s x.bytes) (or_false_right (is_of_theory x.bytes) (is_some (known_as s x.bytes)) (or_false_left (is_function s x.bytes) (is_own w.own x.bytes) free.free)) in
       record {

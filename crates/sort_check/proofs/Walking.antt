@@ -48,7 +48,7 @@ module _ (w : Setting) (root : Level) where
   atom_goes h k t at kind n after id is keeps there e =
       let made_is : k.made ++ [] ≡ k.made = append-nil k.made in
       let read : reading w (known_after (row_of h k)) k.inner.base.bound (atom at kind n) ≡ Ok (plain_reading (term_at t id)) = ap (λ a. a >>= λ u. Ok (plain_reading u)) e in
-      let stands = meaning_kept h.table t keeps h.scope (with_definitions k.inner.base.signature k.made) k.stands in
+      let represents = meaning_kept h.table t keeps h.scope (with_definitions k.inner.base.signature k.made) k.represents in
       record {
         inner = k.inner;
         made = k.made;
@@ -58,7 +58,7 @@ module _ (w : Setting) (root : Level) where
         chain = k.chain;
         values = subst (AllMean t (h.values ++ id ∷ [])) (append_assoc k.inner.below k.done (term_at t id ∷ []))
             (mean_push t h.values id (k.inner.below ++ k.done) (term_at t id) (mean_kept h.table t keeps h.values (k.inner.below ++ k.done) k.values) there refl);
-        stands = stands;
+        represents = represents;
         bound_there = in_kept h.table t keeps h.bound.terms k.bound_there;
         bound = bound_kept h.table t keeps h.bound k.bound_there ∙ k.bound;
         waiting_there = in_kept h.table t keeps h.waiting.terms k.waiting_there;
@@ -108,7 +108,7 @@ module _ (w : Setting) (root : Level) where
         row = row_start w m.base;
         chain = chain_push w h.frames root k.inner m f k.chain o;
         values = subst (AllMean h.table h.values) (sym (append-nil (k.inner.below ++ k.done))) k.values;
-        stands = subst (ScopeMeans h.table h.scope) (sym (with_no s)) k.stands;
+        represents = subst (ScopeMeans h.table h.scope) (sym (with_no s)) k.represents;
         bound_there = k.bound_there;
         bound = k.bound;
         waiting_there = k.waiting_there;
@@ -157,7 +157,7 @@ module _ (w : Setting) (root : Level) where
         → AreIn t bound.terms → bound_at t bound ≡ popped.level.base.bound → k.inner.waiting ≡ popped.level.waiting
         → with_definitions k.inner.base.signature x.made ≡ with_definitions root.base.signature total → AllMean t named (terms_of_definitions total)
         → IsWalk w root (record h { table = t; scope = v; values = take f.from h.values ++ id ∷ []; bound = bound; named = named; rest = trees_meant f.after })
-    close_goes x t v bound id named total e keeps there is stands bound_there bound_is waits known all =
+    close_goes x t v bound id named total e keeps there is represents bound_there bound_is waits known all =
         let o = popped.opens in
         let l = popped.level in
         let front : AllMean h.table (take f.from h.values) k.inner.below = mean_front h.table h.values k.inner.below k.done f.from o.from k.values in
@@ -169,7 +169,7 @@ module _ (w : Setting) (root : Level) where
           chain = popped.chain;
           values = subst (AllMean t (take f.from h.values ++ id ∷ [])) (ap (λ ts. ts ++ x.term ∷ []) o.below ∙ append_assoc l.below o.done (x.term ∷ []))
               (mean_push t (take f.from h.values) id k.inner.below x.term (mean_kept h.table t keeps (take f.from h.values) k.inner.below front) there is);
-          stands = subst (ScopeMeans t v) (known_then x.made) stands;
+          represents = subst (ScopeMeans t v) (known_then x.made) represents;
           bound_there = bound_there;
           bound = bound_is;
           waiting_there = in_kept h.table t keeps h.waiting.terms k.waiting_there;

@@ -26,7 +26,7 @@ walk_starts w t v s b texts h there = record {
   row = row_start w (record { signature = s; bound = bound_at t b; texts = texts });
   chain = refl;
   values = (All-nil (λ i. IsIn t i), refl);
-  stands = subst (ScopeMeans t v) (sym (with_no s)) h;
+  represents = subst (ScopeMeans t v) (sym (with_no s)) h;
   bound_there = there;
   bound = refl;
   waiting_there = All-nil (λ i. IsIn t i);
@@ -61,6 +61,6 @@ walk_ends w t s b texts h k closed end =
       readings = record { made = k.made; terms = k.done };
       read = ap (readings_in w) (sym base) ∙ read;
       terms = subst (AllMean h.table h.values) (ap (λ (x : Level). x.below ++ k.done) inner) k.values;
-      stands = subst (ScopeMeans h.table h.scope) (ap (λ (x : Base). with_definitions x.signature k.made) base) k.stands;
+      represents = subst (ScopeMeans h.table h.scope) (ap (λ (x : Base). with_definitions x.signature k.made) base) k.represents;
       named = subst (λ ds. AllMean h.table h.named (terms_of_definitions ds)) made k.named;
     }

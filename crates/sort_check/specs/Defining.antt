@@ -48,7 +48,7 @@ pub record HasMade (s : Signature) (new : Store) (answer : Answer (List Definiti
   -- it is that
   pub read : answer ≡ Ok definitions
   -- it is there
-  pub stands : ScopeMeansWith new s definitions
+  pub represents : ScopeMeansWith new s definitions
   -- the numbers of its terms
   pub terms : AllMean new.table ids (terms_of_definitions definitions)
 

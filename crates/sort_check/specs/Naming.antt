@@ -38,7 +38,7 @@ pub record HasNamed (t : TableView) (s : Signature) (new : ScopeView) (ids : Lis
   -- they are those
   pub read : answer ≡ Ok made
   -- the scope has them
-  pub stands : NamesMean t new (with_definitions s made)
+  pub represents : NamesMean t new (with_definitions s made)
   -- so do the numbers of terms that got names
   pub named : (us : List Term) → AllMean t ids.0 us → AllMean t ids.1 (us ++ terms_of_definitions made)
 
@@ -58,7 +58,7 @@ abbrev pub or_keyword : Option Next → Next
 or_keyword (Some then) = then
 or_keyword None = a_keyword
 
--- what may come after an item, wherever it stands
+-- what may come after an item, wherever it is
 abbrev pub next_word : Next → Tree → Next
 next_word next t = or_keyword (next_after next t)
 

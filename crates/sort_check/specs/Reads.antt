@@ -90,7 +90,7 @@ pub record Store : Type 0 where
 abbrev pub store : TableView → ScopeView → Store
 store t v = record { table = t; scope = v }
 
--- the scope stands for a signature with definitions
+-- the scope represents a signature with definitions
 abbrev pub ScopeMeansWith : Store → Signature → List Definition → Type 0
 ScopeMeansWith new s ds = ScopeMeans new.table new.scope (with_definitions s ds)
 
@@ -117,7 +117,7 @@ pub record HasTerm (s : Signature) (new : Store) (answer : Answer Reading) (id :
   -- the number of its term
   pub term : MeansTerm new.table reading.term id
   -- what it defines is there
-  pub stands : ScopeMeansWith new s reading.made
+  pub represents : ScopeMeansWith new s reading.made
 
 -- The texts are read, by the numbers of their terms.
 pub record HasTerms (s : Signature) (new : Store) (answer : Answer Readings) (ids : List TermId) : Type 0 where
@@ -130,7 +130,7 @@ pub record HasTerms (s : Signature) (new : Store) (answer : Answer Readings) (id
   -- they are those of their terms
   pub terms : clause_at new.table ids ≡ readings.terms
   -- what they define is there
-  pub stands : ScopeMeansWith new s readings.made
+  pub represents : ScopeMeansWith new s readings.made
 
 -- The definition is read, and the scope has what it makes.
 pub record HasDefinitions (s : Signature) (new : Store) (answer : Answer (List Definition)) : Type 0 where
@@ -139,7 +139,7 @@ pub record HasDefinitions (s : Signature) (new : Store) (answer : Answer (List D
   -- it is that
   pub read : answer ≡ Ok definitions
   -- it is there
-  pub stands : ScopeMeansWith new s definitions
+  pub represents : ScopeMeansWith new s definitions
 
 -- the answer is this fault, or there was no memory
 abbrev pub HasFault : {A : Type 0} → Answer A → ReadError → Type 0

@@ -20,7 +20,7 @@ pub record HasRow (s : Signature) (new : Store) (answer : Answer Readings) (ids 
   -- the numbers of its terms
   pub terms : AllMean new.table ids.0 readings.terms
   -- what it defines is there
-  pub stands : ScopeMeansWith new s readings.made
+  pub represents : ScopeMeansWith new s readings.made
   -- the numbers of the terms that it defines
   pub named : AllMean new.table ids.1 (terms_of_definitions readings.made)
 
@@ -39,7 +39,7 @@ pub record HasOne (s : Signature) (new : Store) (answer : Answer Reading) (x : T
   -- the number of its term
   pub term : MeansTerm new.table reading.term x.0
   -- what it defines is there
-  pub stands : ScopeMeansWith new s reading.made
+  pub represents : ScopeMeansWith new s reading.made
   -- the numbers of the terms that it defines
   pub named : AllMean new.table x.1 (terms_of_definitions reading.made)
 

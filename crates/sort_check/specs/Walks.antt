@@ -214,7 +214,7 @@ pub record IsWalk (w : Setting) (root : Level) (h : Here) : Type 0 where
   -- the numbers of all terms that were read
   pub values : AllMean h.table h.values (inner.below ++ done)
   -- what the names stand for
-  pub stands : ScopeMeans h.table h.scope (with_definitions inner.base.signature made)
+  pub represents : ScopeMeans h.table h.scope (with_definitions inner.base.signature made)
   -- the terms of bound names are there
   pub bound_there : AreIn h.table h.bound.terms
   -- they are those of the row
@@ -269,7 +269,7 @@ let_of bindings body waited after = record {
 
 -- A `let` is read up to some of its bindings.
 pub record IsInLet (w : Setting) (root : Level) (h : Here) (x : Let) : Type 0 where
-  -- the row in which it stands
+  -- the row in which it is
   pub level : Level
   -- the definitions that were made in it
   pub made : List Definition
@@ -292,7 +292,7 @@ pub record IsInLet (w : Setting) (root : Level) (h : Here) (x : Let) : Type 0 wh
   -- the numbers of all terms that were read
   pub values : AllMean h.table h.values (level.below ++ done)
   -- what the names stand for
-  pub stands : ScopeMeans h.table h.scope (with_definitions (with_definitions level.base.signature made) begun)
+  pub represents : ScopeMeans h.table h.scope (with_definitions (with_definitions level.base.signature made) begun)
   -- the terms of bound names are there
   pub bound_there : AreIn h.table h.bound.terms
   -- they are those of the row
@@ -331,7 +331,7 @@ abbrev mutual
   sizes none = 0
   sizes (more t ts) = size t + sizes ts
 
--- what is left of a list beside the row that is read in it
+-- what is left of a list besides the row that is read in it
 abbrev pub opened_left : Opened → ℕ
 opened_left (Binds n left body waited) = 1 + (sizes (trees_meant left) + size (tree_meant body))
 opened_left o = 0

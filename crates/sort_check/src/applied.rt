@@ -20,7 +20,7 @@ use term_reader::{
 };
 use term_walks::fill;
 
-/// Holds a name before terms: where the whole stands, where the name stands, and the name. Offsets are in bytes.
+/// Holds a name before terms: where the whole is, where the name is, and the name. Offsets are in bytes.
 #[derive(Clone, Copy, Debug)]
 pub struct Called<'a> {
     /// The offset of the whole.

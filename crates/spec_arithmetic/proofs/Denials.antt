@@ -13,10 +13,10 @@ use Rattle.spec_arithmetic.proofs.Differences.{IsAtMostZero, IsBelowZero, less_t
 use Rattle.spec_arithmetic.proofs.Reals.{IsReal, first_argument, second_argument}
 
 -- how a number compares with 0
-abbrev pub Stands : Relation → Fraction → Type 0
-Stands is_nought x = x ≡ zero_fraction
-Stands is_below x = IsBelowZero x
-Stands is_at_most x = IsAtMostZero x
+abbrev pub IsRelated : Relation → Fraction → Type 0
+IsRelated is_nought x = x ≡ zero_fraction
+IsRelated is_below x = IsBelowZero x
+IsRelated is_at_most x = IsAtMostZero x
 
 not_not : (b c : Bool) → not (b && true) ≡ not c → b ≡ not (not c)
 not_not true true e = refl
@@ -33,7 +33,7 @@ module _ (symbols : List Symbol) (i : Interpretation) where
   pub record IsDenied (n : Negation) : Type 0 where
     pub left : IsReal symbols n.left
     pub right : IsReal symbols n.right
-    pub stands : (p q : Fraction) → value_at i [] n.left ≡ number p → value_at i [] n.right ≡ number q → IsReduced q → Stands n.relation (minus p q)
+    pub is_related : (p q : Fraction) → value_at i [] n.left ≡ number p → value_at i [] n.right ≡ number q → IsReduced q → IsRelated n.relation (minus p q)
 
   -- the sides of an atom
   sides : (h : Head) (s t : Term) → IsWellSorted symbols [] (pair h s t) → are_numbers s t ≡ true → IsReal symbols s × IsReal symbols t
@@ -49,21 +49,21 @@ module _ (symbols : List Symbol) (i : Interpretation) where
   denied false (app Equal (cons s (cons t nil))) n w e f =
       let k = where_taken (are_numbers s t) _ n e in
       let ends = sides Equal s t w k.0 in
-      subst IsDenied k.1 (record { left = ends.0; right = ends.1; stands = λ p q hp hq r. same_true p q r (sym (λ j. same_value (hp j) (hq j)) ∙ f) })
+      subst IsDenied k.1 (record { left = ends.0; right = ends.1; is_related = λ p q hp hq r. same_true p q r (sym (λ j. same_value (hp j) (hq j)) ∙ f) })
   denied false (app Less (cons s (cons t nil))) n w e f =
       let k = where_taken (are_numbers s t) _ n e in
       let ends = sides Less s t w k.0 in
-      subst IsDenied k.1 (record { left = ends.0; right = ends.1; stands = λ p q hp hq r. less_true p q (sym (λ j. less (number_in (hp j)) (number_in (hq j))) ∙ f) })
+      subst IsDenied k.1 (record { left = ends.0; right = ends.1; is_related = λ p q hp hq r. less_true p q (sym (λ j. less (number_in (hp j)) (number_in (hq j))) ∙ f) })
   denied false (app AtMost (cons s (cons t nil))) n w e f =
       let k = where_taken (are_numbers s t) _ n e in
       let ends = sides AtMost s t w k.0 in
-      subst IsDenied k.1 (record { left = ends.0; right = ends.1; stands = λ p q hp hq r. at_most_true p q (sym (λ j. at_most (number_in (hp j)) (number_in (hq j))) ∙ f) })
+      subst IsDenied k.1 (record { left = ends.0; right = ends.1; is_related = λ p q hp hq r. at_most_true p q (sym (λ j. at_most (number_in (hp j)) (number_in (hq j))) ∙ f) })
   denied true (app Less (cons s (cons t nil))) n w e f =
       let k = where_taken (are_numbers s t) _ n e in
       let ends = sides Less s t w k.0 in
-      subst IsDenied k.1 (record { left = ends.1; right = ends.0; stands = λ p q hp hq r. less_false q p (sym (λ j. less (number_in (hq j)) (number_in (hp j))) ∙ f) })
+      subst IsDenied k.1 (record { left = ends.1; right = ends.0; is_related = λ p q hp hq r. less_false q p (sym (λ j. less (number_in (hq j)) (number_in (hp j))) ∙ f) })
   denied true (app AtMost (cons s (cons t nil))) n w e f =
       let k = where_taken (are_numbers s t) _ n e in
       let ends = sides AtMost s t w k.0 in
-      subst IsDenied k.1 (record { left = ends.1; right = ends.0; stands = λ p q hp hq r. at_most_false q p (sym (λ j. at_most (number_in (hq j)) (number_in (hp j))) ∙ f) })
+      subst IsDenied k.1 (record { left = ends.1; right = ends.0; is_related = λ p q hp hq r. at_most_false q p (sym (λ j. at_most (number_in (hq j)) (number_in (hp j))) ∙ f) })
   denied positive _ n w e f = cc

@@ -22,7 +22,7 @@ use Rattle.spec_arithmetic.proofs.FormValues.{subtracting_fair, combined_value, 
 use Rattle.spec_arithmetic.proofs.Reals.{IsReal, number_under, first_argument, second_argument, real_number}
 use Rattle.spec_arithmetic.proofs.FormTerms.{form_gives, at_ok}
 use Rattle.spec_arithmetic.proofs.Coefficients.{IsReducedCoefficient, AreReduced, coefficients_reduced}
-use Rattle.spec_arithmetic.proofs.Denials.{Stands, IsDenied, denied}
+use Rattle.spec_arithmetic.proofs.Denials.{IsRelated, IsDenied, denied}
 use Rattle.spec_arithmetic.proofs.Sums.{IsPart, AreParts, as_ok, judged_not}
 use Rattle.spec_arithmetic.proofs.Orders.{split_true, order_true}
 
@@ -87,7 +87,7 @@ module _ (symbols : List Symbol) (i : Interpretation) (interprets : Interprets i
       let right = form_gives i symbols interprets m.right b.first b.was d.right in
       let s = combined_value (number_under i) subtracting subtracting_fair a.first b.first f (at_ok _ _ _ b.then) left.proper right.proper in
       record {
-        stands = subst (Stands m.relation) (sym s.value) (d.stands _ _ left.value right.value (form_value_reduced (number_under i) b.first right.proper));
+        is_related = subst (IsRelated m.relation) (sym s.value) (d.is_related _ _ left.value right.value (form_value_reduced (number_under i) b.first right.proper));
         proper = s.proper;
         weight = r;
       }

@@ -19,11 +19,11 @@ use Rattle.spec_arithmetic.proofs.Zero.{zero_num, times-zero}
 use Rattle.spec_arithmetic.proofs.Differences.{IsAtMostZero, IsBelowZero, zero-at_most, below-at_most, plus-at_most, plus-below_left, plus-below_right, times-at_most, times-below}
 use Rattle.spec_arithmetic.proofs.FormValues.{IsProper, adding_fair, combined_value, scaled_value, form_value_reduced}
 use Rattle.spec_arithmetic.proofs.FormTerms.{constant_value}
-use Rattle.spec_arithmetic.proofs.Denials.{Stands}
+use Rattle.spec_arithmetic.proofs.Denials.{IsRelated}
 
 -- A part whose form compares with 0 as it says.
 pub record IsPart (n : Term → Fraction) (p : Part) : Type 0 where
-  pub stands : Stands p.relation (form_value n p.form)
+  pub is_related : IsRelated p.relation (form_value n p.form)
   pub proper : IsProper n p.form
   pub weight : IsReduced p.weight
 
@@ -54,7 +54,7 @@ weight_positive false is_at_most c h = h.positive
 zero_product : (c x : Fraction) → 0 < c.den → x ≡ zero_fraction → IsAtMostZero (times c x)
 zero_product c x p h = subst IsAtMostZero (sym (ap (times c) h ∙ times-zero c p)) zero-at_most
 
-weighted : (turned : Bool) (r : Relation) (c x : Fraction) → IsReduced c → Stands r x → IsAtMostZero (times (weight_by turned r c) x)
+weighted : (turned : Bool) (r : Relation) (c x : Fraction) → IsReduced c → IsRelated r x → IsAtMostZero (times (weight_by turned r c) x)
 unfolding size
 weighted true is_nought c x k h = zero_product _ x (weight_positive true is_nought c k) h
 weighted false is_nought c x k h = zero_product _ x (weight_positive false is_nought c k) h
@@ -63,7 +63,7 @@ weighted false is_below c x k h = times-at_most _ x (unsigned_abs c.num) refl (b
 weighted true is_at_most c x k h = times-at_most _ x (unsigned_abs c.num) refl h
 weighted false is_at_most c x k h = times-at_most _ x (unsigned_abs c.num) refl h
 
-weighted_strictly : (turned : Bool) (r : Relation) (c x : Fraction) → Stands r x → is_strict_part r c ≡ true → IsBelowZero (times (weight_by turned r c) x)
+weighted_strictly : (turned : Bool) (r : Relation) (c x : Fraction) → IsRelated r x → is_strict_part r c ≡ true → IsBelowZero (times (weight_by turned r c) x)
 unfolding size
 weighted_strictly turned is_nought c x h e = absurd (true≢false (sym e))
 weighted_strictly turned is_at_most c x h e = absurd (true≢false (sym e))
@@ -82,7 +82,7 @@ one_more n turned before f p g h e1 e2 part s =
     let x = form_value n p.form in
     let c = scaled_value n (weight_by turned p.relation p.weight) p.form g e1 (weight_positive turned p.relation p.weight part.weight) part.proper in
     let d = combined_value n adding adding_fair f g h e2 s.proper c.proper in
-    let g_at_most : IsAtMostZero (form_value n g) = subst IsAtMostZero (sym c.value) (weighted turned p.relation p.weight x part.weight part.stands) in
+    let g_at_most : IsAtMostZero (form_value n g) = subst IsAtMostZero (sym c.value) (weighted turned p.relation p.weight x part.weight part.is_related) in
     let positive_f = (form_value_reduced n f s.proper).positive in
     let positive_g = (form_value_reduced n g c.proper).positive in
     record {
@@ -90,22 +90,22 @@ one_more n turned before f p g h e1 e2 part s =
       at_most = subst IsAtMostZero (sym d.value) (plus-at_most (form_value n f) (form_value n g) s.at_most g_at_most);
       below = λ e. subst IsBelowZero (sym d.value) (either before (is_strict_part p.relation p.weight) e
           (λ b. plus-below_left (form_value n f) (form_value n g) (s.below b) g_at_most positive_g)
-          (λ b. plus-below_right (form_value n f) (form_value n g) s.at_most (subst IsBelowZero (sym c.value) (weighted_strictly turned p.relation p.weight x part.stands b)) positive_f));
+          (λ b. plus-below_right (form_value n f) (form_value n g) s.at_most (subst IsBelowZero (sym c.value) (weighted_strictly turned p.relation p.weight x part.is_related b)) positive_f));
     }
   where
     either : {P : Type 0} (a b : Bool) → a || b ≡ true → (a ≡ true → P) → (b ≡ true → P) → P
     either true b e f g = f refl
     either false b e f g = g e
 
-sum_stands : (n : Term → Fraction) (turned before : Bool) (f : Form) (ps : List Part) (r : Form) → summed turned f ps ≡ Ok r → AreParts n ps → IsSum n before f → IsSum n (before || is_strict ps) r
+sum_related : (n : Term → Fraction) (turned before : Bool) (f : Form) (ps : List Part) (r : Form) → summed turned f ps ≡ Ok r → AreParts n ps → IsSum n before f → IsSum n (before || is_strict ps) r
 unfolding summed is_strict
-sum_stands n turned before f [] r e h s = subst (λ b. IsSum n b r) (sym (or-false before)) (subst (IsSum n before) (same_ok _ _ e) s)
-sum_stands n turned before f (p ∷ ps) r e h s =
+sum_related n turned before f [] r e h s = subst (λ b. IsSum n b r) (sym (or-false before)) (subst (IsSum n before) (same_ok _ _ e) s)
+sum_related n turned before f (p ∷ ps) r e h s =
     let a = went (scaled (weight_by turned p.relation p.weight) p.form) (λ g. combined adding f g >>= λ k. summed turned k ps) r e in
     let b = went (combined adding f a.first) (λ k. summed turned k ps) r a.then in
     let strict = is_strict_part p.relation p.weight in
     subst (λ b. IsSum n b r) (or_assoc before strict (is_strict ps))
-    (sum_stands n turned (before || strict) b.first ps r b.then h.1 (one_more n turned before f p a.first b.first a.was b.was h.0 s))
+    (sum_related n turned (before || strict) b.first ps r b.then h.1 (one_more n turned before f p a.first b.first a.was b.was h.0 s))
 
 -- no such sum is a contradiction
 above_not : (c : Fraction) → IsAtMostZero c → is_above_zero c ≡ true → ⊥
@@ -150,10 +150,10 @@ as_ok (Err w) r e = cc
 pub judged_not : (n : Term → Fraction) (ps : List Part) → AreParts n ps → judged_parts ps ≡ Ok tt → ⊥
 judged_not n ps h e =
     let a = went (as_failure (sum_of false ps)) (λ f. judged_first ps f) tt e in
-    first a.first (stands false a.first a.was) (cannot_hold (is_strict ps) a.first) refl a.then
+    first a.first (is_related false a.first a.was) (cannot_hold (is_strict ps) a.first) refl a.then
   where
-    stands : (turned : Bool) (f : Form) → as_failure (sum_of turned ps) ≡ Ok f → IsSum n (is_strict ps) f
-    stands turned f e = sum_stands n turned false (constant_form zero_fraction) ps f (as_ok _ _ e) h (start n)
+    is_related : (turned : Bool) (f : Form) → as_failure (sum_of turned ps) ≡ Ok f → IsSum n (is_strict ps) f
+    is_related turned f e = sum_related n turned false (constant_form zero_fraction) ps f (as_ok _ _ e) h (start n)
 
     last : (f : Form) → IsSum n (is_strict ps) f → (b : Bool) → cannot_hold (is_strict ps) f ≡ b → taken_if b ≡ Ok tt → ⊥
     last f s true c e = holds_not n (is_strict ps) f.constant f.variables s c
@@ -164,4 +164,4 @@ judged_not n ps h e =
     first f s true c e = holds_not n (is_strict ps) f.constant f.variables s c
     first f s false c e =
         let a = went (as_failure (sum_of true ps)) (λ g. judged_last ps g) tt e in
-        last a.first (stands true a.first a.was) (cannot_hold (is_strict ps) a.first) refl a.then
+        last a.first (is_related true a.first a.was) (cannot_hold (is_strict ps) a.first) refl a.then

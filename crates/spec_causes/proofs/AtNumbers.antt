@@ -45,7 +45,7 @@ adds_nothing k reduced x y none =
     (ap (λ z. numbers.plus (numbers.times c z) y) none ∙ ap (λ z. numbers.plus z y) (l.product_commutative c numbers.zero ∙ zero_product numbers l c) ∙ l.sum_zero y)
 
 -- terms have these numbers where the infinitesimal is e: those of the variables that stand for them, and 0 where none does
-module _ (e : Number) (s : TermTableau) (n : Term → Number) (standing : AreOwned s.owners n (λ y. at_number e (point_in s.values y)))
+module _ (e : Number) (s : TermTableau) (n : Term → Number) (owned_values : AreOwned s.owners n (λ y. at_number e (point_in s.values y)))
     (others : (u : Term) → ((y : ℕ) → owner_in s.owners y ≡ Some u → ⊥) → n u ≡ numbers.zero) where
   abbrev numbered : Term → Fraction
   numbered u = (n u).fraction
@@ -55,7 +55,7 @@ module _ (e : Number) (s : TermTableau) (n : Term → Number) (standing : AreOwn
   unfolding numbers fractions variables_value
   variables_at m _ _ ends proper = refl
   variables_at m _ _ (owned g x gs xs is more) proper =
-      λ i. plus (times (sym is.coefficient i) (sym (standing g.variable x.0 is.owner) i).fraction) (variables_at m gs xs more proper.1 i)
+      λ i. plus (times (sym is.coefficient i) (sym (owned_values g.variable x.0 is.owner) i).fraction) (variables_at m gs xs more proper.1 i)
   variables_at m _ _ (left_out x gs xs none more) proper =
       ap (plus (times x.1 (n x.0).fraction)) (variables_at m gs xs more proper.1)
       ∙ adds_nothing x.1 proper.0.coefficient (n x.0) (sum_of (as_space numbers) (λ y. at_number e (point_in s.values y)) gs) (others x.0 none)

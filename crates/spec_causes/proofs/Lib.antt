@@ -5,7 +5,7 @@ pub mod NumberFaults
 pub mod CauseFaults
 pub mod Wider
 pub mod Silent
-pub mod Resting
+pub mod IdleChecks
 pub mod AtNumbers
 pub mod SharedNumbers
 pub mod Owned

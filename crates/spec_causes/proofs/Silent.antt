@@ -25,7 +25,7 @@ use Rattle.spec_arithmetic.specs.Contradictions.{are_numbers}
 use Rattle.spec_causes.specs.TermTableau.{TermTableau, state_in, moved_to}
 use Rattle.spec_causes.specs.Shared.{AreSharedValues, ShareNothing}
 use Rattle.spec_causes.specs.Bounds.{Side, lower, upper, bound_on, AreBounds}
-use Rattle.spec_causes.specs.Reached.{IsFormAmong, IsReached, beginning, naming, summing, resting, checking, IsStoppedAt, between, updating_nonbasic, exchanging}
+use Rattle.spec_causes.specs.Reached.{IsFormAmong, IsReached, beginning, naming, summing, idling, checking, IsStoppedAt, between, updating_nonbasic, exchanging}
 use Rattle.spec_causes.specs.Reasons.{Conflicts, crossing, sticking}
 use Rattle.spec_causes.specs.Causes.{IsHalfAbove, IsHalfBelow, IsEpsilon, OverflowsAt, forming, bounding, adding_row, explaining, valuing, finding, evaluating, evaluating_shared, NeedsMore, AreSilent}
 use Rattle.spec_causes.specs.Causes as causes
@@ -130,7 +130,7 @@ module _ (ts : List Term) (silent : AreSilent ts) where
   reaches_nothing _ _ _ beginning = (record { rows = refl; values = λ y. refl }, refl)
   reaches_nothing _ _ _ (naming n es s h f among u k has new) = absurd (no_form f among)
   reaches_nothing _ _ _ (summing n es s h f among gs are longer) = absurd (no_form f among)
-  reaches_nothing _ _ _ (resting n es s h ranges bounds rs vs many ran) =
+  reaches_nothing _ _ _ (idling n es s h ranges bounds rs vs many ran) =
       let before = reaches_nothing n es s h in
       let after = ran_alone s ranges (open_ranges s ranges bounds) (state_in (moved_to s rs vs)) es es ran before.0 before.1 in
       (record { rows = after.0; values = after.1 }, after.2)

@@ -12,7 +12,7 @@ use Rattle.spec_tableaux.specs.Points.{Ranges}
 use Rattle.spec_causes.specs.TermTableau.{TermTableau}
 use Rattle.spec_causes.specs.Shared.{IsSharedAmong, argument, value, IsSharedValue, AreSharedValues}
 use Rattle.spec_causes.specs.Bounds.{AreBounds}
-use Rattle.spec_causes.specs.Reached.{IsFormAmong, IsReached, beginning, naming, summing, resting, checking}
+use Rattle.spec_causes.specs.Reached.{IsFormAmong, IsReached, beginning, naming, summing, idling, checking}
 use Rattle.spec_causes.specs.Causes.{OverflowsAt, forming, bounding, adding_row, explaining, valuing, finding, evaluating, evaluating_shared, NeedsMore}
 use Rattle.spec_causes.specs.Causes as causes
 
@@ -33,8 +33,8 @@ module _ (ts us : List Term) (more : AreAmong ts us) where
       naming n es s0 (reached_over_more n es s0 h) f (form_among_more f among) u k has new
   reached_over_more _ _ _ (summing n es s0 h f among gs are longer) =
       summing n es s0 (reached_over_more n es s0 h) f (form_among_more f among) gs are longer
-  reached_over_more _ _ _ (resting n es s0 h ranges bounds rs vs many ran) =
-      resting n es s0 (reached_over_more n es s0 h) ranges (bounds_among_more s0 ranges bounds) rs vs many ran
+  reached_over_more _ _ _ (idling n es s0 h ranges bounds rs vs many ran) =
+      idling n es s0 (reached_over_more n es s0 h) ranges (bounds_among_more s0 ranges bounds) rs vs many ran
   reached_over_more _ _ _ (checking n old new s0 h ranges bounds rs vs many ran) =
       checking n old new s0 (reached_over_more n old s0 h) ranges (bounds_among_more s0 ranges bounds) rs vs many ran
 

@@ -75,7 +75,7 @@ AreWithin ranges v = (y : ℕ) → is_within deltas ranges v y ≡ true
 pub record OverflowsValueAt (e : Number) (s : TermTableau) (o : Overflow) : Type 0 where
   pub variable : ℕ
   pub term : Term
-  pub stands : owner_in s.owners variable ≡ Some term
+  pub represents : owner_in s.owners variable ≡ Some term
   pub leaves : delta_evaluated (delta_in (point_in s.values variable)) e.fraction ≡ Err o
 
 -- An operation of simplex over terms comes to the overflow o in its state.

@@ -46,9 +46,9 @@ pub record ArePivotsSpent (p : Problem) (n l : ℕ) (es : List (ℕ × ℕ)) : T
   -- so many were made
   pub count : length es ≡ n
   -- they lead here, in few runs
-  pub standing : TermTableau
+  pub arrived : TermTableau
   pub runs : ℕ
-  pub reached : IsReached (whole_terms p) runs es standing
+  pub reached : IsReached (whole_terms p) runs es arrived
   pub few : AreFewRuns (whole_terms p) l runs
   -- and a further one is needed
-  pub more : NeedsMore (whole_terms p) standing
+  pub more : NeedsMore (whole_terms p) arrived

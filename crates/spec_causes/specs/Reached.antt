@@ -45,7 +45,7 @@ pub data IsReached (ts : List Term) : ℕ → List (ℕ × ℕ) → TermTableau 
       → (f : Form) → IsFormAmong ts f → (gs : List (Entry Number)) → AreEntriesOf s.owners gs f.variables
       → IsLonger gs → IsReached ts n es (with_sum s gs)
   -- a check goes to these bounds, and makes no exchange: no run is counted
-  resting : (n : ℕ) (es : List (ℕ × ℕ)) (s : TermTableau) → IsReached ts n es s
+  idling : (n : ℕ) (es : List (ℕ × ℕ)) (s : TermTableau) → IsReached ts n es s
       → (ranges : Ranges) → AreBounds ts s ranges → (rs : List (Row Number)) (vs : List (Pair Number))
       → length vs ≡ length s.values → Ran ranges (state_in s) (state_in (moved_to s rs vs)) es es
       → IsReached ts n es (moved_to s rs vs)

@@ -148,7 +148,7 @@ not_asserted_verdict = judged not_asserted (trees_in not_asserted) complete not_
 pub assumption_verdict : IsVerdict contradiction 1 assumption (Some (fault_at 14 NoEmptyClause))
 assumption_verdict = judged assumption (trees_in assumption) complete assumption_is_read _ None _ assumption_commands (inl (p_asserted, (no_empty_in_one (with_command known (first_assume 11)) (codes "h1") p [] refl, refl)))
 
--- commands in one list, after which a tree stands
+-- commands in one list, after which a tree comes
 followed_list : (end at close : ℕ) (xs : List (ℕ × Lexeme)) (ts : Trees) (t : Tree) (rest : List (ℕ × Lexeme)) → xs ≡ (at, opens) ∷ spelled_all ts ++ (close, closes) ∷ (spelled_all (more t none) ++ rest) → 1 + depth_all ts ≤ nesting_limit → 0 + depth_all (more t none) ≤ nesting_limit → AreCommands true end xs ts (left_over (offset_of t))
 followed_list end at close xs ts t rest e within room =
     let after = spelled_all (more t none) ++ rest in

@@ -78,7 +78,7 @@ pub shapes : unread (codes "h1" ∷ codes "(anchor :step t1)" ∷ codes "(assume
 unfolding proofs_on_literals read_commands
 shapes = refl
 
--- each keyword stands once, with symbols or a list after it; arguments are any texts
+-- each keyword occurs once, with symbols or a list after it; arguments are any texts
 pub keywords : unread (codes "(step t1 (cl) :rule resolution :rule resolution)"
     ∷ codes "(step t1 (cl) :rule resolution :zz ())" ∷ codes "(step t1 (cl) :rule resolution :premises ((h1)))"
     ∷ codes "(step t1 (cl) :rule resolution :args 1)"

@@ -1,5 +1,5 @@
 //! Worked examples: verdicts on the texts of `specs/ProofTexts.antt`. Each is a function whose contract is the verdict; it
-//! computes nothing. Beside each fault stand its line and its column.
+//! computes nothing. Next to each fault are its line and its column.
 
 ghost use Rattle.std.specs.Prelude.{Some, None};
 ghost use Rattle.spec_text.specs.declared.Fault.TheVariants as faults;
@@ -39,7 +39,7 @@ pub fn good_proofs_have_no_limit()
     refutation_is_accepted();
 }
 
-/// States where the fault of a command that cannot be read stands.
+/// States where the fault of a command that cannot be read is.
 pub fn commands_are_read()
     ensures premise { IsVerdict contradiction 1 unknown_premise (Some (fault_at 79 UnknownPremise))
         × IsAt unknown_premise 79 3 46 }
@@ -47,7 +47,7 @@ pub fn commands_are_read()
         × IsAt not_linear 28 2 15 }
 {}
 
-/// States where the fault of a command that is read, but not right, stands.
+/// States where the fault of a command that is read, but not right, is.
 pub fn commands_are_judged()
     ensures assumed { IsVerdict contradiction 1 not_asserted (Some (fault_at 25 NotAsserted))
         × IsAt not_asserted 25 2 12 }
@@ -61,7 +61,7 @@ pub fn empty_clause_is_wanted()
     ensures { IsVerdict contradiction 1 assumption (Some (fault_at 14 NoEmptyClause)) × IsAt assumption 14 2 1 }
 {}
 
-/// States that a proof's text is commands to its end, and where the fault of one that is not stands.
+/// States that a proof's text is commands to its end, and where the fault of one that is not is.
 pub fn texts_end_with_their_commands()
     ensures unclosed { IsVerdict contradiction 1 unclosed (Some (fault_at 26 (Lexical faults.UnclosedList)))
         × IsAt unclosed 26 2 13 }

@@ -33,7 +33,7 @@ pub options : answers (
 unfolding commands_on_literals answers_after
 options = refl
 
--- a text is said as it is written, without the quotes at its ends; the others are done, but for checks and the end
+-- a text is echoed as it is written, without the quotes at its ends; the others are done, but for checks and the end
 pub others : answers (
     codes "(set-logic QF_UF)(set-info :status sat)" ∷
     codes "(declare-sort U 0)(define-sort V () U)(declare-const c V)(declare-fun f (U) V)(define-fun g () U (f c))" ∷

@@ -10,7 +10,7 @@ use Rattle.spec_sorts.specs.Meaning.{value_under}
 use Rattle.spec_commands.specs.Stack.{Assertion, Stack, Effect, check, leave, Taken, empty_stack, signature_of}
 use Rattle.spec_commands.specs.Stack.{assertions_of, step}
 
--- A check: what is there, and what it assumes beside that.
+-- A check: what is there, and what it assumes besides that.
 pub record Check : Type 0 where
   -- the stack
   pub stack : Stack

@@ -267,8 +267,8 @@ pub not_linear : faults (
 unfolding commands_on_literals faults_after
 not_linear = refl
 
--- what is linear is judged with `let` and definitions replaced; a sum is no divisor; a divisor that may not stand comes
--- before one that is zero
+-- what is linear is judged with `let` and definitions replaced; a sum is no divisor; a divisor that may not be one
+-- comes before one that is zero
 pub linear_after_replacing : faults (
     codes "(set-option :print-success false)" ∷
     (codes "(declare-const x Real)(declare-const y Real)(define-fun two () Real 2)"

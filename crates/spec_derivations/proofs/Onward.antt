@@ -6,11 +6,11 @@ use Rattle.spec_sorts.specs.Terms.{Term}
 use Rattle.spec_sorts.specs.Literals.{Literal, literals_of}
 use Rattle.spec_derivations.specs.Problems.{Problem, terms_of_problem}
 use Rattle.spec_derivations.specs.Base.{base_clauses}
-use Rattle.spec_derivations.specs.Derivations.{Inference, Derivation, conclusion, premises_of, no_inference, inference_at, IsDerivation, RestsOn, itself, by_premise, AssumesAmong, IsDerivedFrom}
+use Rattle.spec_derivations.specs.Derivations.{Inference, Derivation, conclusion, premises_of, no_inference, inference_at, IsDerivation, DependsOn, itself, by_premise, AssumesAmong, IsDerivedFrom}
 use Rattle.spec_derivations.specs.Learned.{IsNew, AreNew}
 use Rattle.spec_derivations.specs.Spent.{IsLearnedFrom, IsOverAtoms, AreLearned, IsConflict}
 use Rattle.spec_derivations.proofs.Derivations.{follows_at}
-use Rattle.spec_derivations.proofs.Spending.{premises_before, rests_there}
+use Rattle.spec_derivations.proofs.Spending.{premises_before, depends_there}
 
 module _ (d more : Derivation) where
   -- an inference keeps its number
@@ -18,20 +18,20 @@ module _ (d more : Derivation) where
   kept_at n lt = get_or_append_left d more no_inference n lt
 
   -- and what it depends on
-  rests_before : IsDerivation d → (n m : ℕ) → n < length d → RestsOn (d ++ more) n m → RestsOn d n m
-  rests_before right n _ lt (itself _) = itself n
-  rests_before right n m lt (by_premise _ k _ k_in rests) =
+  depends_before : IsDerivation d → (n m : ℕ) → n < length d → DependsOn (d ++ more) n m → DependsOn d n m
+  depends_before right n _ lt (itself _) = itself n
+  depends_before right n m lt (by_premise _ k _ k_in depends) =
       let own : Contains (premises_of (inference_at d n)) k = subst (λ (x : Inference). Contains (premises_of x) k) (kept_at n lt) k_in in
       let less = premises_before (take n d) (inference_at d n) k (follows_at d right n lt) own in
-      by_premise n k m own (rests_before right k m (omega (arith, less, length-take-le n d (omega (arith, lt)), lt)) rests)
+      by_premise n k m own (depends_before right k m (omega (arith, less, length-take-le n d (omega (arith, lt)), lt)) depends)
 
   -- so it stays derived
   pub derived_onward : IsDerivation d → (terms : List Term) (n : ℕ) → IsDerivedFrom terms d n → IsDerivedFrom terms (d ++ more) n
   derived_onward right terms n h = record {
     there = omega (arith, h.there, length-append d more);
-    assumptions = λ m rests.
-        let own = rests_before right n m h.there rests in
-        subst (AssumesAmong terms) (sym (kept_at m (rests_there d right n m h.there own))) (h.assumptions m own);
+    assumptions = λ m depends.
+        let own = depends_before right n m h.there depends in
+        subst (AssumesAmong terms) (sym (kept_at m (depends_there d right n m h.there own))) (h.assumptions m own);
   }
 
   pub learned_onward : IsDerivation d → (p : Problem) (clause : List Literal) → IsLearnedFrom p d clause → IsLearnedFrom p (d ++ more) clause

@@ -13,7 +13,7 @@ use Rattle.spec_proofs.specs.Resolution.{Resolves}
 use Rattle.spec_rules.specs.Rules.{IsBy}
 use Rattle.spec_rules.specs.Schemes.{schemes, clauses_by}
 use Rattle.spec_derivations.specs.Problems.{Problem, terms_of_problem, subterms_in}
-use Rattle.spec_derivations.specs.Derivations.{Inference, assumption, by_rule, Derivation, conclusion, premises_of, no_inference, inference_at, conclusion_at, FollowsFrom, IsDerivation, RestsOn, itself, by_premise, AssumesAmong, IsDerivedFrom}
+use Rattle.spec_derivations.specs.Derivations.{Inference, assumption, by_rule, Derivation, conclusion, premises_of, no_inference, inference_at, conclusion_at, FollowsFrom, IsDerivation, DependsOn, itself, by_premise, AssumesAmong, IsDerivedFrom}
 use Rattle.spec_derivations.specs.Base.{clauses_of, base_clauses}
 use Rattle.spec_derivations.specs.Learned.{IsNew}
 use Rattle.spec_derivations.specs.Spent.{IsLearnedFrom, IsOverAtoms, AreLearned, IsConflict}
@@ -25,17 +25,17 @@ use Rattle.spec_derivations.proofs.Onward.{kept_at, derived_onward}
 last_derived : (terms : List Term) (d : Derivation) (x : Inference) → IsDerivation d → AssumesAmong terms x → ((k : ℕ) → Contains (premises_of x) k → IsDerivedFrom terms d k) → IsDerivedFrom terms (d ++ x ∷ []) (length d)
 last_derived terms d x right among premises = record {
   there = omega (arith, length-append d (x ∷ []));
-  assumptions = λ m rests. go (length d) m refl rests;
+  assumptions = λ m depends. go (length d) m refl depends;
 }
   where
     here : inference_at (d ++ x ∷ []) (length d) ≡ x
     here = get_or-append_seam d x [] no_inference
 
-    go : (n m : ℕ) → n ≡ length d → RestsOn (d ++ x ∷ []) n m → AssumesAmong terms (inference_at (d ++ x ∷ []) m)
+    go : (n m : ℕ) → n ≡ length d → DependsOn (d ++ x ∷ []) n m → AssumesAmong terms (inference_at (d ++ x ∷ []) m)
     go n _ e (itself _) = subst (λ k. AssumesAmong terms (inference_at (d ++ x ∷ []) k)) (sym e) (subst (AssumesAmong terms) (sym here) among)
-    go n m e (by_premise _ k _ k_in rests) =
+    go n m e (by_premise _ k _ k_in depends) =
         let own : Contains (premises_of x) k = subst (λ (y : Inference). Contains (premises_of y) k) (ap (inference_at (d ++ x ∷ [])) e ∙ here) k_in in
-        (derived_onward d (x ∷ []) right terms k (premises k own)).assumptions m rests
+        (derived_onward d (x ∷ []) right terms k (premises k own)).assumptions m depends
 
 -- Numbers of derived clauses, which are these in their order.
 record HasNumbers (terms : List Term) (d : Derivation) (clauses : List (List Literal)) : Type 0 where

@@ -9,7 +9,7 @@ use Rattle.spec_sorts.specs.Subterms.{has_term, with_subterms, with_all_subterms
 use Rattle.spec_sorts.specs.Literals.{Literal, complement, literal_of, literals_of}
 use Rattle.spec_sorts.proofs.Members.{has_term-Decides}
 use Rattle.spec_proofs.specs.Resolution.{Derives, given, unit, Conflicts, false_clause}
-use Rattle.spec_derivations.specs.Derivations.{Inference, assumption, by_rule, Derivation, premises_of, no_inference, inference_at, FollowsFrom, IsDerivation, RestsOn, itself, by_premise, AssumesAmong}
+use Rattle.spec_derivations.specs.Derivations.{Inference, assumption, by_rule, Derivation, premises_of, no_inference, inference_at, FollowsFrom, IsDerivation, DependsOn, itself, by_premise, AssumesAmong}
 use Rattle.spec_derivations.specs.Spent.{IsAtomOf, subterm, IsLearnedFrom, IsOverAtoms, IsConflictBudgetSpent}
 use Rattle.spec_rules.specs.Examples.{p, q, r}
 use Rattle.spec_derivations.specs.Problems.{known_subterms}
@@ -40,16 +40,16 @@ premises_before earlier (assumption t) k f k_in = absurd (none k k_in)
 premises_before earlier (by_rule rule ps arguments clause) k f k_in = All-contains (λ n. n < length earlier) ps k f.0 k_in
 
 -- what one of its premises is, a clause depends on
-pub rests_onward : (d : Derivation) (n m k : ℕ) → RestsOn d n m → Contains (premises_of (inference_at d m)) k → RestsOn d n k
-rests_onward d n m k (itself _) p = by_premise n k k p (itself k)
-rests_onward d n m k (by_premise _ j _ first rest) p = by_premise n j k first (rests_onward d j m k rest p)
+pub depends_onward : (d : Derivation) (n m k : ℕ) → DependsOn d n m → Contains (premises_of (inference_at d m)) k → DependsOn d n k
+depends_onward d n m k (itself _) p = by_premise n k k p (itself k)
+depends_onward d n m k (by_premise _ j _ first rest) p = by_premise n j k first (depends_onward d j m k rest p)
 
 -- what a clause of a derivation depends on is one of it
-pub rests_there : (d : Derivation) → IsDerivation d → (n m : ℕ) → n < length d → RestsOn d n m → m < length d
-rests_there d right _ _ lt (itself n) = lt
-rests_there d right _ _ lt (by_premise n k m k_in rests) =
+pub depends_there : (d : Derivation) → IsDerivation d → (n m : ℕ) → n < length d → DependsOn d n m → m < length d
+depends_there d right _ _ lt (itself n) = lt
+depends_there d right _ _ lt (by_premise n k m k_in depends) =
     let less = premises_before (take n d) (inference_at d n) k (follows_at d right n lt) k_in in
-    rests_there d right k m (omega (arith, less, length-take-le n d (omega arith), lt)) rests
+    depends_there d right k m (omega (arith, less, length-take-le n d (omega arith), lt)) depends
 
 -- the literals of the constants
 abbrev is : Term → Literal
@@ -105,7 +105,7 @@ learned_from = record {
   number = 4;
   derived = record {
     there = omega arith;
-    assumptions = λ m rests. All-from_recursion (AssumesAmong eight) not_both_derived assumed m no_inference (rests_there not_both_derived right 4 m (omega arith) rests);
+    assumptions = λ m depends. All-from_recursion (AssumesAmong eight) not_both_derived assumed m no_inference (depends_there not_both_derived right 4 m (omega arith) depends);
   };
   same = refl;
 }

@@ -52,9 +52,9 @@ IsDerivation d = (before : Derivation) (x : Inference) (after : Derivation) → 
     → FollowsFrom before x
 
 -- The clause of the first number depends on that of the second: it is the same, or one of its premises depends on it.
-pub data RestsOn (d : Derivation) : ℕ → ℕ → Type 0 where
-  itself : (n : ℕ) → RestsOn d n n
-  by_premise : (n m k : ℕ) → Contains (premises_of (inference_at d n)) m → RestsOn d m k → RestsOn d n k
+pub data DependsOn (d : Derivation) : ℕ → ℕ → Type 0 where
+  itself : (n : ℕ) → DependsOn d n n
+  by_premise : (n m k : ℕ) → Contains (premises_of (inference_at d n)) m → DependsOn d m k → DependsOn d n k
 
 -- what it assumes, if it does, is one of these terms
 abbrev pub AssumesAmong : List Term → Inference → Type 0
@@ -66,4 +66,4 @@ pub record IsDerivedFrom (terms : List Term) (d : Derivation) (n : ℕ) : Type 0
   -- the number is one of the derivation's
   pub there : n < length d
   -- what it depends on
-  pub assumptions : (m : ℕ) → RestsOn d n m → AssumesAmong terms (inference_at d m)
+  pub assumptions : (m : ℕ) → DependsOn d n m → AssumesAmong terms (inference_at d m)

@@ -12,7 +12,7 @@ ghost use Rattle.spec_rules.specs.Clauses.{term_true, clause_true};
 ghost use Rattle.spec_rules.specs.Truths.{Truths};
 ghost use Rattle.spec_derivations.specs.Problems.{Problem, terms_of_problem, subterms_in};
 ghost use Rattle.spec_derivations.specs.Derivations.{Derivation, «assumption», conclusion};
-ghost use Rattle.spec_derivations.specs.Derivations.{inference_at, conclusion_at, IsDerivation, RestsOn};
+ghost use Rattle.spec_derivations.specs.Derivations.{inference_at, conclusion_at, IsDerivation, DependsOn};
 ghost use Rattle.spec_derivations.specs.Base.{base_clauses};
 ghost use Rattle.spec_derivations.specs.Models.{SatisfiesClauses, joins_formulas, Obeys};
 ghost use Rattle.spec_derivations.specs.Learned.{IsOpenIn, IsNew};
@@ -98,7 +98,7 @@ pub fn propagated_clauses_are_conflicts()
 pub fn derivations_are_sound()
     ensures { (symbols : List Symbol) (d : Derivation) (i : Interpretation) → IsDerivation d → Interprets i symbols
         → All (λ x. All (IsFormulaOver symbols) (conclusion x)) d → (n : ℕ) → n < length d
-        → ((m : ℕ) (t : Term) → RestsOn d n m → inference_at d m ≡ «assumption» t → term_true i t ≡ true)
+        → ((m : ℕ) (t : Term) → DependsOn d n m → inference_at d m ≡ «assumption» t → term_true i t ≡ true)
         → clause_true i (conclusion_at d n) ≡ true }
 {
     spec_rules::laws::rules_are_sound();

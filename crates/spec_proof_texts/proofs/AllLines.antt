@@ -19,7 +19,7 @@ use Rattle.spec_proof_texts.specs.Meaning.{Told, nothing_told, bare_term, term_t
 use Rattle.spec_proof_texts.specs.ReadBack.{IsWritableSort, IsWritableHead, IsWritableArgument, IsWritableLine, AreScriptNames, definitions_in, numbers_in}
 use Rattle.spec_proof_texts.proofs.Lookups.{symbol_found, head_same, tail_same}
 use Rattle.spec_proof_texts.proofs.Room.{IsWithin, no_more}
-use Rattle.spec_proof_texts.proofs.Standing.{Stands, nothing_stands}
+use Rattle.spec_proof_texts.proofs.MadeKnown.{IsKnownAfter, nothing_known}
 use Rattle.spec_proof_texts.proofs.Sizes.{definitions_more}
 use Rattle.spec_proof_texts.proofs.Lexed.{depth_of, AreShallow}
 use Rattle.spec_proof_texts.proofs.EachLine.{known, HasOne, Goes, HasRoom, assume_goes, step_goes, define_goes}
@@ -58,12 +58,12 @@ numbers_more (assumes n a) ls = omega arith
 numbers_more (steps s) ls = omega arith
 
 module _ (limit : Option ℕ) (g : Signature) (asserted : List Term) (own : AreScriptNames g) where
-  line_goes : (told next : Told) (s : Signature) (entries : List NamedClause) (numbers : ℕ) (h : Stands g told s entries numbers) (l : Line) (at : ℕ) → IsLineAfter g asserted told l next → HasRoom limit g asserted own told s entries numbers h l → Goes limit g asserted told next s entries numbers l at
+  line_goes : (told next : Told) (s : Signature) (entries : List NamedClause) (numbers : ℕ) (h : IsKnownAfter g told s entries numbers) (l : Line) (at : ℕ) → IsLineAfter g asserted told l next → HasRoom limit g asserted own told s entries numbers h l → Goes limit g asserted told next s entries numbers l at
   line_goes told next s entries numbers h (defines d) at x room = subst (λ k. Goes limit g asserted told k s entries numbers (defines d) at) (sym x.2) (define_goes limit g asserted own told s entries numbers h d at x.0 x.1 room)
   line_goes told next s entries numbers h (assumes n a) at x room = subst (λ k. Goes limit g asserted told k s entries numbers (assumes n a) at) (sym x.2) (assume_goes limit g asserted own told s entries numbers h n a x.0 at x.1 room)
   line_goes told next s entries numbers h (steps l) at x room = subst (λ k. Goes limit g asserted told k s entries numbers (steps l) at) (sym x.1) (step_goes limit g asserted own told s entries numbers h l at x.0 room)
 
-  good_lines : (told end : Told) (s : Signature) (entries : List NamedClause) (numbers : ℕ) (lines : List Line) (at : ℕ) → Stands g told s entries numbers → AreLinesAfter g asserted told lines end
+  good_lines : (told end : Told) (s : Signature) (entries : List NamedClause) (numbers : ℕ) (lines : List Line) (at : ℕ) → IsKnownAfter g told s entries numbers → AreLinesAfter g asserted told lines end
       → IsWithin limit (length g + (numbers + numbers_in lines) + (length told.terms + definitions_in lines) + 2)
       → HasOne entries ⊎ EndsEmpty lines → AreGood limit (known asserted s entries) (moved_all at (trees_of (map line_tree lines)))
   good_lines told end s entries numbers [] at h right within (inl one) = good_end limit (known asserted s entries) (one.1.0, one.0, one.1.1, one.1.2, one.2)
@@ -72,7 +72,7 @@ module _ (limit : Option ℕ) (g : Signature) (asserted : List Term) (own : AreS
       let next = right.0 in
       let x = line_goes told next s entries numbers h l at right.1 (no_more limit _ _ (omega (arith, definitions_more l ls, numbers_more l ls)) within) in
       let place : ℕ = at + length (printed (line_tree l)) + 1 in
-      let others = good_lines next end x.later_names x.later_entries (numbers + numbers_in (l ∷ [])) ls place x.stands right.2 (no_more limit _ _ (omega (arith, definitions_more l ls, numbers_more l ls, x.more_terms)) within) (onward x ending) in
+      let others = good_lines next end x.later_names x.later_entries (numbers + numbers_in (l ∷ [])) ls place x.made_known right.2 (no_more limit _ _ (omega (arith, definitions_more l ls, numbers_more l ls, x.more_terms)) within) (onward x ending) in
       good_step limit (known asserted s entries) (moved at (line_tree l)) (moved_all place (trees_of (map line_tree ls))) x.command x.reads x.right (subst (λ k. AreGood limit k (moved_all place (trees_of (map line_tree ls)))) {x = known asserted x.later_names x.later_entries} {y = with_command (known asserted s entries) x.command} x.after others)
     where
       later : {next : Told} (x : Goes limit g asserted told next s entries numbers l at) → IsEmptyStep l ⊎ EndsEmpty ls → HasOne x.later_entries ⊎ EndsEmpty ls
@@ -84,7 +84,7 @@ module _ (limit : Option ℕ) (g : Signature) (asserted : List Term) (own : AreS
       onward x (inr e) = later x (sooner_or_later l ls e)
 
   pub all_good : (lines : List Line) (at : ℕ) → AreRightLines g asserted lines → IsWithin limit (length g + numbers_in lines + definitions_in lines + 2) → AreGood limit (known asserted g []) (moved_all at (trees_of (map line_tree lines)))
-  all_good lines at r within = good_lines nothing_told r.end g [] 0 lines at (nothing_stands g own) r.right (no_more limit _ _ (omega arith) within) (inr (record { earlier = r.earlier; step = r.step; last = r.last; empty = r.empty }))
+  all_good lines at r within = good_lines nothing_told r.end g [] 0 lines at (nothing_known g own) r.right (no_more limit _ _ (omega arith) within) (inr (record { earlier = r.earlier; step = r.step; last = r.last; empty = r.empty }))
 
 -- the names that are printed are those of symbols
 module _ (g : Signature) (own : AreScriptNames g) where

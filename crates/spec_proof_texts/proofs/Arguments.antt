@@ -39,17 +39,17 @@ no_rule n h = go (look_up theory n) refl
     go (Some r) e = absurd (h (rw e refl))
 
 -- A function that is a definition without parameters of a term, where there is one.
-abbrev pub StandsFor : Option Known → Option Term → Type 0
-StandsFor (Some (by_definition d)) (Some t) = (d.parameters ≡ []) × (d.term ≡ t)
-StandsFor None None = Unit {0}
-StandsFor _ _ = ⊥
+abbrev pub IsDefinedAs : Option Known → Option Term → Type 0
+IsDefinedAs (Some (by_definition d)) (Some t) = (d.parameters ≡ []) × (d.term ≡ t)
+IsDefinedAs None None = Unit {0}
+IsDefinedAs _ _ = ⊥
 
 -- What a signature knows of terms that have names, after the names of a script.
 pub record Knows (g : Signature) (told : Told) (s : Signature) : Type 0 where
   -- what the script's names are
   pub grown : (n : Name) (k : Known) → known_as g n ≡ Some k → known_as s n ≡ Some k
   -- the terms under their numbers
-  pub terms : (n : ℕ) → StandsFor (known_as s (defined_name n)) (numbered told.terms n)
+  pub terms : (n : ℕ) → IsDefinedAs (known_as s (defined_name n)) (numbered told.terms n)
   -- none has a parameter
   pub whole : (t : Term) → Contains told.terms t → filled [] t ≡ t
 
@@ -119,9 +119,9 @@ module _ (g : Signature) (own : AreScriptNames g) (told : Told) where
 
     defined_applied : (n : ℕ) (t : Term) → numbered told.terms n ≡ Some t → (at : ℕ) → applied s [] at (defined_name n) at [] ≡ Ok t
     unfolding require ◌>>=◌
-    defined_applied n t e at = go (known_as s (defined_name n)) refl (subst (StandsFor (known_as s (defined_name n))) e (knows.terms n))
+    defined_applied n t e at = go (known_as s (defined_name n)) refl (subst (IsDefinedAs (known_as s (defined_name n))) e (knows.terms n))
       where
-        go : (o : Option Known) → known_as s (defined_name n) ≡ o → StandsFor o (Some t) → applied s [] at (defined_name n) at [] ≡ Ok t
+        go : (o : Option Known) → known_as s (defined_name n) ≡ o → IsDefinedAs o (Some t) → applied s [] at (defined_name n) at [] ≡ Ok t
         go None here h = absurd h
         go (Some (declared f)) here h = absurd h
         go (Some (by_definition d)) here h =

@@ -40,7 +40,7 @@ use Rattle.spec_proof_texts.proofs.Arguments.{argument_read, arguments_held, ter
 use Rattle.spec_proof_texts.proofs.Heads.{compound_read}
 use Rattle.spec_proof_texts.proofs.CommandShapes.{defining, parts, sorted_read, assume_read, step_read, bare_step, given_step, full_step, both_step, define_read}
 use Rattle.spec_proof_texts.proofs.Room.{IsWithin, no_more, has_place}
-use Rattle.spec_proof_texts.proofs.Standing.{Stands, with_numbers, numbers_closed, numbers_few, assume_stands, step_stands, definition_stands, new_assume, new_step, new_definition, sort_known, references_read, references_are_symbols}
+use Rattle.spec_proof_texts.proofs.MadeKnown.{IsKnownAfter, with_numbers, numbers_closed, numbers_few, assume_known, step_known, definition_known, new_assume, new_step, new_definition, sort_known, references_read, references_are_symbols}
 
 -- what is known, by the names and the entries up to here
 abbrev pub known : List Term → Signature → List NamedClause → Known
@@ -83,12 +83,12 @@ pub record Goes (limit : Option ℕ) (g : Signature) (asserted : List Term) (tol
   pub reads : command_of limit (known asserted s entries) (moved at (line_tree l)) ≡ Ok command
   pub right : IsRightAfter (known asserted s entries) command.statement
   pub after : known asserted later_names later_entries ≡ with_command (known asserted s entries) command
-  pub stands : Stands g next later_names later_entries (numbers + numbers_in (l ∷ []))
+  pub made_known : IsKnownAfter g next later_names later_entries (numbers + numbers_in (l ∷ []))
   pub kept : (e : NamedClause) → Contains entries e → Contains later_entries e
   pub more_terms : length next.terms ≡ length told.terms + definitions_in (l ∷ [])
   pub empty : (x : StepLine) → l ≡ steps x → x.literals ≡ [] → HasOne later_entries
 
-module _ (limit : Option ℕ) (g : Signature) (asserted : List Term) (own : AreScriptNames g) (told : Told) (s : Signature) (entries : List NamedClause) (numbers : ℕ) (h : Stands g told s entries numbers) where
+module _ (limit : Option ℕ) (g : Signature) (asserted : List Term) (own : AreScriptNames g) (told : Told) (s : Signature) (entries : List NamedClause) (numbers : ℕ) (h : IsKnownAfter g told s entries numbers) where
   abbrev here : Known
   here = known asserted s entries
 
@@ -128,7 +128,7 @@ module _ (limit : Option ℕ) (g : Signature) (asserted : List Term) (own : AreS
         reads = assume_read limit here at _ _ _ (assume_name n) (moved place (argument_tree a)) t (new_assume g told s entries numbers h n d.number) read fits;
         right = d.there;
         after = ap (λ x. known asserted x (entries ++ entry (assume_name n) (t ∷ []) ∷ [])) (sym (append-nil s));
-        stands = subst (Stands g (with_assume told (t ∷ [])) s (entries ++ entry (assume_name n) (t ∷ []) ∷ [])) (omega arith) (assume_stands g told s entries numbers h n a (t ∷ []) d.number);
+        made_known = subst (IsKnownAfter g (with_assume told (t ∷ [])) s (entries ++ entry (assume_name n) (t ∷ []) ∷ [])) (omega arith) (assume_known g told s entries numbers h n a (t ∷ []) d.number);
         kept = λ e c. Contains-append_left entries (entry (assume_name n) (t ∷ []) ∷ []) e c;
         more_terms = omega arith;
         empty = λ x e. absurd cc;
@@ -170,7 +170,7 @@ module _ (limit : Option ℕ) (g : Signature) (asserted : List Term) (own : AreS
         });
         right = right;
         after = ap (λ x. known asserted x (entries ++ entry (step_name n) d.clause ∷ [])) (sym (append-nil s));
-        stands = subst (Stands g (with_step told d.clause) s (entries ++ entry (step_name n) d.clause ∷ [])) (omega arith) (step_stands g told s entries numbers h n l.literals d.clause d.number);
+        made_known = subst (IsKnownAfter g (with_step told d.clause) s (entries ++ entry (step_name n) d.clause ∷ [])) (omega arith) (step_known g told s entries numbers h n l.literals d.clause d.number);
         kept = λ x c. Contains-append_left entries (entry (step_name n) d.clause ∷ []) x c;
         more_terms = omega arith;
         empty = λ x e none. (entry (step_name n) d.clause, Contains-push entries (entry (step_name n) d.clause), nothing_is l.literals d.clause d.literals (ap literals_of e ∙ none));
@@ -209,7 +209,7 @@ module _ (limit : Option ℕ) (g : Signature) (asserted : List Term) (own : AreS
         });
         right = tt;
         after = refl;
-        stands = subst (Stands g (with_definition told t) (s ++ definition x ∷ []) entries) (omega arith) (stood x refl refl refl);
+        made_known = subst (IsKnownAfter g (with_definition told t) (s ++ definition x ∷ []) entries) (omega arith) (then_known x refl refl refl);
         kept = λ y c. c;
         more_terms = omega (arith, length-append told.terms (t ∷ []));
         empty = λ y f. absurd cc;
@@ -227,12 +227,12 @@ module _ (limit : Option ℕ) (g : Signature) (asserted : List Term) (own : AreS
       whole : filled [] t ≡ t
       whole = subst (λ u. filled [] u ≡ u) (sym d.term) (term_whole g own told h.knows.whole l.head l.arguments d.arguments d.told d.takes.takes)
 
-      stood : (x : Definition) → x.name ≡ n → x.parameters ≡ [] → x.term ≡ t → Stands g (with_definition told t) (s ++ definition x ∷ []) entries (numbers + numbers_among l.arguments)
-      stood x e f k = definition_stands g told s entries numbers h l.number l.arguments x t e f k d.number whole args
+      then_known : (x : Definition) → x.name ≡ n → x.parameters ≡ [] → x.term ≡ t → IsKnownAfter g (with_definition told t) (s ++ definition x ∷ []) entries (numbers + numbers_among l.arguments)
+      then_known x e f k = definition_known g told s entries numbers h l.number l.arguments x t e f k d.number whole args
 
       roomy : (x : Definition) → x.name ≡ n → x.parameters ≡ [] → x.term ≡ t → (i : ℕ) → room limit i (s ++ definition x ∷ []) (x.term ∷ []) ≡ Ok tt
       roomy x e f k i =
-          let st = stood x e f k in
+          let st = then_known x e f k in
           has_place limit i (s ++ definition x ∷ []) (x.term ∷ []) st.among (λ u c. subst (Contains st.among) (sym k ∙ only x.term u c) (st.holds.defined_terms t (Contains-push told.terms t))) st.closed
           (no_more limit _ _ (omega (arith, h.count, length-append s (definition x ∷ []))) within)
           (no_more limit _ _ (omega (arith, st.few, length-append told.terms (t ∷ []))) within)

@@ -137,7 +137,7 @@ module _ (g : Signature) (own : AreScriptNames g) (told : Told) (s : Signature) 
   front_form at n true us = refl
   front_form at n false us = refl
 
-  -- a head before its arguments, wherever it stands
+  -- a head before its arguments, wherever it is
   pub compound_read : (w : Setting) (d : DefinitionLine) (ts : List Term) → AreTold g told d.arguments ts → ts ≢ [] → TakesAll g d.head ts → (at : ℕ) → reading w s [] (moved at (term_tree d)) ≡ Ok (plain_reading (of d.head ts))
   unfolding reading
   compound_read w d ts e some takes at = go d.arguments e

@@ -13,7 +13,7 @@ pub mod Known
 pub mod Arguments
 pub mod Heads
 pub mod CommandShapes
-pub mod Standing
+pub mod MadeKnown
 pub mod EachLine
 pub mod Sizes
 pub mod AllLines

@@ -7,11 +7,11 @@ use Rattle.std.proofs.lemmas.List.Elements.{All-contains, All-contains_itself, A
 use Rattle.spec_text.proofs.Members.{first}
 use Rattle.spec_sorts.specs.Terms.{Truth, Term, Terms, app, nil, cons, list_of, terms_of, sort_of}
 use Rattle.spec_sorts.specs.Signatures.{Signature}
-use Rattle.spec_derivations.specs.Derivations.{Inference, «assumption», by_rule, Derivation, conclusion, conclusion_at, inference_at, no_inference, premises_of, IsDerivation, IsDerivedFrom, RestsOn, itself, AssumesAmong}
-use Rattle.spec_derivations.proofs.Spending.{rests_onward}
+use Rattle.spec_derivations.specs.Derivations.{Inference, «assumption», by_rule, Derivation, conclusion, conclusion_at, inference_at, no_inference, premises_of, IsDerivation, IsDerivedFrom, DependsOn, itself, AssumesAmong}
+use Rattle.spec_derivations.proofs.Spending.{depends_onward}
 use Rattle.spec_proof_texts.specs.Lines.{Argument, Reference, StepLine, Line, defines, assumes, steps}
 use Rattle.spec_proof_texts.specs.Meaning.{Told, nothing_told, with_assume, with_step, term_told, clause_told, IsLineAfter, AreLinesAfter, AreRightLines}
-use Rattle.spec_proof_texts.specs.Plans.{Plan, number_of, argument_by, argument_for, definition_lines, reference_for, reference_by, number_or_zero, inference_lines, lines_of, is_compound, IsPrinted, in_clause, as_argument, counted, compounds, counted_inferences, AreRests, ArePrinted, IsPlan}
+use Rattle.spec_proof_texts.specs.Plans.{Plan, number_of, argument_by, argument_for, definition_lines, reference_for, reference_by, number_or_zero, inference_lines, lines_of, is_compound, IsPrinted, in_clause, as_argument, counted, compounds, counted_inferences, IsSupport, ArePrinted, IsPlan}
 use Rattle.spec_proof_texts.specs.Printable.{IsPrintable, ArePrintable, AllConcludeOver}
 use Rattle.spec_proof_texts.proofs.Numbers.{picked, picked_more, picked_same, has_number, has_none, counted_front, number_at_place, compound_at, compounds_length, assumes_of, steps_of, assumes_more, steps_more, inference_number, inferences_front}
 use Rattle.spec_proof_texts.proofs.Told.{in_place_told, all_told, reference_told, premises_told}
@@ -131,9 +131,9 @@ module _ (g : Signature) (terms asserted : List Term) (d : Derivation) (n : ℕ)
       (append_assoc front (t ∷ []) rest ∙ ts) (append_assoc fm (false ∷ []) rm ∙ ms)
       (told ∙ sym (picked_same fm front t as_many)) number
 
-  module _ (over : AllConcludeOver terms d) (right : IsDerivation d) (from : IsDerivedFrom asserted d n) (rests : List Bool) (are_rests : AreRests d n rests) where
+  module _ (over : AllConcludeOver terms d) (right : IsDerivation d) (from : IsDerivedFrom asserted d n) (support : List Bool) (is_support : IsSupport d n support) where
     abbrev refer : ℕ → Reference
-    refer p = reference_for d (counted_inferences 1 1 rests d) p
+    refer p = reference_for d (counted_inferences 1 1 support d) p
 
     -- what is known before the line of an inference
     abbrev told_clauses : List Bool → Derivation → Told
@@ -143,22 +143,22 @@ module _ (g : Signature) (terms asserted : List Term) (d : Derivation) (n : ℕ)
     all_marks = compounds_length terms printed are.as_many
 
     -- a term of a printed clause is known
-    literal_told : (k : Told) (j : ℕ) (x : Inference) (u : Term) → k.terms ≡ picked marks terms → slice_get d j ≡ Some x → RestsOn d n j → Contains (conclusion x) u → term_told g k (name u) ≡ Some u
+    literal_told : (k : Told) (j : ℕ) (x : Inference) (u : Term) → k.terms ≡ picked marks terms → slice_get d j ≡ Some x → DependsOn d n j → Contains (conclusion x) u → term_told g k (name u) ≡ Some u
     literal_told k j x u told at rest u_in =
         let place = ((over j x at).0 u u_in).0 in
         let same : conclusion_at d j ≡ conclusion x = ap conclusion (get_or_from_slice_get d j x no_inference at) in
         argument_told terms [] marks [] k place.0 u all_marks (append-nil terms) (append-nil marks) told place.1 (in_clause j u rest (subst (λ c. Contains c u) (sym same) u_in))
 
     -- a premise of a printed step is known
-    premise_told : (front rest : Derivation) (fm rm : List Bool) (j : ℕ) (p : ℕ) → length fm ≡ length front → front ++ rest ≡ d → fm ++ rm ≡ rests → j ≡ length front → RestsOn d n j → p < j → Contains (premises_of (inference_at d j)) p → clause_told (told_clauses fm front) (refer p) ≡ Some (conclusion_at front p)
+    premise_told : (front rest : Derivation) (fm rm : List Bool) (j : ℕ) (p : ℕ) → length fm ≡ length front → front ++ rest ≡ d → fm ++ rm ≡ support → j ≡ length front → DependsOn d n j → p < j → Contains (premises_of (inference_at d j)) p → clause_told (told_clauses fm front) (refer p) ≡ Some (conclusion_at front p)
     premise_told front rest fm rm j p as_many ds ms place on lt p_in =
         let within : p < length front = omega (arith, lt, place) in
-        let marked : get_or rests p false ≡ true = are_rests.each p (rests_onward d n j p on p_in) in
+        let marked : get_or support p false ≡ true = is_support.each p (depends_onward d n j p on p_in) in
         let here : get_or fm p false ≡ true = sym (front_mark fm rm p (omega (arith, as_many, within))) ∙ ap (λ bs. get_or bs p false) ms ∙ marked in
         let x = inference_at front p in
         let at : slice_get front p ≡ Some x = slice_get-get_or front p no_inference within in
         let same : inference_at d p ≡ x = get_or_from_slice_get d p x no_inference (ap (λ xs. slice_get xs p) (sym ds) ∙ front_get front rest p within ∙ at) in
-        let number : get_or (counted_inferences 1 1 rests d) p None ≡ get_or (counted_inferences 1 1 fm front) p None = (λ i. get_or (counted_inferences 1 1 (sym ms i) (sym ds i)) p None) ∙ inferences_front 1 1 fm rm front rest p as_many (omega (arith, as_many, within)) in
+        let number : get_or (counted_inferences 1 1 support d) p None ≡ get_or (counted_inferences 1 1 fm front) p None = (λ i. get_or (counted_inferences 1 1 (sym ms i) (sym ds i)) p None) ∙ inferences_front 1 1 fm rm front rest p as_many (omega (arith, as_many, within)) in
         (λ i. clause_told (told_clauses fm front) (reference_by (same i) (number_or_zero (number i))))
         ∙ reference_told (told_clauses fm front) fm front (get_or (counted_inferences 1 1 fm front) p None) x refl refl (inference_number 0 0 fm front p x here at)
 
@@ -167,13 +167,13 @@ module _ (g : Signature) (terms asserted : List Term) (d : Derivation) (n : ℕ)
     IsLater xs bs end q = AreLinesAfter g asserted q.0 (inference_lines name refer xs (counted_inferences q.1 q.2 bs xs)) end
 
     -- the line of a printed inference
-    inference : (front rest : Derivation) (fm rm : List Bool) (x : Inference) (h t : ℕ) (xs : Derivation) (bs : List Bool) (end : Told) → length fm ≡ length front → front ++ x ∷ rest ≡ d → fm ++ true ∷ rm ≡ rests → h ≡ length (assumes_of fm front) → t ≡ length (steps_of fm front)
+    inference : (front rest : Derivation) (fm rm : List Bool) (x : Inference) (h t : ℕ) (xs : Derivation) (bs : List Bool) (end : Told) → length fm ≡ length front → front ++ x ∷ rest ≡ d → fm ++ true ∷ rm ≡ support → h ≡ length (assumes_of fm front) → t ≡ length (steps_of fm front)
         → AreLinesAfter g asserted (told_clauses (fm ++ true ∷ []) (front ++ x ∷ [])) (inference_lines name refer xs (counted_inferences (suc (length (assumes_of (fm ++ true ∷ []) (front ++ x ∷ [])))) (suc (length (steps_of (fm ++ true ∷ []) (front ++ x ∷ [])))) bs xs)) end
         → AreLinesAfter g asserted (told_clauses fm front) (inference_lines name refer (x ∷ xs) (counted_inferences (suc h) (suc t) (true ∷ bs) (x ∷ xs))) end
     inference front rest fm rm («assumption» u) h t xs bs end as_many ds ms h_is t_is later =
         let j = length front in
         let at : slice_get d j ≡ Some («assumption» u) = ap (λ ys. slice_get ys j) (sym ds) ∙ seam front rest («assumption» u) in
-        let on : RestsOn d n j = are_rests.only j (ap (λ cs. get_or cs j false) (sym ms) ∙ ap (λ i. get_or (fm ++ true ∷ rm) i false) (sym as_many) ∙ seam_mark fm rm true) in
+        let on : DependsOn d n j = is_support.only j (ap (λ cs. get_or cs j false) (sym ms) ∙ ap (λ i. get_or (fm ++ true ∷ rm) i false) (sym as_many) ∙ seam_mark fm rm true) in
         let there : Contains asserted u = subst (AssumesAmong asserted) (get_or_from_slice_get d j («assumption» u) no_inference at) (from.assumptions j on) in
         let more_a = assumes_more fm front true («assumption» u) as_many in
         let more_s = steps_more fm front true («assumption» u) as_many in
@@ -188,7 +188,7 @@ module _ (g : Signature) (terms asserted : List Term) (d : Derivation) (n : ℕ)
         let j = length front in
         let at : slice_get d j ≡ Some (by_rule r ps given c) = ap (λ ys. slice_get ys j) (sym ds) ∙ seam front rest (by_rule r ps given c) in
         let here : inference_at d j ≡ by_rule r ps given c = get_or_from_slice_get d j (by_rule r ps given c) no_inference at in
-        let on : RestsOn d n j = are_rests.only j (ap (λ cs. get_or cs j false) (sym ms) ∙ ap (λ i. get_or (fm ++ true ∷ rm) i false) (sym as_many) ∙ seam_mark fm rm true) in
+        let on : DependsOn d n j = is_support.only j (ap (λ cs. get_or cs j false) (sym ms) ∙ ap (λ i. get_or (fm ++ true ∷ rm) i false) (sym as_many) ∙ seam_mark fm rm true) in
         let follows = right front (by_rule r ps given c) rest (sym ds) in
         let more_a = assumes_more fm front true (by_rule r ps given c) as_many in
         let more_s = steps_more fm front true (by_rule r ps given c) as_many in
@@ -213,7 +213,7 @@ module _ (g : Signature) (terms asserted : List Term) (d : Derivation) (n : ℕ)
         )
 
     -- all inferences from a place on
-    inferences : (front rest : Derivation) (fm rm : List Bool) (h t : ℕ) → length fm ≡ length front → length rm ≤ length rest → front ++ rest ≡ d → fm ++ rm ≡ rests → h ≡ length (assumes_of fm front) → t ≡ length (steps_of fm front) → (end : Told) × AreLinesAfter g asserted (told_clauses fm front) (inference_lines name refer rest (counted_inferences (suc h) (suc t) rm rest)) end
+    inferences : (front rest : Derivation) (fm rm : List Bool) (h t : ℕ) → length fm ≡ length front → length rm ≤ length rest → front ++ rest ≡ d → fm ++ rm ≡ support → h ≡ length (assumes_of fm front) → t ≡ length (steps_of fm front) → (end : Told) × AreLinesAfter g asserted (told_clauses fm front) (inference_lines name refer rest (counted_inferences (suc h) (suc t) rm rest)) end
     inferences front [] fm [] h t as_many e ds ms h_is t_is = (told_clauses fm front, refl)
     inferences front (x ∷ rest) fm [] h t as_many e ds ms h_is t_is = (told_clauses fm front, refl)
     inferences front [] fm (b ∷ rm) h t as_many e ds ms h_is t_is = absurd (omega (arith, e))
@@ -263,15 +263,15 @@ by_numbers g terms asserted d p q e f h = subst (λ ns. AreRightLines g asserted
 pub planned : (g : Signature) (terms asserted : List Term) (d : Derivation) (n : ℕ) (plan : Plan) → ArePrintable g terms d n → AllConcludeOver terms d → IsDerivation d → IsDerivedFrom asserted d n → conclusion_at d n ≡ [] → IsPlan terms d n plan → AreRightLines g asserted (lines_of terms d plan)
 planned g terms asserted d n plan printable over right from empty p =
     let marks : List Bool = compounds terms p.printed in
-    let q : Plan = record { terms = counted 1 marks; inferences = counted_inferences 1 1 p.rests d } in
+    let q : Plan = record { terms = counted 1 marks; inferences = counted_inferences 1 1 p.support d } in
     let name : Term → Argument = argument_for terms (counted 1 marks) in
-    let refer : ℕ → Reference = reference_for d (counted_inferences 1 1 p.rests d) in
+    let refer : ℕ → Reference = reference_for d (counted_inferences 1 1 p.support d) in
     let defs = definitions g terms asserted d n printable p.printed p.are_printed [] terms [] marks [] 0 refl (compounds_length terms p.printed p.are_printed.as_many) refl refl refl refl in
-    let infs = inferences g terms asserted d n printable p.printed p.are_printed over right from p.rests p.are_rests [] d [] p.rests 0 0 refl (omega (arith, p.are_rests.up_to, from.there)) refl refl refl refl in
-    let last = behind_lines (definition_lines name terms (counted 1 marks)) _ (ends_empty name refer 1 1 d p.rests n p.are_rests.up_to from.there (p.are_rests.each n (itself n)) empty) in
+    let infs = inferences g terms asserted d n printable p.printed p.are_printed over right from p.support p.is_support [] d [] p.support 0 0 refl (omega (arith, p.is_support.up_to, from.there)) refl refl refl refl in
+    let last = behind_lines (definition_lines name terms (counted 1 marks)) _ (ends_empty name refer 1 1 d p.support n p.is_support.up_to from.there (p.is_support.each n (itself n)) empty) in
     by_numbers g terms asserted d plan q p.definitions p.inferences (record {
       end = infs.0;
-      right = lines_append g asserted (definition_lines name terms (counted 1 marks)) (inference_lines name refer d (counted_inferences 1 1 p.rests d)) nothing_told (told_terms (picked marks terms)) infs.0 defs infs.1;
+      right = lines_append g asserted (definition_lines name terms (counted 1 marks)) (inference_lines name refer d (counted_inferences 1 1 p.support d)) nothing_told (told_terms (picked marks terms)) infs.0 defs infs.1;
       earlier = last.earlier;
       step = last.step;
       last = last.last;

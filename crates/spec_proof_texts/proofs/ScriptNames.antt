@@ -70,16 +70,16 @@ tested R true f g = g refl
 tested R false f g = tt
 
 -- A word that may be a name, and what follows it, in trees of so many bytes.
-record NameStands (size : ℕ) (x : Word × Trees) : Type 0 where
+record NameFits (size : ℕ) (x : Word × Trees) : Type 0 where
   word : IsWord x.0.kind x.0.bytes
   name : is_name x.0.kind ≡ true
   rest : weight_all x.1 ≤ size
 
-name_stands : (ts : Trees) → HaveWords ts → Holds (NameStands (weight_all ts)) (first_name ts)
+name_fits : (ts : Trees) → HaveWords ts → Holds (NameFits (weight_all ts)) (first_name ts)
 unfolding first_name
-name_stands none h = tt
-name_stands (more (list at us end) ts) h = tt
-name_stands (more (atom at k n) ts) h = tested (NameStands (length n + weight_all ts)) (is_name k) _ (λ e. record { word = h.0; name = e; rest = omega arith })
+name_fits none h = tt
+name_fits (more (list at us end) ts) h = tt
+name_fits (more (atom at k n) ts) h = tested (NameFits (length n + weight_all ts)) (is_name k) _ (λ e. record { word = h.0; name = e; rest = omega arith })
 
 -- a list, or a tree, and what follows it, and an only tree
 list_light : (ts : Trees) → Holds (λ (x : Trees × Trees). weight_all x.1 ≤ weight_all ts) (first_list ts)
@@ -133,7 +133,7 @@ info_prints size us = in_turn (Prints size) (first_word us) _ λ key. tested (Pr
 sort_prints : (us : Trees) → HaveWords us → Holds (Prints (weight_all us + 5)) (declare_sort us)
 unfolding declare_sort
 sort_prints us h =
-    holds_in_turn (NameStands (weight_all us)) (Prints (weight_all us + 5)) (first_name us) _ (name_stands us h) λ x k.
+    holds_in_turn (NameFits (weight_all us)) (Prints (weight_all us + 5)) (first_name us) _ (name_fits us h) λ x k.
     in_turn (Prints (weight_all us + 5)) (first_word x.1) _ λ n. tested (Prints (weight_all us + 5)) (is_numeral n.0.kind) _ λ is_number. tested (Prints (weight_all us + 5)) (bytes_eq n.0.bytes (codes "0")) _ λ is_zero. in_turn (Prints (weight_all us + 5)) (no_tree n.1) _ λ end. ((k.word, k.name), omega arith)
 
 defined_sort_prints : (us : Trees) → Holds (Prints (weight_all us + 5)) (define_sort us)
@@ -144,17 +144,17 @@ defined_sort_prints us =
 constant_prints : (us : Trees) → HaveWords us → Holds (Prints (weight_all us + 5)) (declare_const us)
 unfolding declare_const
 constant_prints us h =
-    holds_in_turn (NameStands (weight_all us)) (Prints (weight_all us + 5)) (first_name us) _ (name_stands us h) λ x k. in_turn (Prints (weight_all us + 5)) (only_tree x.1) _ λ sort. ((k.word, k.name), omega arith)
+    holds_in_turn (NameFits (weight_all us)) (Prints (weight_all us + 5)) (first_name us) _ (name_fits us h) λ x k. in_turn (Prints (weight_all us + 5)) (only_tree x.1) _ λ sort. ((k.word, k.name), omega arith)
 
 function_prints : (us : Trees) → HaveWords us → Holds (Prints (weight_all us + 5)) (declare_fun us)
 unfolding declare_fun
 function_prints us h =
-    holds_in_turn (NameStands (weight_all us)) (Prints (weight_all us + 5)) (first_name us) _ (name_stands us h) λ x k. in_turn (Prints (weight_all us + 5)) (first_list x.1) _ λ ps. in_turn (Prints (weight_all us + 5)) (only_tree ps.1) _ λ sort. ((k.word, k.name), omega arith)
+    holds_in_turn (NameFits (weight_all us)) (Prints (weight_all us + 5)) (first_name us) _ (name_fits us h) λ x k. in_turn (Prints (weight_all us + 5)) (first_list x.1) _ λ ps. in_turn (Prints (weight_all us + 5)) (only_tree ps.1) _ λ sort. ((k.word, k.name), omega arith)
 
 definition_prints : (us : Trees) → HaveWords us → Holds (Prints (weight_all us + 5)) (define_fun us)
 unfolding define_fun
 definition_prints us h =
-    holds_in_turn (NameStands (weight_all us)) (Prints (weight_all us + 5)) (first_name us) _ (name_stands us h) λ x k.
+    holds_in_turn (NameFits (weight_all us)) (Prints (weight_all us + 5)) (first_name us) _ (name_fits us h) λ x k.
     holds_in_turn (λ (y : Trees × Trees). weight_all y.1 ≤ weight_all x.1) (Prints (weight_all us + 5)) (first_list x.1) _ (list_light x.1) λ ps a.
     tested (Prints (weight_all us + 5)) (are_named ps.0) _ λ named.
     holds_in_turn (λ (y : Tree × Trees). weight_all y.1 ≤ weight_all ps.1) (Prints (weight_all us + 5)) (first_tree ps.1) _ (tree_light ps.1) λ sort b.

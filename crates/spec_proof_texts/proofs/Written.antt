@@ -31,7 +31,7 @@ units_back m n d g p e f some =
 no_rest : (d g p : ℕ) → g * d ≡ p → p % d ≡ 0
 no_rest d g p f = ap (λ x. x % d) (sym f) ∙ mul-mod_left g d
 
--- where a lower power leaves no rest, the number ends with 0
+-- where a lower power leaves no remainder, the number ends with 0
 too_early : (m n d g k j : ℕ) → g * n ≡ m → g * d ≡ 10 ^ k → 0 < d → j < k → 10 ^ j % d ≡ 0 → m % 10 ≡ 0
 too_early m n d g k j e f some lt rest =
     let c : ℕ = 10 ^ j / d in
@@ -62,7 +62,7 @@ least (suc n) i d k low high early here = go (10 ^ i % d == 0) refl (λ lt. leas
       | inr differ ↦ on (grind (arith, low, differ))
     ]
 
--- the last digits of a number write its rest
+-- the last digits of a number write its remainder
 number_last : (k a m : ℕ) → number_after a (last_digits k m) ≡ a * 10 ^ k + m % 10 ^ k
 number_last zero a m = omega (arith, mod-lt m {m = 1} (omega arith))
 number_last (suc k) a m =

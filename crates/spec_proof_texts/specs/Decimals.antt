@@ -15,8 +15,8 @@ abbrev pub last_digits : ℕ → ℕ → List ℕ
 last_digits zero n = []
 last_digits (suc k) n = last_digits k (n / 10) ++ (48 + n % 10) ∷ []
 
--- the least number of places after the point, of those from one on, at which a denominator leaves no rest; in at most
--- so many steps
+-- the least number of places after the point, of those from one on, at which a denominator leaves no remainder; in at
+-- most so many steps
 abbrev pub places_from : ℕ → ℕ → ℕ → ℕ
 places_from zero k d = k
 places_from (suc n) k d = if 10 ^ k % d == 0 then k else places_from n (suc k) d
@@ -48,8 +48,8 @@ abbrev pub is_below_zero : ℤ → Bool
 is_below_zero (pos n) = false
 is_below_zero (negsuc n) = true
 
--- the number can be written with a point, if need be: it is not below 0, leaves no rest at its last place, and is there
--- within the limit on numbers
+-- the number can be written with a point, if need be: it is not below 0, leaves no remainder at its last place, and is
+-- there within the limit on numbers
 unfoldable pub has_decimal : Fraction → Bool
 has_decimal q = not (is_below_zero q.num) && (10 ^ places q % q.den == 0 && nat_lt (in_last_place q) (2 ^ 127))
 

@@ -43,7 +43,7 @@ abbrev pub refutation_told : Told
 refutation_told = record { terms = negated p ∷ []; assumes = (p ∷ []) ∷ (negated p ∷ []) ∷ []; steps = [] ∷ [] }
 
 -- what a search may have found: the disjunction of p and q, which `q p` stands for here, is opened, and something is
--- stated that nothing rests on
+-- stated that nothing depends on
 abbrev pub q_p : Term
 q_p = constant_term (constant (codes "q p") Truth)
 
@@ -62,7 +62,7 @@ derivation =
     by_rule rules.Or (2 ∷ []) none (p ∷ q_p ∷ []) ∷
     by_rule rules.Weakening (4 ∷ []) none (p ∷ q_p ∷ of True [] ∷ []) ∷ []
 
--- the plan of the last but for the one that nothing rests on
+-- the plan of the last but for the one that nothing depends on
 abbrev pub plan : Plan
 plan = record {
   terms = counted 1 (false ∷ false ∷ true ∷ true ∷ false ∷ false ∷ true ∷ []);

@@ -1,5 +1,5 @@
 -- Which lines a derivation has: a definition for each term with arguments that they need, and each inference that the
--- last one rests on. Source: Alethe specification, proofs as lists of commands; where definitions stand, and the
+-- last one depends on. Source: Alethe specification, proofs as lists of commands; where definitions are, and the
 -- numbers, are own.
 use Rattle.std.specs.Prelude.{◌≡◌, ℕ, suc, ◌+◌, Bool, true, false, ◌&&◌, List, [], ◌∷◌, ◌++◌, length, map, Option, Some}
 use Rattle.std.specs.Prelude.{None, Contains, get_or, if◌then◌else◌}
@@ -7,7 +7,7 @@ use Rattle.std.specs.List.{slice_get}
 use Rattle.spec_sorts.specs.Terms.{True, Literal, Apply, Term, app, nil, cons, list_of, sort_of, same_term}
 use Rattle.spec_sorts.specs.Subsets.{arguments_of}
 use Rattle.spec_derivations.specs.Derivations.{Inference, «assumption», by_rule, Derivation, conclusion_at}
-use Rattle.spec_derivations.specs.Derivations.{inference_at, RestsOn}
+use Rattle.spec_derivations.specs.Derivations.{inference_at, DependsOn}
 use Rattle.spec_proof_texts.specs.Lines.{Argument, truth, number, symbol, defined, Reference, assumed, stepped, Line}
 use Rattle.spec_proof_texts.specs.Lines.{defines, assumes, steps}
 
@@ -24,7 +24,7 @@ abbrev pub number_of : List Term → List (Option ℕ) → Term → Option ℕ
 number_of (t ∷ ts) (n ∷ ns) u = if same_term t u then n else number_of ts ns u
 number_of _ _ u = None
 
--- a term without a number is in place; no other head than these stands without arguments
+-- a term without a number is in place; no other head than these comes without arguments
 abbrev pub in_place : Term → Argument
 in_place (app True ts) = truth true
 in_place (app (Literal q) ts) = number q
@@ -88,9 +88,9 @@ abbrev pub is_compound : Term → Bool
 is_compound (app h nil) = false
 is_compound (app h (cons t ts)) = true
 
--- The term is printed for an inference: in a clause that this rests on, or as an argument of such a term.
+-- The term is printed for an inference: in a clause that this depends on, or as an argument of such a term.
 pub data IsPrinted (d : Derivation) (n : ℕ) : Term → Type 0 where
-  in_clause : (m : ℕ) (t : Term) → RestsOn d n m → Contains (conclusion_at d m) t → IsPrinted d n t
+  in_clause : (m : ℕ) (t : Term) → DependsOn d n m → Contains (conclusion_at d m) t → IsPrinted d n t
   as_argument : (t u : Term) → IsPrinted d n t → Contains (arguments_of t) u → IsPrinted d n u
 
 -- numbers for what is marked, one after the other
@@ -111,14 +111,14 @@ counted_inferences h t (true ∷ bs) (by_rule r ps given c ∷ xs) = Some t ∷ 
 counted_inferences h t (false ∷ bs) (x ∷ xs) = None ∷ counted_inferences h t bs xs
 counted_inferences h t _ _ = []
 
--- The marks are of the inferences that one rests on, up to that one.
-pub record AreRests (d : Derivation) (n : ℕ) (marks : List Bool) : Type 0 where
+-- The marks are of the inferences that one depends on, up to that one.
+pub record IsSupport (d : Derivation) (n : ℕ) (marks : List Bool) : Type 0 where
   -- there is one for each up to it
   pub up_to : length marks ≡ n + 1
   -- each of them is marked
-  pub each : (m : ℕ) → RestsOn d n m → get_or marks m false ≡ true
+  pub each : (m : ℕ) → DependsOn d n m → get_or marks m false ≡ true
   -- and nothing else
-  pub only : (m : ℕ) → get_or marks m false ≡ true → RestsOn d n m
+  pub only : (m : ℕ) → get_or marks m false ≡ true → DependsOn d n m
 
 -- The marks are of the terms that are printed for an inference.
 pub record ArePrinted (terms : List Term) (d : Derivation) (n : ℕ) (marks : List Bool) : Type 0 where
@@ -129,14 +129,14 @@ pub record ArePrinted (terms : List Term) (d : Derivation) (n : ℕ) (marks : Li
   -- and nothing else
   pub only : (k : ℕ) (t : Term) → slice_get terms k ≡ Some t → get_or marks k false ≡ true → IsPrinted d n t
 
--- The plan of an inference: what it rests on is printed, the terms with arguments that this needs are defined, and
+-- The plan of an inference: what it depends on is printed, the terms with arguments that this needs are defined, and
 -- nothing else; numbers begin with 1.
 pub record IsPlan (terms : List Term) (d : Derivation) (n : ℕ) (plan : Plan) : Type 0 where
   -- which inferences are printed
-  pub rests : List Bool
-  pub are_rests : AreRests d n rests
+  pub support : List Bool
+  pub is_support : IsSupport d n support
   -- their numbers
-  pub inferences : plan.inferences ≡ counted_inferences 1 1 rests d
+  pub inferences : plan.inferences ≡ counted_inferences 1 1 support d
   -- which terms are printed
   pub printed : List Bool
   pub are_printed : ArePrinted terms d n printed

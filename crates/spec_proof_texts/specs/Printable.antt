@@ -24,7 +24,7 @@ pub record IsPrintable (g : Signature) (t : Term) : Type 0 where
 
 -- Terms by their places, of which those can be printed that an inference of a derivation needs.
 pub record ArePrintable (g : Signature) (terms : List Term) (d : Derivation) (n : ℕ) : Type 0 where
-  -- no term stands twice
+  -- no term occurs twice
   pub apart : (i j : ℕ) (t : Term) → slice_get terms i ≡ Some t → slice_get terms j ≡ Some t → i ≡ j
   -- the arguments of each are before it
   pub before : (k : ℕ) (t u : Term) → slice_get terms k ≡ Some t → Contains (arguments_of t) u → (j : ℕ) × (j < k)
@@ -51,7 +51,7 @@ abbrev pub HasText : Head → Type 0
 HasText (Literal q) = is_decimal q ≡ true
 HasText h = Unit {0}
 
--- A term whose head, beside taking its arguments, can be read before them: what is read has to be linear, and its
+-- A term whose head, besides taking its arguments, can be read before them: what is read has to be linear, and its
 -- numbers decimals.
 pub record IsReadable (t : Term) : Type 0 where
   -- the head has a text

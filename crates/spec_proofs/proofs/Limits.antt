@@ -16,7 +16,7 @@ all_commands false end xs ts (rest, trees, ends) = trees.split ∙ ap (λ ys. sp
 all_commands true end xs ts (at, inner, rest, is, trees, ends) = go ends
   where
     go : EndsList end rest complete → AreAllCommands true xs ts
-    go (inl (close, after, stands, nothing)) = (at, close, is ∙ ap (λ ys. (at, opens) ∷ ys) (trees.split ∙ ap (λ ys. spelled_all ts ++ ys) (stands ∙ ap (λ ys. (close, closes) ∷ ys) nothing)))
+    go (inl (close, after, follows_after, nothing)) = (at, close, is ∙ ap (λ ys. (at, opens) ∷ ys) (trees.split ∙ ap (λ ys. spelled_all ts ++ ys) (follows_after ∙ ap (λ ys. (close, closes) ∷ ys) nothing)))
     go (inr (f, breaks, same)) = cc
 
 -- a text that is no longer than it may be, and is read as commands and nothing else, is these commands

@@ -14,9 +14,9 @@ use Rattle.spec_commands.specs.Checks.{asked}
 use Rattle.spec_checking.specs.Examples.{the_check, known}
 use Rattle.spec_checking.specs.OnLiterals.{proofs_on_literals}
 use Rattle.spec_checking.proofs.Verdicts.{units_resolve}
-use Rattle.spec_derivations.specs.Derivations.{«assumption», by_rule, Derivation, conclusion_at, premises_of, inference_at, FollowsFrom, IsDerivation, RestsOn, itself, by_premise, AssumesAmong, IsDerivedFrom}
+use Rattle.spec_derivations.specs.Derivations.{«assumption», by_rule, Derivation, conclusion_at, premises_of, inference_at, FollowsFrom, IsDerivation, DependsOn, itself, by_premise, AssumesAmong, IsDerivedFrom}
 use Rattle.spec_proof_texts.specs.Lines.{proof_text}
-use Rattle.spec_proof_texts.specs.Plans.{Plan, lines_of, counted, counted_inferences, IsPrinted, in_clause, as_argument, AreRests, IsPlan}
+use Rattle.spec_proof_texts.specs.Plans.{Plan, lines_of, counted, counted_inferences, IsPrinted, in_clause, as_argument, IsSupport, IsPlan}
 use Rattle.spec_proof_texts.specs.Printable.{IsPrintable, ArePrintable, ConcludesOver, HasGiven, AllConcludeOver}
 use Rattle.spec_proof_texts.specs.Examples.{refutation}
 use Rattle.spec_proof_texts.proofs.Refutation.{found}
@@ -61,10 +61,10 @@ before (suc (suc k)) t u e h = cc
 abbrev IsTerm : Term → Type 0
 IsTerm t = (p ≡ t) ⊎ (negated p ≡ t)
 
--- the empty clause rests on all three
-rests_low : (n m : ℕ) → n < 3 → RestsOn derivation n m → m < 3
-rests_low n m l (itself k) = l
-rests_low n m l (by_premise a b k h r) = rests_low b k (premise a b l h) r
+-- the empty clause depends on all three
+depends_low : (n m : ℕ) → n < 3 → DependsOn derivation n m → m < 3
+depends_low n m l (itself k) = l
+depends_low n m l (by_premise a b k h r) = depends_low b k (premise a b l h) r
   where
     few : (b : ℕ) → Contains (0 ∷ 1 ∷ []) b → b < 3
     few b c = All-contains (λ x. x < 3) (0 ∷ 1 ∷ []) b (All-cons (λ x. x < 3) 0 (1 ∷ []) (omega arith) (All-cons (λ x. x < 3) 1 [] (omega arith) (All-nil (λ x. x < 3)))) c
@@ -75,11 +75,11 @@ rests_low n m l (by_premise a b k h r) = rests_low b k (premise a b l h) r
     premise (suc (suc zero)) b l h = few b h
     premise (suc (suc (suc a))) b l h = absurd (omega (arith, l))
 
-rests : (m : ℕ) → m < 3 → RestsOn derivation 2 m
-rests zero l = by_premise 2 0 0 (0, omega arith, refl) (itself 0)
-rests (suc zero) l = by_premise 2 1 1 (1, omega arith, refl) (itself 1)
-rests (suc (suc zero)) l = itself 2
-rests (suc (suc (suc m))) l = absurd (omega (arith, l))
+support : (m : ℕ) → m < 3 → DependsOn derivation 2 m
+support zero l = by_premise 2 0 0 (0, omega arith, refl) (itself 0)
+support (suc zero) l = by_premise 2 1 1 (1, omega arith, refl) (itself 1)
+support (suc (suc zero)) l = itself 2
+support (suc (suc (suc m))) l = absurd (omega (arith, l))
 
 -- what is printed is one of the terms
 clause_term : (m : ℕ) (t : Term) → m < 3 → Contains (conclusion_at derivation m) t → IsTerm t
@@ -93,7 +93,7 @@ argument_term t u (inl e) h = absurd (none u (subst (λ x. Contains (arguments_o
 argument_term t u (inr e) h = inl (only p u (subst (λ x. Contains (arguments_of x) u) (sym e) h))
 
 printed_term : (t : Term) → IsPrinted derivation 2 t → IsTerm t
-printed_term t (in_clause m u rests h) = clause_term m u (rests_low 2 m (omega arith) rests) h
+printed_term t (in_clause m u support h) = clause_term m u (depends_low 2 m (omega arith) support) h
 printed_term t (as_argument u v of h) = argument_term u v (printed_term u of) h
 
 p_printable : IsPrintable known.scope p
@@ -154,8 +154,8 @@ marks_low (suc zero) e = omega arith
 marks_low (suc (suc zero)) e = omega arith
 marks_low (suc (suc (suc m))) e = cc
 
-are_rests : AreRests derivation 2 all
-are_rests = record { up_to = refl; each = λ m r. marked m (rests_low 2 m (omega arith) r); only = λ m e. rests m (marks_low m e) }
+is_support : IsSupport derivation 2 all
+is_support = record { up_to = refl; each = λ m r. marked m (depends_low 2 m (omega arith) r); only = λ m e. support m (marks_low m e) }
 
 -- both terms are printed
 each_printed : (k : ℕ) (t : Term) → slice_get terms k ≡ Some t → get_or (true ∷ true ∷ []) k false ≡ true
@@ -164,14 +164,14 @@ each_printed (suc zero) t e = refl
 each_printed (suc (suc k)) t e = cc
 
 only_printed : (k : ℕ) (t : Term) → slice_get terms k ≡ Some t → get_or (true ∷ true ∷ []) k false ≡ true → IsPrinted derivation 2 t
-only_printed zero t e m = let is : p ≡ t = cc in in_clause 0 t (rests 0 (omega arith)) (subst (λ x. Contains (p ∷ []) x) is (first p []))
-only_printed (suc zero) t e m = let is : negated p ≡ t = cc in in_clause 1 t (rests 1 (omega arith)) (subst (λ x. Contains (negated p ∷ []) x) is (first (negated p) []))
+only_printed zero t e m = let is : p ≡ t = cc in in_clause 0 t (support 0 (omega arith)) (subst (λ x. Contains (p ∷ []) x) is (first p []))
+only_printed (suc zero) t e m = let is : negated p ≡ t = cc in in_clause 1 t (support 1 (omega arith)) (subst (λ x. Contains (negated p ∷ []) x) is (first (negated p) []))
 only_printed (suc (suc k)) t e m = cc
 
 planned : IsPlan terms derivation 2 plan
 planned = record {
-  rests = all;
-  are_rests = are_rests;
+  support = all;
+  is_support = is_support;
   inferences = refl;
   printed = true ∷ true ∷ [];
   are_printed = record { as_many = refl; each = λ k t e printed. each_printed k t e; only = only_printed };
@@ -191,7 +191,7 @@ unfolding proofs_on_literals
 are_asserted = refl
 
 derived : IsDerivedFrom (terms_asserted (asked the_check)) derivation 2
-derived = subst (λ ts. IsDerivedFrom ts derivation 2) are_asserted (record { there = omega arith; assumptions = λ m r. among m (rests_low 2 m (omega arith) r) })
+derived = subst (λ ts. IsDerivedFrom ts derivation 2) are_asserted (record { there = omega arith; assumptions = λ m r. among m (depends_low 2 m (omega arith) r) })
 
 pub shown : IsProofOf the_check (proof_text refutation)
 shown = record {

@@ -11,7 +11,7 @@ use Rattle.spec_text.specs.Readings.{depth, AreTrees, StopsAt, EndsTrees, kept, 
 use Rattle.spec_text.proofs.Stopping.{stop_of}
 use Rattle.spec_commands.specs.Stack.{Stack, empty_stack}
 use Rattle.spec_sessions.specs.Evidence.{Limits}
-use Rattle.spec_sessions.specs.Responses.{Mode, Response, success, not_supported, answered, said, ended, rejected, Answered, Answers, response_text, is_rejected, is_end}
+use Rattle.spec_sessions.specs.Responses.{Mode, Response, success, not_supported, answered, echoed, ended, rejected, Answered, Answers, response_text, is_rejected, is_end}
 use Rattle.spec_sessions.specs.Transcripts.{Follows, Runs, Begins, answers_text, closing_by, closing, closing_text, is_fault, IsTranscript, IsBegun}
 
 -- no tree comes first
@@ -30,7 +30,7 @@ follows_on : (r : Response) (P : List Answered → Type 0) (given : List Answere
 follows_on success P given e h = h
 follows_on not_supported P given e h = h
 follows_on (answered f) P given e h = h
-follows_on (said s) P given e h = h
+follows_on (echoed s) P given e h = h
 follows_on ended P given e h = cc
 follows_on (rejected f) P given e h = h
 
@@ -39,7 +39,7 @@ follows_none : (r : Response) (P : List Answered → Type 0) → is_end r ≡ tr
 follows_none success P e = cc
 follows_none not_supported P e = cc
 follows_none (answered f) P e = cc
-follows_none (said s) P e = cc
+follows_none (echoed s) P e = cc
 follows_none ended P e = refl
 follows_none (rejected f) P e = cc
 
@@ -49,7 +49,7 @@ unfolding Begins
 follows_nothing success limits s ts = tt
 follows_nothing not_supported limits s ts = tt
 follows_nothing (answered f) limits s ts = tt
-follows_nothing (said text) limits s ts = tt
+follows_nothing (echoed text) limits s ts = tt
 follows_nothing ended limits s ts = refl
 follows_nothing (rejected f) limits s ts = tt
 
@@ -58,7 +58,7 @@ follows_weaker : (r : Response) (P Q : List Answered → Type 0) (given : List A
 follows_weaker success P Q given f h = f h
 follows_weaker not_supported P Q given f h = f h
 follows_weaker (answered x) P Q given f h = f h
-follows_weaker (said s) P Q given f h = f h
+follows_weaker (echoed s) P Q given f h = f h
 follows_weaker ended P Q given f h = h
 follows_weaker (rejected x) P Q given f h = f h
 

@@ -14,14 +14,14 @@ use Rattle.spec_commands.specs.Examples.{lines}
 use Rattle.spec_models.specs.Values.{numeral}
 use Rattle.spec_simplex.specs.Overflows.{IsOverflow}
 use Rattle.spec_sessions.specs.Evidence.{Limits, Kept, Found, proof, overflowed, out_of_pivots}
-use Rattle.spec_sessions.specs.Responses.{certify, success, not_supported, answered, said, ended, rejected, Answered}
+use Rattle.spec_sessions.specs.Responses.{certify, success, not_supported, answered, echoed, ended, rejected, Answered}
 use Rattle.spec_sessions.specs.Responses.{text_for}
 
 -- what is meant by default
 abbrev pub limits : Limits
 limits = record { conflicts = 1000000; pivots = 10000000; terms = term_limit }
 
--- what was found at the next check; the empty text where nothing is said of it
+-- what was found at the next check; the empty text where nothing is stated of it
 abbrev pub next_found : List Found → Found
 next_found [] = proof []
 next_found (f ∷ fs) = f
@@ -38,7 +38,7 @@ answers_after unsupported s fs rest = record { response = not_supported; stack =
 answers_after (check place assumptions) s fs rest =
     let c : Check = record { stack = s; assumptions = assumptions } in
     record { response = answered (record { check = c; found = next_found fs }); stack = s } ∷ rest (later_found fs)
-answers_after (say text) s fs rest = record { response = said text; stack = s } ∷ rest fs
+answers_after (say text) s fs rest = record { response = echoed text; stack = s } ∷ rest fs
 answers_after leave s fs rest = record { response = ended; stack = s } ∷ []
 
 -- what a command is answered, and what those after it are
@@ -80,7 +80,7 @@ checks_written = lines (
     codes ")" ∷
     codes "success" ∷ [])
 
--- commands that are refused, and what is taken beside them
+-- commands that are refused, and what is taken besides them
 abbrev pub refusals : List ℕ
 refusals = lines (
     codes "(set-option :print-success false)" ∷

@@ -11,8 +11,8 @@ use Rattle.spec_proof_texts.specs.Printable.{ArePrintable, AllConcludeOver}
 
 -- The text is the proof of an empty clause that is derived from what the check asks about: each term with arguments
 -- that it needs is
--- defined once, before its first use, and of the clauses those that the empty one rests on are printed, each after its
--- premises.
+-- defined once, before its first use, and of the clauses those that the empty one depends on are printed, each after
+-- its premises.
 pub record IsProofOf (c : Check) (text : List ℕ) : Type 0 where
   -- terms, each after its arguments
   pub terms : List Term

@@ -30,7 +30,7 @@ pub data Response : Type 0 where
   -- this was found at its check
   answered : Checked → Response
   -- its text is written, which is here without its quotes
-  said : List ℕ → Response
+  echoed : List ℕ → Response
   -- it was done, and the script ends
   ended : Response
   -- it was refused, for this fault
@@ -52,7 +52,7 @@ abbrev pub Responds : Limits → Stack → Effect → Response → Type 0
 Responds limits s done r = r ≡ success
 Responds limits s unsupported r = r ≡ not_supported
 Responds limits s (check place assumptions) r = IsDecided limits (record { stack = s; assumptions = assumptions }) r
-Responds limits s (say text) r = r ≡ said text
+Responds limits s (say text) r = r ≡ echoed text
 Responds limits s leave r = r ≡ ended
 
 -- what a command is answered after a stack: a command that is refused changes nothing
@@ -105,7 +105,7 @@ abbrev pub text_for : Mode → List ℕ → Bool → Response → List ℕ
 text_for mode text print success = success_by print
 text_for mode text print not_supported = word_line Unsupported
 text_for mode text print (answered c) = answer_text c.found ++ shown_text mode c
-text_for mode text print (said s) = string_line s
+text_for mode text print (echoed s) = string_line s
 text_for mode text print ended = success_by print
 text_for mode text print (rejected f) = fault_text text f
 

@@ -1,4 +1,4 @@
--- What is said of the bytes that a run writes, with what its answers mean, in one statement.
+-- What is stated of the bytes that a run writes, with what its answers mean, in one statement.
 use Rattle.std.specs.Prelude.{ℕ, Bool, List}
 use Rattle.spec_sessions.specs.Evidence.{Limits}
 use Rattle.spec_sessions.specs.Responses.{Mode, Answered}

@@ -51,7 +51,7 @@ is_fault None = false
 is_fault (Some f) = true
 
 -- The text's commands were answered so, and this was written. The last says whether a command was refused, or a fault
--- ended the run. Lines and columns are counted in the bytes that are read, where all faults stand.
+-- ended the run. Lines and columns are counted in the bytes that are read, where all faults are.
 pub record IsTranscript (limits : Limits) (mode : Mode) (text : List ℕ) (out : List ℕ) (refused : Bool) : Type 0 where
   -- the commands
   pub commands : Trees

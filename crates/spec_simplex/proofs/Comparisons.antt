@@ -14,7 +14,7 @@ use Rattle.spec_arithmetic.proofs.Differences.{less_true, less_false, at_most_bo
 use Rattle.spec_arithmetic.proofs.FormNumbers.{number_reduced}
 use Rattle.spec_arithmetic.proofs.Linear.{difference_number}
 use Rattle.spec_simplex.specs.Constraints.{Relation, below, at_most, equals, at_least, above, Constraint, form_of}
-use Rattle.spec_simplex.specs.Points.{is_below_zero, is_over, is_under, stands}
+use Rattle.spec_simplex.specs.Points.{is_below_zero, is_over, is_under, relates}
 use Rattle.spec_simplex.specs.Numbers.{Compares}
 use Rattle.spec_simplex.proofs.PairSigns.{zero_is}
 use Rattle.spec_simplex.proofs.Reversed.{turned}
@@ -63,7 +63,7 @@ over_alone x = base_alone (int_lt (pos 0) x.num) (is_zero x)
 exchanged : (a b : Bool) → a ≡ b → (a ≡ true) ↔ (b ≡ true)
 exchanged a b e = (λ h. sym e ∙ h, λ h. e ∙ h)
 
-pub compared : (r : Relation) (x y : Fraction) → IsReduced x → IsReduced y → IsReduced (minus x y) → Compares r x y ↔ (stands r (minus x y) zero_fraction ≡ true)
+pub compared : (r : Relation) (x y : Fraction) → IsReduced x → IsReduced y → IsReduced (minus x y) → Compares r x y ↔ (relates r (minus x y) zero_fraction ≡ true)
 unfolding is_zero is_below_zero is_above_zero
 compared below x y rx ry rd = exchanged _ _ (less_below x y ∙ sym (under_alone (minus x y)))
 compared at_most x y rx ry rd = exchanged _ _ (ap not (less_above x y ∙ sym (over_alone (minus x y))))
@@ -81,11 +81,11 @@ compared equals x y rx ry rd = (there, back)
 
 -- so the sides of a constraint compare as the value of its form does with 0
 pub sides_compared : (symbols : List Symbol) (n : Term → Fraction) (c : Constraint) (f : Form) → ((t : Term) → IsReduced (n t)) → IsLinearOver symbols c.left → IsLinearOver symbols c.right → form_of c ≡ Ok f
-    → Compares c.relation (number_at n c.left) (number_at n c.right) ↔ (stands c.relation (form_value n f) zero_fraction ≡ true)
+    → Compares c.relation (number_at n c.left) (number_at n c.right) ↔ (relates c.relation (form_value n f) zero_fraction ≡ true)
 sides_compared symbols n c f reduced l r e =
     let d = difference_number symbols n reduced c.atom c.left c.right f e l r in
     let x = number_at n c.left in
     let y = number_at n c.right in
-    subst (λ q. Compares c.relation x y ↔ (stands c.relation q zero_fraction ≡ true)) (sym d.0)
+    subst (λ q. Compares c.relation x y ↔ (relates c.relation q zero_fraction ≡ true)) (sym d.0)
     (compared c.relation x y (number_reduced symbols n reduced c.left (record { term = l.term; sort = l.sort }))
     (number_reduced symbols n reduced c.right (record { term = r.term; sort = r.sort })) (subst IsReduced d.0 d.1))

@@ -10,7 +10,7 @@ use Rattle.spec_arithmetic.proofs.Zero.{times-zero}
 use Rattle.spec_arithmetic.proofs.Differences.{zero-at_most}
 use Rattle.spec_arithmetic.proofs.FormValues.{form_value_reduced, variables_reduced}
 use Rattle.spec_simplex.specs.Constraints.{Relation, below, at_most, equals, at_least, above}
-use Rattle.spec_simplex.specs.Points.{Point, bases, tilts, base_at, tilt_at, stands, KeepsLiteral}
+use Rattle.spec_simplex.specs.Points.{Point, bases, tilts, base_at, tilt_at, relates, KeepsLiteral}
 use Rattle.spec_simplex.specs.Weights.{Summand, IsSummand, signed_weight, weighted_sum, is_strict_by, has_strict, CannotHold, literals_in}
 use Rattle.spec_simplex.proofs.LowestForms.{AreNumbers, proper_of}
 use Rattle.spec_simplex.proofs.Reversed.{IsLowest, lowest_proper, difference_lowest}
@@ -31,7 +31,7 @@ exchanged_up_to w b t h =
     subst (λ x. IsUpTo x (times (opposite (size w)) t)) (opposite_moved (size w) b) (subst (IsUpTo (times (size w) (opposite b))) (opposite_moved (size w) t) h)
 
 -- a product at most 0
-product_up_to : (r : Relation) (w b t : Fraction) → IsReduced w → IsReduced b → IsReduced t → stands r b t ≡ true → IsUpTo (times (signed_weight r w) b) (times (signed_weight r w) t)
+product_up_to : (r : Relation) (w b t : Fraction) → IsReduced w → IsReduced b → IsReduced t → relates r b t ≡ true → IsUpTo (times (signed_weight r w) b) (times (signed_weight r w) t)
 product_up_to below w b t p q s e = times_up_to w b t p.positive q.positive s.positive (less_up_to b t (under_less b t q e))
 product_up_to at_most w b t p q s e = times_up_to w b t p.positive q.positive s.positive (not_over_up_to b t q (not-true _ e))
 product_up_to equals w b t p q s e =
@@ -48,7 +48,7 @@ product_up_to above w b t p q s e =
     (less_up_to (opposite b) (opposite t) (over_less b t (opposite-reduced b q) e)))
 
 -- and below 0, where it is strict
-product_less : (r : Relation) (w b t : Fraction) → IsReduced w → IsReduced b → IsReduced t → stands r b t ≡ true → is_strict_by r w ≡ true → IsLess (times (signed_weight r w) b) (times (signed_weight r w) t)
+product_less : (r : Relation) (w b t : Fraction) → IsReduced w → IsReduced b → IsReduced t → relates r b t ≡ true → is_strict_by r w ≡ true → IsLess (times (signed_weight r w) b) (times (signed_weight r w) t)
 product_less below w b t p q s e h = times_less w b t p.positive (not-true _ h) (under_less b t q e)
 product_less at_most w b t p q s e h = absurd (true≢false (sym h))
 product_less equals w b t p q s e h = absurd (true≢false (sym h))
@@ -86,7 +86,7 @@ either : {P : Type 0} (a b : Bool) → a || b ≡ true → (a ≡ true → P) �
 either true b e f g = f refl
 either false b e f g = g e
 
-one_kept : (p : Point) (x : Summand) (xs : List Summand) → IsSummand x → IsLowest x.form → stands x.constraint.relation (base_at p x.form) (tilt_at p x.form) ≡ true
+one_kept : (p : Point) (x : Summand) (xs : List Summand) → IsSummand x → IsLowest x.form → relates x.constraint.relation (base_at p x.form) (tilt_at p x.form) ≡ true
     → IsKept p xs → IsKept p (x ∷ xs)
 unfolding weighted_sum tilt_sum has_strict
 one_kept p x xs s l e k = record {

@@ -12,7 +12,7 @@ use Rattle.spec_tableaux.specs.Spaces.{Pair, pairs}
 use Rattle.spec_tableaux.specs.Numbers.{Number, numbers, fractions}
 use Rattle.spec_tableaux.proofs.Numbers.{number_is}
 use Rattle.spec_simplex.specs.Constraints.{below, equals, above}
-use Rattle.spec_simplex.specs.Points.{is_below_zero, is_over, is_under, stands}
+use Rattle.spec_simplex.specs.Points.{is_below_zero, is_over, is_under, relates}
 use Rattle.spec_simplex.proofs.PairSigns.{zero_is}
 
 -- comparisons with 0
@@ -56,30 +56,30 @@ by_base_over z t = by (int_lt (pos 0) z) refl (int_lt z (pos 0)) refl
     by false e true f = λ i. sym (none e f) i && t
     by false e false f = λ i. sym (level e f) i && t
 
-pub stands_below : (x : Pair Number) → stands below x.base.fraction x.tilt.fraction ≡ (pairs numbers).less x (pairs numbers).origin
+pub relates_below : (x : Pair Number) → relates below x.base.fraction x.tilt.fraction ≡ (pairs numbers).less x (pairs numbers).origin
 unfolding numbers fractions is_under is_below_zero is_above_zero is_zero
-stands_below x =
+relates_below x =
     sym (by_base x.base.fraction.num (is_below_zero x.tilt.fraction))
     ∙ (λ i. cond (sym (less_zero x.base.fraction x.base.reduced) i) true
     (cond (sym (zero_less x.base.fraction x.base.reduced) i) false (sym (less_zero x.tilt.fraction x.tilt.reduced) i)))
 
-pub stands_above : (x : Pair Number) → stands above x.base.fraction x.tilt.fraction ≡ (pairs numbers).less (pairs numbers).origin x
+pub relates_above : (x : Pair Number) → relates above x.base.fraction x.tilt.fraction ≡ (pairs numbers).less (pairs numbers).origin x
 unfolding numbers fractions is_over is_below_zero is_above_zero is_zero
-stands_above x =
+relates_above x =
     sym (by_base_over x.base.fraction.num (is_above_zero x.tilt.fraction))
     ∙ (λ i. cond (sym (zero_less x.base.fraction x.base.reduced) i) true
     (cond (sym (less_zero x.base.fraction x.base.reduced) i) false (sym (zero_less x.tilt.fraction x.tilt.reduced) i)))
 
-pub stands_equals : (x : Pair Number) → (stands equals x.base.fraction x.tilt.fraction ≡ true) ↔ (x ≡ (pairs numbers).origin)
+pub relates_equals : (x : Pair Number) → (relates equals x.base.fraction x.tilt.fraction ≡ true) ↔ (x ≡ (pairs numbers).origin)
 unfolding numbers fractions is_zero
-stands_equals x = (there, back)
+relates_equals x = (there, back)
   where
-    there : stands equals x.base.fraction x.tilt.fraction ≡ true → x ≡ (pairs numbers).origin
+    there : relates equals x.base.fraction x.tilt.fraction ≡ true → x ≡ (pairs numbers).origin
     there e =
         let parts = and_parts (is_zero x.base.fraction) (is_zero x.tilt.fraction) e in
         let base = number_is x.base (pairs numbers).origin.base (zero_is x.base.fraction x.base.reduced parts.0) in
         let tilt = number_is x.tilt (pairs numbers).origin.tilt (zero_is x.tilt.fraction x.tilt.reduced parts.1) in
         λ i. record { base = base i; tilt = tilt i }
 
-    back : x ≡ (pairs numbers).origin → stands equals x.base.fraction x.tilt.fraction ≡ true
-    back e = ap (λ (y : Pair Number). stands equals y.base.fraction y.tilt.fraction) e
+    back : x ≡ (pairs numbers).origin → relates equals x.base.fraction x.tilt.fraction ≡ true
+    back e = ap (λ (y : Pair Number). relates equals y.base.fraction y.tilt.fraction) e

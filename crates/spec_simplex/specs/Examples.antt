@@ -17,7 +17,7 @@ use Rattle.spec_tableaux.specs.Rows.{Entry}
 use Rattle.spec_tableaux.specs.Numbers as tableaux
 use Rattle.spec_simplex.specs.Constraints.{Relation, below, at_most, equals, at_least, above, Constraint, saying}
 use Rattle.spec_simplex.specs.Constraints.{constraint_by, constraint_of, form_of}
-use Rattle.spec_simplex.specs.Points.{Point, is_below_zero, is_over, is_under, stands, base_at, tilt_at, FormHolds}
+use Rattle.spec_simplex.specs.Points.{Point, is_below_zero, is_over, is_under, relates, base_at, tilt_at, FormHolds}
 use Rattle.spec_simplex.specs.Points.{KeepsLiteral}
 use Rattle.spec_simplex.specs.Weights.{Summand, signed_weight, weighted_sum, has_strict, denials, arguments_of}
 use Rattle.spec_simplex.specs.Numbers.{Compares, HoldsAt}
@@ -114,19 +114,19 @@ relations = below ∷ at_most ∷ equals ∷ at_least ∷ above ∷ []
 
 -- which of them hold of x minus y at a point
 abbrev pub relations_at : Point → List Bool
-relations_at p = map (λ r. stands r (base_at p x_minus_y) (tilt_at p x_minus_y)) relations
+relations_at p = map (λ r. relates r (base_at p x_minus_y) (tilt_at p x_minus_y)) relations
 
 -- so it is below 0 there, and not at least 0; at the second point it is 0
-pub close_stands : relations_at close ≡ true ∷ true ∷ false ∷ false ∷ false ∷ []
+pub close_relates : relations_at close ≡ true ∷ true ∷ false ∷ false ∷ false ∷ []
 unfolding literals_that_say
-close_stands = refl
+close_relates = refl
 
-pub level_stands : relations_at level ≡ false ∷ true ∷ true ∷ true ∷ false ∷ []
+pub level_relates : relations_at level ≡ false ∷ true ∷ true ∷ true ∷ false ∷ []
 unfolding literals_that_say
-level_stands = refl
+level_relates = refl
 
 -- a base other than 0 decides, whatever the tilt is
-pub base_decides : map (λ r. stands r one_fraction (whole (negsuc 4))) relations ≡ false ∷ false ∷ false ∷ true ∷ true
+pub base_decides : map (λ r. relates r one_fraction (whole (negsuc 4))) relations ≡ false ∷ false ∷ false ∷ true ∷ true
     ∷ []
 unfolding literals_that_say
 base_decides = refl

@@ -45,16 +45,16 @@ unfoldable pub is_under : Fraction → Fraction → Bool
 is_under base tilt = is_below_zero base || (is_zero base && is_below_zero tilt)
 
 -- a number with a tilt compares so with 0
-abbrev pub stands : Relation → Fraction → Fraction → Bool
-stands below base tilt = is_under base tilt
-stands at_most base tilt = not (is_over base tilt)
-stands equals base tilt = is_zero base && is_zero tilt
-stands at_least base tilt = not (is_under base tilt)
-stands above base tilt = is_over base tilt
+abbrev pub relates : Relation → Fraction → Fraction → Bool
+relates below base tilt = is_under base tilt
+relates at_most base tilt = not (is_over base tilt)
+relates equals base tilt = is_zero base && is_zero tilt
+relates at_least base tilt = not (is_under base tilt)
+relates above base tilt = is_over base tilt
 
 -- a form has a value at a point that compares so with 0
 abbrev pub FormHolds : Relation → Point → Form → Type 0
-FormHolds r p f = stands r (base_at p f) (tilt_at p f) ≡ true
+FormHolds r p f = relates r (base_at p f) (tilt_at p f) ≡ true
 
 -- a point keeps a literal: what it says of a form is so; nothing is asked where it says nothing, or has no form
 abbrev pub KeepsLiteral : Point → Literal → Type 0

@@ -11,7 +11,7 @@ ghost use Rattle.spec_tableaux.specs.Spaces.{Pair, as_space, pairs};
 ghost use Rattle.spec_tableaux.specs.Rows.{Entry, sum_of};
 ghost use Rattle.spec_tableaux.specs.Numbers.{Number, numbers};
 ghost use Rattle.spec_simplex.specs.Constraints.{Constraint, below, equals, above, form_of};
-ghost use Rattle.spec_simplex.specs.Points.{Point, bases, tilts, stands, IsFeasible, IsInfeasible};
+ghost use Rattle.spec_simplex.specs.Points.{Point, bases, tilts, relates, IsFeasible, IsInfeasible};
 ghost use Rattle.spec_simplex.specs.Weights.{Summand, IsSummand, CannotHold, literals_in, denials, arguments_of, IsTakenOrWide};
 ghost use Rattle.spec_simplex.specs.Numbers.{Compares};
 ghost use Rattle.spec_simplex.specs.Entries.{AreEntries, AreValues};
@@ -37,13 +37,13 @@ pub fn taken_clauses_show_infeasibility()
 
 /// States that a value is below or above 0 where it is so in the order of pairs, and is 0 where it is the origin;
 /// it is at most 0 where it is not above, and at least 0 where it is not below.
-pub fn values_stand_in_the_order_of_pairs()
+pub fn values_compare_in_the_order_of_pairs()
     ensures below { (x : Pair Number)
-        → stands below x.base.fraction x.tilt.fraction ≡ (pairs numbers).less x (pairs numbers).origin }
+        → relates below x.base.fraction x.tilt.fraction ≡ (pairs numbers).less x (pairs numbers).origin }
     ensures above { (x : Pair Number)
-        → stands above x.base.fraction x.tilt.fraction ≡ (pairs numbers).less (pairs numbers).origin x }
+        → relates above x.base.fraction x.tilt.fraction ≡ (pairs numbers).less (pairs numbers).origin x }
     ensures equals { (x : Pair Number)
-        → (stands equals x.base.fraction x.tilt.fraction ≡ true) ↔ (x ≡ (pairs numbers).origin) }
+        → (relates equals x.base.fraction x.tilt.fraction ≡ true) ↔ (x ≡ (pairs numbers).origin) }
 {}
 
 /// States that literals that a point keeps are not infeasible.
@@ -71,5 +71,5 @@ pub fn forms_compare_numbers()
     ensures { (symbols : List Symbol) (n : Term → Fraction) (c : Constraint) (f : Form) → ((t : Term) → IsReduced (n t))
         → IsLinearOver symbols c.left → IsLinearOver symbols c.right → form_of c ≡ Ok f
         → Compares c.relation (number_at n c.left) (number_at n c.right)
-        ↔ (stands c.relation (form_value n f) zero_fraction ≡ true) }
+        ↔ (relates c.relation (form_value n f) zero_fraction ≡ true) }
 {}

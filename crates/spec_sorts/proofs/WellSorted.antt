@@ -102,18 +102,18 @@ head_sort h us vs e = ap (sort_given h) e
 
 module _ (symbols : List Symbol) (ps qs : List Sort) (ts : List Term) where
   -- what means a term is well sorted where the parameters' sorts are these, and has its sort
-  abbrev pub Stands : Term → Term → Type 0
-  Stands v u = IsWellSorted symbols ps v × (sort_of v ≡ sort_of u)
+  abbrev pub KeepsSort : Term → Term → Type 0
+  KeepsSort v u = IsWellSorted symbols ps v × (sort_of v ≡ sort_of u)
 
   -- the argument for a parameter is well sorted, and of its sort
-  argument_stands : (qs : List Sort) (ts : List Term) (k : ℕ) (s : Sort) → same_sorts qs (map sort_of ts) ≡ true → Each symbols ps ts → has_parameter qs k s ≡ true → IsWellSorted symbols ps (get_or ts k no_term) × (sort_of (get_or ts k no_term) ≡ s)
-  argument_stands [] ts k s e a h = absurd (false≢true h)
-  argument_stands (q ∷ qs) [] k s e a h = absurd (false≢true e)
-  argument_stands (q ∷ qs) (t ∷ ts) zero s e a h = (a.0, sym (same_sort_is q (sort_of t) (and_parts _ _ e).0) ∙ same_sort_is q s h)
-  argument_stands (q ∷ qs) (t ∷ ts) (suc k) s e a h = argument_stands qs ts k s (and_parts _ _ e).1 a.1 h
+  argument_keeps_sort : (qs : List Sort) (ts : List Term) (k : ℕ) (s : Sort) → same_sorts qs (map sort_of ts) ≡ true → Each symbols ps ts → has_parameter qs k s ≡ true → IsWellSorted symbols ps (get_or ts k no_term) × (sort_of (get_or ts k no_term) ≡ s)
+  argument_keeps_sort [] ts k s e a h = absurd (false≢true h)
+  argument_keeps_sort (q ∷ qs) [] k s e a h = absurd (false≢true e)
+  argument_keeps_sort (q ∷ qs) (t ∷ ts) zero s e a h = (a.0, sym (same_sort_is q (sort_of t) (and_parts _ _ e).0) ∙ same_sort_is q s h)
+  argument_keeps_sort (q ∷ qs) (t ∷ ts) (suc k) s e a h = argument_keeps_sort qs ts k s (and_parts _ _ e).1 a.1 h
 
   -- terms that stand for others
-  pub record AllStand (vs us : Terms) : Type 0 where
+  pub record AllKeepSorts (vs us : Terms) : Type 0 where
     pub sorted : are_sorted ps vs ≡ true
     pub heads : AllHeadsIn (IsHeadOver symbols) vs
     pub sorts : sorts_of vs ≡ sorts_of us
@@ -123,29 +123,29 @@ module _ (symbols : List Symbol) (ps qs : List Sort) (ts : List Term) where
     unfolding is_sorted are_sorted AllHeads AllHeadsIn filled filled_all sort_of second_sort
 
     -- a term with arguments for its parameters
-    pub filled_stands : same_sorts qs (map sort_of ts) ≡ true → Each symbols ps ts → (u : Term) → is_sorted qs u ≡ true → AllHeads (IsHeadOver symbols) u → Stands (filled ts u) u
-    filled_stands e a (app (Parameter k s) nil) h o = argument_stands qs ts k s e a (and_parts _ _ h).0
-    filled_stands e a (app (Parameter k s) (cons u us)) h o = absurd (false≢true h)
-    filled_stands e a (app g us) h o =
-        let k = all_stand e a us (and_parts _ _ h).1 o.1 in
+    pub filled_keeps_sort : same_sorts qs (map sort_of ts) ≡ true → Each symbols ps ts → (u : Term) → is_sorted qs u ≡ true → AllHeads (IsHeadOver symbols) u → KeepsSort (filled ts u) u
+    filled_keeps_sort e a (app (Parameter k s) nil) h o = argument_keeps_sort qs ts k s e a (and_parts _ _ h).0
+    filled_keeps_sort e a (app (Parameter k s) (cons u us)) h o = absurd (false≢true h)
+    filled_keeps_sort e a (app g us) h o =
+        let k = all_keep_sorts e a us (and_parts _ _ h).1 o.1 in
         let takes : head_takes ps g (sorts_of (filled_all ts us)) ≡ true = ap (head_takes ps g) k.sorts ∙ takes_anywhere ps qs g (sorts_of us) tt (and_parts _ _ h).0 in
         (record { sorted = (λ j. takes j && k.sorted j); heads = (o.0, k.heads) }, head_sort g (filled_all ts us) us k.second)
 
     -- and so it is in terms
-    pub all_stand : same_sorts qs (map sort_of ts) ≡ true → Each symbols ps ts → (us : Terms) → are_sorted qs us ≡ true → AllHeadsIn (IsHeadOver symbols) us → AllStand (filled_all ts us) us
-    all_stand e a nil h o = record { sorted = refl; heads = tt; sorts = refl; second = refl }
-    all_stand e a (cons u nil) h o =
-        let k = filled_stands e a u (and_parts _ _ h).0 o.0 in
+    pub all_keep_sorts : same_sorts qs (map sort_of ts) ≡ true → Each symbols ps ts → (us : Terms) → are_sorted qs us ≡ true → AllHeadsIn (IsHeadOver symbols) us → AllKeepSorts (filled_all ts us) us
+    all_keep_sorts e a nil h o = record { sorted = refl; heads = tt; sorts = refl; second = refl }
+    all_keep_sorts e a (cons u nil) h o =
+        let k = filled_keeps_sort e a u (and_parts _ _ h).0 o.0 in
         record { sorted = (λ j. k.0.sorted j && true); heads = (k.0.heads, tt); sorts = (λ j. k.1 j ∷ []); second = refl }
-    all_stand e a (cons u (cons v vs)) h o =
-        let k = filled_stands e a u (and_parts _ _ h).0 o.0 in
-        let l = all_stand e a (cons v vs) (and_parts _ _ h).1 o.1 in
-        let m = filled_stands e a v (and_parts _ _ (and_parts _ _ h).1).0 o.1.0 in
+    all_keep_sorts e a (cons u (cons v vs)) h o =
+        let k = filled_keeps_sort e a u (and_parts _ _ h).0 o.0 in
+        let l = all_keep_sorts e a (cons v vs) (and_parts _ _ h).1 o.1 in
+        let m = filled_keeps_sort e a v (and_parts _ _ (and_parts _ _ h).1).0 o.1.0 in
         record { sorted = (λ j. k.0.sorted j && l.sorted j); heads = (k.0.heads, l.heads); sorts = (λ j. k.1 j ∷ l.sorts j); second = m.1 }
 
 -- a term with well-sorted arguments for its parameters
 pub filled_sorted : (symbols : List Symbol) (ps qs : List Sort) (ts : List Term) (u : Term) → IsWellSorted symbols qs u → same_sorts qs (map sort_of ts) ≡ true → Each symbols ps ts → IsWellSorted symbols ps (filled ts u) × (sort_of (filled ts u) ≡ sort_of u)
-filled_sorted symbols ps qs ts u w e a = filled_stands symbols ps qs ts e a u w.sorted w.heads
+filled_sorted symbols ps qs ts u w e a = filled_keeps_sort symbols ps qs ts e a u w.sorted w.heads
 
 module _ (symbols more : List Symbol) (among : (f : Symbol) → Contains symbols f → Contains more f) where
   head_over : (h : Head) → IsHeadOver symbols h → IsHeadOver more h

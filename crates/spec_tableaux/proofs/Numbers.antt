@@ -46,16 +46,16 @@ not_negative_test : (z : ℤ) → pos 0 ≤ℤ z → int_lt z (pos 0) ≡ false
 not_negative_test z h = grind (arith, nat_tests)
 
 -- a fraction is less than 0 where its numerator is
-pub beside_zero : (x : Fraction) → compare x zero_fraction ≡ int_cmp x.num (pos 0)
+pub compare_with_zero : (x : Fraction) → compare x zero_fraction ≡ int_cmp x.num (pos 0)
 unfolding compare
-beside_zero x = λ i. int_cmp (times_whole x.num i) (zero-times (pos x.den) i)
+compare_with_zero x = λ i. int_cmp (times_whole x.num i) (zero-times (pos x.den) i)
 
 less_of_negative : (x : Fraction) → int_lt x.num (pos 0) ≡ true → compare x zero_fraction ≡ Less
-less_of_negative x h = beside_zero x ∙ sym (int_cmp_is x.num (pos 0) Less (negative_true x.num h))
+less_of_negative x h = compare_with_zero x ∙ sym (int_cmp_is x.num (pos 0) Less (negative_true x.num h))
 
 negative_of_less : (x : Fraction) → compare x zero_fraction ≡ Less → int_lt x.num (pos 0) ≡ true
 negative_of_less x e = negative_test x.num
-    (subst (λ o. MatchOrdering o (x.num <ℤ pos 0) (x.num ≡ pos 0) (pos 0 <ℤ x.num)) (sym (beside_zero x) ∙ e) (int_ranks x.num (pos 0)))
+    (subst (λ o. MatchOrdering o (x.num <ℤ pos 0) (x.num ≡ pos 0) (pos 0 <ℤ x.num)) (sym (compare_with_zero x) ∙ e) (int_ranks x.num (pos 0)))
 
 negative_sum : (x y : Fraction) → IsReduced x → IsReduced y → int_lt x.num (pos 0) ≡ true → int_lt y.num (pos 0) ≡ true → int_lt (plus x y).num (pos 0) ≡ true
 negative_sum x y r q h k =

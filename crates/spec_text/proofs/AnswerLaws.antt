@@ -68,9 +68,9 @@ module _ (P : ℕ → Type 0) where
   abbrev pub IsFaultWithin : {A : Type 0} → Answer A → Type 0
   IsFaultWithin a = Gives (λ _. Unit {0}) a
 
-  pub stands : {A : Type 0} (a : Answer A) → ((f : Located) → a ≡ Err f → P f.offset) → IsFaultWithin a
-  stands (Ok x) h = tt
-  stands (Err f) h = h f refl
+  pub fault_within : {A : Type 0} (a : Answer A) → ((f : Located) → a ≡ Err f → P f.offset) → IsFaultWithin a
+  fault_within (Ok x) h = tt
+  fault_within (Err f) h = h f refl
 
   pub within_in_turn : {A B : Type 0} (a : Answer A) (f : A → Answer B) → IsFaultWithin a → ((x : A) → IsFaultWithin (f x)) → IsFaultWithin (a >>= f)
   within_in_turn a f h g = gives_in_turn (λ _. Unit {0}) (λ _. Unit {0}) a f h (λ x _. g x)

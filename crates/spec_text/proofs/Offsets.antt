@@ -86,8 +86,8 @@ pub next_here : (text : List ℕ) (at b : ℕ) (bs : List ℕ) → drop at text 
 next_here text at b bs e = sym (drop-drop 1 at text) ∙ ap (drop 1) e
 
 module _ (text : List ℕ) (low : ℕ) where
-  stands_before : (at : ℕ) (p : Piece) (rest : List (ℕ × Lexeme)) → low ≤ at → at < length text → Fits (length text - at) p → AreFaultsWithin low (length text) rest → AreFaultsWithin low (length text) (before at p rest)
-  stands_before at p rest from within fits behind = go p.lexeme fits
+  within_before : (at : ℕ) (p : Piece) (rest : List (ℕ × Lexeme)) → low ≤ at → at < length text → Fits (length text - at) p → AreFaultsWithin low (length text) rest → AreFaultsWithin low (length text) (before at p rest)
+  within_before at p rest from within fits behind = go p.lexeme fits
     where
       go : (x : Lexeme) → FitsBy x p.size (length text - at) → AreFaultsWithin low (length text) (before at (piece x p.size) rest)
       go blank f = behind
@@ -96,22 +96,22 @@ module _ (text : List ℕ) (low : ℕ) where
       go (word k name) f = ((from, within), behind)
       go (wrong e) f = (omega (arith, within, f), tt)
 
-  stands_from : (n at : ℕ) (bs : List ℕ) → low ≤ at → drop at text ≡ bs → AreFaultsWithin low (length text) (lexemes n at bs)
+  within_from : (n at : ℕ) (bs : List ℕ) → low ≤ at → drop at text ≡ bs → AreFaultsWithin low (length text) (lexemes n at bs)
   unfolding lexemes
-  stands_from n at [] from e = tt
-  stands_from (suc n) at (b ∷ bs) from e = stands_from n (at + 1) bs (omega (arith, from)) (next_here text at b bs e)
-  stands_from zero at (b ∷ bs) from e =
+  within_from n at [] from e = tt
+  within_from (suc n) at (b ∷ bs) from e = within_from n (at + 1) bs (omega (arith, from)) (next_here text at b bs e)
+  within_from zero at (b ∷ bs) from e =
       let size : 1 + length bs ≡ length text - at = omega (arith, ap length e, length-drop at text) in
-      stands_before at (first_piece b bs) _ from (omega (arith, size)) (subst (λ n. Fits n (first_piece b bs)) size (first_fits b bs))
-      (stands_from ((first_piece b bs).size - 1) (at + 1) bs (omega (arith, from)) (next_here text at b bs e))
+      within_before at (first_piece b bs) _ from (omega (arith, size)) (subst (λ n. Fits n (first_piece b bs)) size (first_fits b bs))
+      (within_from ((first_piece b bs).size - 1) (at + 1) bs (omega (arith, from)) (next_here text at b bs e))
 
 lexemes_within : (text : List ℕ) (at : ℕ) → AreFaultsWithin at (length text) (lexemes_from text at)
-lexemes_within text at = stands_from text at 0 at (drop at text) (omega arith) refl
+lexemes_within text at = within_from text at 0 at (drop at text) (omega arith) refl
 
 -- what comes after others
-stand_behind : (low high : ℕ) (earlier rest : List (ℕ × Lexeme)) → AreFaultsWithin low high (earlier ++ rest) → AreFaultsWithin low high rest
-stand_behind low high [] rest h = h
-stand_behind low high (x ∷ earlier) rest h = stand_behind low high earlier rest h.1
+within_behind : (low high : ℕ) (earlier rest : List (ℕ × Lexeme)) → AreFaultsWithin low high (earlier ++ rest) → AreFaultsWithin low high rest
+within_behind low high [] rest h = h
+within_behind low high (x ∷ earlier) rest h = within_behind low high earlier rest h.1
 
 module _ (low high : ℕ) where
   -- an offset of the text
@@ -155,11 +155,11 @@ first_within limit low high n ((at, wrong f) ∷ xs) h = h.0
 
 -- trees that are in a text after other lexemes have their offsets there
 pub trees_in_text : (text : List ℕ) (at : ℕ) (earlier rest : List (ℕ × Lexeme)) (ts : Trees) → lexemes_from text at ≡ earlier ++ (spelled_all ts ++ rest) → AllOffsetsOf (λ n. (at ≤ n) × (n < length text)) ts
-trees_in_text text at earlier rest ts e = (trees_are_within at (length text) ts rest (stand_behind at (length text) earlier (spelled_all ts ++ rest) (subst (AreFaultsWithin at (length text)) e (lexemes_within text at)))).0
+trees_in_text text at earlier rest ts e = (trees_are_within at (length text) ts rest (within_behind at (length text) earlier (spelled_all ts ++ rest) (subst (AreFaultsWithin at (length text)) e (lexemes_within text at)))).0
 
 pub tree_in_text : (text : List ℕ) (at : ℕ) (t : Tree) (rest : List (ℕ × Lexeme)) → lexemes_from text at ≡ spelled t ++ rest → AllOffsets (λ n. (at ≤ n) × (n < length text)) t
 tree_in_text text at t rest e = (tree_is_within at (length text) t rest (subst (AreFaultsWithin at (length text)) e (lexemes_within text at))).0
 
 -- the first fault of what is in a text after other lexemes has its offset there
 pub fault_in_text : (text : List ℕ) (at limit n : ℕ) (earlier rest : List (ℕ × Lexeme)) (f : Located) → lexemes_from text at ≡ earlier ++ rest → first_fault limit (length text) n rest ≡ Some f → f.offset ≤ length text
-fault_in_text text at limit n earlier rest f e h = subst (IsFaultAt (length text)) h (first_within limit at (length text) n rest (stand_behind at (length text) earlier rest (subst (AreFaultsWithin at (length text)) e (lexemes_within text at))))
+fault_in_text text at limit n earlier rest f e h = subst (IsFaultAt (length text)) h (first_within limit at (length text) n rest (within_behind at (length text) earlier rest (subst (AreFaultsWithin at (length text)) e (lexemes_within text at))))

@@ -251,7 +251,7 @@ has_numbers symbols p terms held a r = record {
   shared = r.shared;
   shares = r.shares;
   agree = r.agree;
-  reduced = point_reduced symbols p terms held a r.rests;
-  numbers = λ s t c e. (equal_sides symbols p terms held a r.rests s t c e).1;
-  obeys = numbers_obey symbols p terms held a r.rests;
+  reduced = point_reduced symbols p terms held a r.saturated_here;
+  numbers = λ s t c e. (equal_sides symbols p terms held a r.saturated_here s t c e).1;
+  obeys = numbers_obey symbols p terms held a r.saturated_here;
 }

@@ -82,7 +82,7 @@ pub record IsSaturatedWithNumbers (symbols : List Symbol) (p : Problem) (terms :
 pub record IsSaturatedOnNumbers (symbols : List Symbol) (p : Problem) (terms : List Term) (held : List Literal)
     (a : TheoryValues) : Type 0 where
   -- it is saturated
-  pub rests : IsSaturatedWithNumbers symbols p terms held a
+  pub saturated_here : IsSaturatedWithNumbers symbols p terms held a
   -- the terms that both theories speak of
   pub shared : List Term
   pub shares : AreShared terms shared

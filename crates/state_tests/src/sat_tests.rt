@@ -99,7 +99,7 @@ fn trail_of(alloc: Global, steps: &str) -> Result<SatTrail, NoMemory> {
 }
 
 /// Tells whether the literal of a place is the letter's, with that level and reason.
-fn stands(trail: &SatTrail, n: u64, letter: u8, level: u8, reason: u8) -> bool {
+fn matches_row(trail: &SatTrail, n: u64, letter: u8, level: u8, reason: u8) -> bool {
     if n >= trail.len() {
         return false;
     }
@@ -138,7 +138,7 @@ fn is_so(trail: &SatTrail, letters: &[u8], levels: &[u8], reasons: &[u8]) -> boo
     for (n, letter) in letters.iter().enumerate() {
         let level = levels.get(n).copied().unwrap_or(b'-');
         let reason = reasons.get(n).copied().unwrap_or(b'*');
-        if !stands(trail, n as u64, *letter, level, reason) {
+        if !matches_row(trail, n as u64, *letter, level, reason) {
             return false;
         }
     }

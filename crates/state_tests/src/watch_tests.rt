@@ -91,7 +91,7 @@ fn index_of(alloc: Global, steps: &str) -> Result<WatchIndex, NoMemory> {
 }
 
 /// Tells whether the number of a place of a literal's list is the digit's.
-fn stands(index: &WatchIndex, lit: Lit, at: usize, digit: u8) -> bool {
+fn matches_row(index: &WatchIndex, lit: Lit, at: usize, digit: u8) -> bool {
     match index.list(lit).get(at) {
         Some(n) => *n == digit.wrapping_sub(b'0') as u64,
         None => false,
@@ -104,7 +104,7 @@ fn holds(index: &WatchIndex, lists: &str) -> bool {
     let mut at = index.list(lit).len();
     for sign in lists.as_bytes() {
         if sign.is_ascii_digit() {
-            if !stands(index, lit, at, *sign) {
+            if !matches_row(index, lit, at, *sign) {
                 return false;
             }
             at = at.wrapping_add(1);
@@ -134,7 +134,7 @@ fn first_other(alloc: Global, rows: &str) -> Result<Option<&str>, NoMemory> {
 }
 
 #[test]
-fn numbers_stand_in_the_lists_of_their_literals(rt: HostRuntime) -> Result<(), Fail> {
+fn numbers_are_in_the_lists_of_their_literals(rt: HostRuntime) -> Result<(), Fail> {
     assert!(rt; first_other(rt.alloc(), ROWS)? == None);
     Ok(())
 }

@@ -6,7 +6,7 @@ use Rattle.spec_numbers.specs.Fractions.{plus, opposite, compare}
 use Rattle.spec_numbers.proofs.Order.{compare-plus}
 use Rattle.spec_numbers.proofs.Field.{plus-opposite, opposite-reduced}
 use Rattle.spec_tableaux.specs.Numbers.{Number, numbers, fractions}
-use Rattle.spec_tableaux.proofs.Numbers.{beside_zero}
+use Rattle.spec_tableaux.proofs.Numbers.{compare_with_zero}
 
 cmp_less : (u v : ℤ) → int_cmp u v ≡ Less → int_lt u v ≡ true
 cmp_less u v h = by (int_lt u v) (int_lt v u) h
@@ -26,7 +26,7 @@ cmp_not u v h = by (int_lt u v) refl
 -- the difference has the sign of the comparison
 difference_sign : (x y : Number) → int_cmp (plus x.fraction (opposite y.fraction)).num (pos 0) ≡ compare x.fraction y.fraction
 difference_sign x y =
-    sym (beside_zero (plus x.fraction (opposite y.fraction)))
+    sym (compare_with_zero (plus x.fraction (opposite y.fraction)))
     ∙ ap (compare (plus x.fraction (opposite y.fraction))) (sym (plus-opposite y.fraction y.reduced))
     ∙ compare-plus x.fraction y.fraction (opposite y.fraction) x.reduced.positive y.reduced.positive (opposite-reduced y.fraction y.reduced).positive
 

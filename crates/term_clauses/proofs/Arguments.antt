@@ -94,8 +94,8 @@ module _ (now new : TableView) (wider : Widens now new) (ids all : List TermId) 
   pub literal_there : AreIn new all
   literal_there = subst (AreIn new) (sym pushed) (All-push (λ id. IsIn new id) ids n (AreIn-kept now new wider.terms ids there) here)
 
-  pub literal_more : (said : List Term) (u : Term) → clause_at now ids ≡ said → term_at new n ≡ u → clause_at new all ≡ said ++ u ∷ []
-  literal_more said u same means = ap (clause_at new) pushed ∙ map-append (term_at new) ids (n ∷ []) ∙ ap₂ (λ (xs : List Term) (x : Term). xs ++ x ∷ []) (clause_at-kept now new wider.terms ids there ∙ same) means
+  pub literal_more : (stated_before : List Term) (u : Term) → clause_at now ids ≡ stated_before → term_at new n ≡ u → clause_at new all ≡ stated_before ++ u ∷ []
+  literal_more stated_before u same means = ap (clause_at new) pushed ∙ map-append (term_at new) ids (n ∷ []) ∙ ap₂ (λ (xs : List Term) (x : Term). xs ++ x ∷ []) (clause_at-kept now new wider.terms ids there ∙ same) means
 
 -- a literal more after a term
 pub literals_more : {X : Type 0} (f : X → Term) (front : Term) (xs : List X) (k : ℕ) (d : X) → k < length xs → (front ∷ map f (take k xs)) ++ f (get_or xs k d) ∷ [] ≡ front ∷ map f (take (k + 1) xs)

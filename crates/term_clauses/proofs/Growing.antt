@@ -86,9 +86,9 @@ module _ (roots : List TermId) (t u : TableView) (old new : List Logged) (g : Gr
   }
 
 -- a clause more, and its number
-Says-push : (roots : List TermId) (t : TableView) (old new : List Logged) (l : Logged) (id : StepId) (steps all : List StepId) (said : List Clause) → Grows roots t t old new → IsLogOf t old → id.0 ≡ length old → new ≡ old ++ l ∷ [] → all ≡ steps ++ id ∷ [] → StatesClauses t old steps said → StatesClauses t new all (said ++ clause_at t (named l) ∷ [])
-Says-push roots t old new l id steps all said g right number last pushed says =
-    let kept = Says-kept roots t t old new g right steps said says in
+Says-push : (roots : List TermId) (t : TableView) (old new : List Logged) (l : Logged) (id : StepId) (steps all : List StepId) (stated_before : List Clause) → Grows roots t t old new → IsLogOf t old → id.0 ≡ length old → new ≡ old ++ l ∷ [] → all ≡ steps ++ id ∷ [] → StatesClauses t old steps stated_before → StatesClauses t new all (stated_before ++ clause_at t (named l) ∷ [])
+Says-push roots t old new l id steps all stated_before g right number last pushed says =
+    let kept = Says-kept roots t t old new g right steps stated_before says in
     let count : length new ≡ length old + 1 = ap length last ∙ length-append old (l ∷ []) in
     let here : stated t new id ≡ clause_at t (named l) =
     ap (λ (d : Derivation). conclusion (get_or d id.0 no_inference)) (ap (derivation_in t) last ∙ map-append (inference_of t) old (l ∷ []))
@@ -101,7 +101,7 @@ Says-push roots t old new l id steps all said g right number last pushed says =
 
 pub Tells-push : (roots : List TermId) (t : TableView) (old new : List Logged) (l : Logged) (id : StepId) (steps all : List StepId) → Grows roots t t old new → IsLogOf t old → id.0 ≡ length old → new ≡ old ++ l ∷ [] → all ≡ steps ++ id ∷ [] → Tells (listed_steps t old steps) (listed_steps t new all) (clause_at t (named l) ∷ [])
 Tells-push roots t old new l id steps all g right number last pushed = record {
-  says = λ said says. Says-push roots t old new l id steps all said g right number last pushed says;
+  says = λ stated_before says. Says-push roots t old new l id steps all stated_before g right number last pushed says;
   made = Makes-push old new l id steps all number last pushed;
 }
 
@@ -112,20 +112,20 @@ module _ (t u v : TableView) (wider : Widens t u) (old new : List Logged) (right
 
   pub Tells-made : (steps all : List StepId) (clauses : List Clause) → Tells (listed_steps u old steps) (listed_steps v new all) clauses → Tells (listed_steps t old steps) (listed_steps v new all) clauses
   Tells-made steps all clauses tells = record {
-    says = λ said says. tells.says said (Says-kept [] t u old old (Grows-wider [] t u old wider still) right steps said says);
+    says = λ stated_before says. tells.says stated_before (Says-kept [] t u old old (Grows-wider [] t u old wider still) right steps stated_before says);
     made = tells.made;
   }
 
 -- no clause, then some, then others
 pub Tells-none : (t : TableView) (log : List Logged) (steps : List StepId) → Tells (listed_steps t log steps) (listed_steps t log steps) []
 Tells-none t log steps = record {
-  says = λ said says. subst (StatesClauses t log steps) (sym (append-nil said)) says;
+  says = λ stated_before says. subst (StatesClauses t log steps) (sym (append-nil stated_before)) says;
   made = Makes-none log steps;
 }
 
 pub Tells-trans : (t u v : TableView) (a b c : List Logged) (one two three : List StepId) (cs ds : List Clause) → Tells (listed_steps t a one) (listed_steps u b two) cs → Tells (listed_steps u b two) (listed_steps v c three) ds → Tells (listed_steps t a one) (listed_steps v c three) (cs ++ ds)
 Tells-trans t u v a b c one two three cs ds f g = record {
-  says = λ said says. subst (StatesClauses v c three) (append_assoc said cs ds) (g.says (said ++ cs) (f.says said says));
+  says = λ stated_before says. subst (StatesClauses v c three) (append_assoc stated_before cs ds) (g.says (stated_before ++ cs) (f.says stated_before says));
   made = Makes-trans a b c one two three f.made g.made;
 }
 

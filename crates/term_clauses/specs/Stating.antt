@@ -76,8 +76,8 @@ listed_steps t log steps = record { table = t; log = log; steps = steps }
 -- These clauses came into the log, and their numbers are after those that were there.
 pub record Tells (old new : Listed) (clauses : List Clause) : Type 0 where
   -- what the numbers say
-  pub says : (said : List Clause) → StatesClauses old.table old.log old.steps said
-      → StatesClauses new.table new.log new.steps (said ++ clauses)
+  pub says : (stated_before : List Clause) → StatesClauses old.table old.log old.steps stated_before
+      → StatesClauses new.table new.log new.steps (stated_before ++ clauses)
   -- nothing came that has no number among them
   pub made : ListsMade old.log new.log old.steps new.steps
 

@@ -88,12 +88,12 @@ module _ (t : TableView) (ids : List TermId) where
       each [] = refl
       each (u ∷ us) = ap (λ k. is_constant u && k) (each us)
 
-  -- a literal may stand as a divisor
+  -- a literal may be a divisor
   pub divisor_literal : (h : NodeHead) (q : Ratio) → h ≡ heads.Literal q → true ≡ is_divisor (term h)
   unfolding is_divisor
   divisor_literal h q e = subst (λ g. true ≡ is_divisor (term g)) (sym e) refl
 
-  -- and nothing but `-` and `/` beside it
+  -- and besides it nothing but `-` and `/`
   pub no_divisor : (h : NodeHead) → ((q : Ratio) → h ≡ heads.Literal q → ⊥) → (h ≡ heads.Minus → ⊥) → (h ≡ heads.Divide → ⊥) → false ≡ is_divisor (term h)
   unfolding is_divisor
   no_divisor (heads.Literal q) literal negative quotient = absurd (literal q refl)
@@ -115,14 +115,14 @@ module _ (t : TableView) (ids : List TermId) where
   no_zero heads.Divide literal negative quotient = absurd (quotient refl)
   no_zero _ literal negative quotient = refl
 
--- one term alone may stand negated
+-- one term alone may be negated
 pub no_negative : (t : TableView) (ids : List TermId) → (length ids ≡ 1 → ⊥) → false ≡ is_divisor (of Minus (clause_at t ids))
 unfolding is_divisor
 no_negative t [] other = refl
 no_negative t (x ∷ []) other = absurd (other refl)
 no_negative t (x ∷ y ∷ ids) other = refl
 
--- and two may stand as a quotient
+-- and two may be a quotient
 pub no_quotient : (t : TableView) (ids : List TermId) → (length ids ≡ 2 → ⊥) → false ≡ is_divisor (of Divide (clause_at t ids))
 unfolding is_divisor
 no_quotient t [] other = refl

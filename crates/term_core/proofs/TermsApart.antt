@@ -46,7 +46,7 @@ abbrev sort_in : Head → Sort
 sort_in (Parameter k s) = s
 sort_in h = Truth
 
--- the word of the code for a head that has nothing beside it
+-- the word of the code for a head that has nothing besides it
 abbrev word_of : Head → NodeHead
 word_of True = heads.True
 word_of False = heads.False

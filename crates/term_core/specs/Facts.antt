@@ -1,4 +1,4 @@
--- What a table keeps of each term beside its node.
+-- What a table keeps of each term besides its node.
 use Rattle.std.specs.Prelude.{◌≡◌, ℕ, ◌<◌, false, List, [], length, get_or}
 use Rattle.spec_text.specs.Bytes.{Name}
 use Rattle.spec_sorts.specs.Terms.{Term, no_term, sort_of}
@@ -17,7 +17,7 @@ pub record IsFacts (sorts : List Name) (t : Term) (f : Facts) : Type 0 where
   pub sort : sort_meant sorts f.sort ≡ sort_of t
   -- whether the term is constant
   pub constant : f.constant ≡ is_constant t
-  -- whether it may stand as a divisor
+  -- whether it may be a divisor
   pub divisor : f.divisor ≡ is_divisor t
   -- whether it is zero as a divisor
   pub zero : f.zero ≡ is_zero_divisor t
@@ -33,9 +33,9 @@ pub record AreFacts (sorts : List Name) (terms : List Term) (facts : List Facts)
   -- each is right
   pub right : (k : ℕ) → k < length terms → IsFacts sorts (get_or terms k no_term) (get_or facts k no_facts)
 
--- Sorts, symbols and nodes that stand for a table, with the facts of its terms.
+-- Sorts, symbols and nodes that represent a table, with the facts of its terms.
 pub record TableFits (d : SymbolsView) (nodes : List Node) (facts : List Facts) : Type 0 where
-  -- they stand for a table
+  -- they represent a table
   pub whole : NodesFit d nodes
   -- the facts are those of its terms
   pub right : AreFacts d.sorts (grown d [] (shapes_of nodes)) facts

@@ -7,6 +7,6 @@ abbrev pub AreApart : {T : Type 0} → T → List T → Type 0
 AreApart none xs = (i j : ℕ) → i < length xs → j < length xs → slice_index_or xs i none ≡ slice_index_or xs j none
     → i ≡ j
 
--- no name stands twice
+-- no name occurs twice
 abbrev pub HaveNoTwice : List Name → Type 0
 HaveNoTwice ns = AreApart [] ns

@@ -94,20 +94,20 @@ pub record IsRank (sorts : List Name) (r : Rank) : Type 0 where
   -- the one that it gives
   pub result : HasSortIn sorts r.result
 
--- Names and ranks that stand for symbols over sorts.
+-- Names and ranks that represent symbols over sorts.
 pub record AreRanks (sorts names : List Name) (ranks : List Rank) : Type 0 where
-  -- no sort's name stands twice
+  -- no sort's name occurs twice
   pub sorts_apart : HaveNoTwice sorts
-  -- no symbol's name stands twice
+  -- no symbol's name occurs twice
   pub names_apart : HaveNoTwice names
   -- as many names as ranks
   pub long : length names ≡ length ranks
   -- the sorts of each rank are there
   pub each : All (IsRank sorts) ranks
 
--- Sorts and symbols of which no name stands twice.
+-- Sorts and symbols of which no name occurs twice.
 pub record AreDeclared (sorts : List Name) (symbols : List Symbol) : Type 0 where
-  -- no sort's name stands twice
+  -- no sort's name occurs twice
   pub sorts_apart : HaveNoTwice sorts
-  -- no symbol's name stands twice
+  -- no symbol's name occurs twice
   pub names_apart : HaveNoTwice (names_of symbols)

@@ -181,11 +181,11 @@ shapes_of nodes = map shape_of nodes
 abbrev pub table_of : SymbolsView → List Node → TableView
 table_of d nodes = view d (grown d [] (shapes_of nodes))
 
--- Sorts, symbols and nodes that stand for a table: no name and no node twice, each node after what it names.
+-- Sorts, symbols and nodes that represent a table: no name and no node twice, each node after what it names.
 pub record NodesFit (d : SymbolsView) (nodes : List Node) : Type 0 where
   -- the sorts and symbols by their numbers
   pub declared : AreDeclared d.sorts d.symbols
-  -- no node stands twice
+  -- no node occurs twice
   pub nodes_apart : AreApart no_shape (shapes_of nodes)
   -- each comes after what it names
   pub before : AreBefore d [] (shapes_of nodes)

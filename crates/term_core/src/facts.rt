@@ -1,4 +1,4 @@
-//! What a table keeps of each term beside its node.
+//! What a table keeps of each term besides its node.
 
 ghost use Rattle.std.specs.Prelude.{◌≡◌, List};
 ghost use Rattle.spec_text.specs.Bytes.{Name};
@@ -20,7 +20,7 @@ pub(crate) struct Facts {
     pub sort: Sort,
     /// Whether it is a literal, or `-`, `+`, `*`, `/` before constant terms.
     pub constant: bool,
-    /// Whether it may stand as a divisor.
+    /// Whether it may be a divisor.
     pub divisor: bool,
     /// Whether it is zero, as a divisor.
     pub zero: bool,
@@ -97,7 +97,7 @@ fn are_constant(table: &TermTable, ids: &[TermId]) -> bool
     true
 }
 
-/// Tells whether a node's term may stand as a divisor.
+/// Tells whether a node's term may be a divisor.
 fn is_divisor(table: &TermTable, node: &Node) -> bool
     requires { IsPlaced table.now node.now }
     ensures { result ≡ is_divisor (node_term table.now node.now) }
@@ -110,7 +110,7 @@ fn is_divisor(table: &TermTable, node: &Node) -> bool
     }
 }
 
-/// Tells whether there is one term, which may stand as a divisor.
+/// Tells whether there is one term, which may be a divisor.
 #[tactic(auto, unfolding(spec_sorts::specs::Theory::is_divisor))]
 fn is_negative_divisor(table: &TermTable, ids: &[TermId]) -> bool
     requires { AreIn table.now ids.now }
@@ -122,7 +122,7 @@ fn is_negative_divisor(table: &TermTable, ids: &[TermId]) -> bool
     }
 }
 
-/// Tells whether there are two terms, which may both stand as divisors.
+/// Tells whether there are two terms, which may both be divisors.
 #[tactic(auto, unfolding(spec_sorts::specs::Theory::is_divisor))]
 fn is_quotient_divisor(table: &TermTable, ids: &[TermId]) -> bool
     requires { AreIn table.now ids.now }

@@ -66,7 +66,7 @@ impl NameTable {
         self.set.as_slice()[number as usize].as_slice()
     }
 
-    /// States that no name stands twice.
+    /// States that no name occurs twice.
     pub fn no_name_twice(&self)
         ensures { HaveNoTwice self.now }
     {

@@ -9,7 +9,7 @@ use ratio128::Ratio;
 use smallvec::SmallVec;
 use std::alloc::Global;
 
-/// Stands before the arguments of a term.
+/// Comes before the arguments of a term.
 ///
 /// Source: SMT-LIB 2.6, section 3.6, theories Core and Reals. Chains, `distinct`, `>` and `>=` are read as terms of these.
 #[derive(Clone, Copy, Debug, PartialEq, Eq, Hash)]

@@ -11,7 +11,7 @@ use no_memory::NoMemory;
 use std::alloc::Global;
 use std::marker::Model;
 
-/// Holds the declared sorts and the declared symbols in the order in which they came. No name stands twice among the sorts,
+/// Holds the declared sorts and the declared symbols in the order in which they came. No name occurs twice among the sorts,
 /// and none among the symbols.
 ///
 /// A look-up is by hash and takes no memory. Source: SMT-LIB 2.6, section 4.2.3.
@@ -190,7 +190,7 @@ impl Symbols {
         Ok(SymbolId(number))
     }
 
-    /// States that no name stands twice.
+    /// States that no name occurs twice.
     pub fn are_declared(&self)
         ensures { AreDeclared self.now.sorts self.now.symbols }
     {

@@ -162,7 +162,7 @@ impl TermTable {
         self.facts[id.0 as usize].constant
     }
 
-    /// Tells whether a term may stand as a divisor: a literal, `(- d)` or `(/ d e)` of divisors. It takes no memory.
+    /// Tells whether a term may be a divisor: a literal, `(- d)` or `(/ d e)` of divisors. It takes no memory.
     pub fn is_divisor(&self, id: TermId) -> bool
         requires { IsIn self.now id }
         ensures { result ≡ is_divisor (term_at self.now id) }

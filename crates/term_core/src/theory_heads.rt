@@ -83,7 +83,7 @@ impl TheoryHead {
         }
     }
 
-    /// Finds the head with that name, which stands without bars; `None` where there is none. It takes no memory.
+    /// Finds the head with that name, which is written without bars; `None` where there is none. It takes no memory.
     ///
     /// Source: SMT-LIB 2.6, theories Core and Reals.
     pub fn named(name: &[u8]) -> Option<TheoryHead>

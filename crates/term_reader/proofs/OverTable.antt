@@ -1,4 +1,4 @@
--- What a scope stands for while the table grows, and when a name comes.
+-- What a scope represents while the table grows, and when a name comes.
 use Rattle.std.proofs.Common.{◌≡◌, Bool, true, false, cond, [], ◌∷◌, ◌++◌, length, Option, Some, None, refl, sym, ap, ◌∙◌, subst}
 use Rattle.std.specs.Str.{bytes_eq}
 use Rattle.spec_text.specs.Bytes.{Name}
@@ -46,7 +46,7 @@ module _ (old new : TableView) (keeps : KeepsTable old new) where
     body = term_at-kept old new keeps.extends m.body h.body_there ∙ h.body;
   }
 
-  -- the scope stands for the same signature
+  -- the scope represents the same signature
   pub meaning_kept : (v : ScopeView) (s : Signature) → ScopeMeans old v s → ScopeMeans new v s
   meaning_kept v s h = record { sorts = λ n. sort_kept _ _ (h.sorts n); functions = λ n. function_kept _ _ (h.functions n); count = h.count; sorted = h.sorted }
 
@@ -84,7 +84,7 @@ module _ (t : TableView) (v : ScopeView) (s : Signature) (n : Name) (f : Functio
 
   pub function_added : ((m : Name) → FunctionMeans t (function_under v m) (known_as s m)) → known_as s n ≡ None → FunctionMeans t (Some f) (Some k)
       → (m : Name) → FunctionMeans t (function_under with_function m) (known_as (s ++ of_function k ∷ []) m)
-  function_added h new stands m =
+  function_added h new represents m =
       subst (λ o. FunctionMeans t o (known_as (s ++ of_function k ∷ []) m)) (ap (λ es. look_up es m) (sym (newest_push v.names v.functions n f long))) (go (bytes_eq n m) refl)
     where
       later : (o : Option Known) → known_as s m ≡ o → bytes_eq n m ≡ false → FunctionMeans t (function_under v m) o → FunctionMeans t (function_under v m) (known_as (s ++ of_function k ∷ []) m)
@@ -97,5 +97,5 @@ module _ (t : TableView) (v : ScopeView) (s : Signature) (n : Name) (f : Functio
       go true e =
           let is : n ≡ m = same_bytes n m e in
           let last : known_as (s ++ of_function k ∷ []) m ≡ Some k = known_last s k m (ap (known_as s) (sym is) ∙ new) ∙ ap (λ b. cond b (Some k) None) (ap (λ x. bytes_eq x m) named ∙ e) in
-          subst (FunctionMeans t (Some f)) (sym last) stands
+          subst (FunctionMeans t (Some f)) (sym last) represents
       go false e = later (known_as s m) refl e (h m)

@@ -1,4 +1,4 @@
--- What a scope holds, and the signature that it stands for in a table.
+-- What a scope holds, and the signature that it represents in a table.
 use Rattle.std.specs.Prelude.{◌≡◌, ◌+◌, ◌++◌, List, [], length, Option, Some, None}
 use Rattle.spec_text.specs.Bytes.{Name}
 use Rattle.spec_sorts.specs.Terms.{Sort}
@@ -73,7 +73,7 @@ FunctionMeans t (Some (Declared id)) (Some (declared f)) = IsSymbol t.symbols id
 FunctionMeans t (Some (Defined m)) (Some (defined d)) = IsMacro t m d
 FunctionMeans t _ _ = ⊥
 
--- In a table the scope stands for a signature: each name is there in both or in none, and means the same.
+-- In a table the scope represents a signature: each name is there in both or in none, and means the same.
 pub record ScopeMeans (t : TableView) (v : ScopeView) (s : Signature) : Type 0 where
   -- the names of sorts
   pub sorts : (n : Name) → SortMeans t (sort_under v n) (sort_as s n)
@@ -84,7 +84,7 @@ pub record ScopeMeans (t : TableView) (v : ScopeView) (s : Signature) : Type 0 w
   -- definitions stand for well-sorted terms
   pub sorted : AreWellSorted s
 
--- in a table the scope stands for some signature
+-- in a table the scope represents some signature
 abbrev pub HasSignature : TableView → ScopeView → Type 0
 HasSignature t v = (s : Signature) × ScopeMeans t v s
 

@@ -5,7 +5,7 @@ ghost use Rattle.std.specs.Prelude.{◌≡◌};
 use spec_text::Fault;
 use thiserror::Error;
 
-/// Tells a fault of a text, and where it stands.
+/// Tells a fault of a text, and where it is.
 #[derive(Clone, Copy, Debug, PartialEq, Eq)]
 pub struct TermFault {
     /// The offset in the text, in bytes.

@@ -9,7 +9,7 @@ use std::alloc::Global;
 use std::marker::Model;
 use term_core::NameTable;
 
-/// Holds one name of a stack: its number among all names that were met, and where it stood last before.
+/// Holds one name of a stack: its number among all names that were met, and where it was last before.
 #[derive(Clone, Copy, Debug, PartialEq, Eq)]
 pub(crate) struct NameEntry {
     /// The name's number.

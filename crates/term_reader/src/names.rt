@@ -14,7 +14,7 @@ use spec_text::Fault;
 pub struct Setting<'a> {
     /// Whether a new name may begin with `@` or `.`.
     pub kept_names: bool,
-    /// Whether `:named` may stand.
+    /// Whether `:named` is allowed
     pub may_name: bool,
     /// The name whose body is read.
     pub own: Option<&'a [u8]>,

@@ -48,7 +48,7 @@ pub applied : (t : TableView) (interp : Interp) (i : Interpretation) (s : Symbol
 applied t interp i s table v vs tells there is e =
     let lt : s.0 < length interp.tables.items = omega (arith, there, tells.tables.count) in
     let same : i.table (symbol_at t.symbols s).name ≡ table_meant t.sorts table =
-    tells.stands s there ∙ get_or-map (table_meant t.sorts) interp.tables.items s.0 table no_table lt ∙ ap (table_meant t.sorts) (sym is) in
+    tells.represents s there ∙ get_or-map (table_meant t.sorts) interp.tables.items s.0 table no_table lt ∙ ap (table_meant t.sorts) (sym is) in
     e ∙ ap (λ (x : Table). first_fit x.rows x.default vs) (sym same)
 
 pub table_named : (t : TableView) (interp : Interp) (s : ℕ) (table : CodeTable) → HasTables t interp → s < length interp.tables.items → table ≡ get_or interp.tables.items s table → IsTableNamed t.sorts table

@@ -17,7 +17,7 @@ use Rattle.term_core.specs.Tables.{TableView, AreIn, AreDifferent, term_at, clau
 use Rattle.term_walks.specs.declared.values.Value.{Value as CodeValue}
 use Rattle.term_walks.specs.declared.valuation.KnownValue.{KnownValue}
 use Rattle.term_walks.specs.Valuations.{value_meant, values_meant}
-use Rattle.term_walks.specs.Orders.{number_term, In, Ascends, IsOrder, StandsBefore, HasArgumentsBefore}
+use Rattle.term_walks.specs.Orders.{number_term, In, Ascends, IsOrder, IsAmongFirst, HasArgumentsBefore}
 use Rattle.term_walks.specs.KnownValues.{known_meant, AreKnownValues}
 use Rattle.term_walks.proofs.Among.{in_place, at_in}
 use Rattle.term_walks.proofs.Places.{falls_before, one_place}
@@ -92,20 +92,20 @@ ready t root order at o lt u i =
     (p.0, falls_before order o.ascends p.0 at p.1 (subst (λ n. n < get_or order at 0) (sym p.2) a.2), p.1, o.there (get_or order p.0 0) (at_in order p.0 p.1), ap (number_term t) p.2 ∙ a.3)
 
 -- so their numbers do
-pub stand : (t : TableView) (order : List ℕ) (count k : ℕ) (h : Head) (ids : List TermId) → AreDifferent t.terms → HasArgumentsBefore t order count k → number_term t k ≡ of h (clause_at t ids) → AreIn t ids
-    → All (λ (id : TermId). StandsBefore order count id.0) ids
-stand t order count k h ids apart are means within j d lt =
+pub numbers_among_first : (t : TableView) (order : List ℕ) (count k : ℕ) (h : Head) (ids : List TermId) → AreDifferent t.terms → HasArgumentsBefore t order count k → number_term t k ≡ of h (clause_at t ids) → AreIn t ids
+    → All (λ (id : TermId). IsAmongFirst order count id.0) ids
+numbers_among_first t order count k h ids apart are means within j d lt =
     let id = get_or ids j d in
     let here : Contains (arguments_of (number_term t k)) (term_at t id) = subst (λ l. Contains l (term_at t id)) (sym (arguments_are t k h (clause_at t ids) means)) (to_image (term_at t) ids id (Contains-get_or ids j d lt)) in
     let p = are (term_at t id) here in
     (p.0, p.1, p.2, apart (get_or order p.0 0) id.0 p.3 (within j d lt) p.4)
 
 -- the place that is found is before so many
-pub place_before : (order : List ℕ) (count n place : ℕ) → Ascends order → StandsBefore order count n → place < length order → get_or order place 0 ≡ n → place < count
+pub place_before : (order : List ℕ) (count n place : ℕ) → Ascends order → IsAmongFirst order count n → place < length order → get_or order place 0 ≡ n → place < count
 place_before order count n place a s lt same = subst (λ m. m < count) (one_place order a s.0 place s.2 lt (s.3 ∙ sym same)) s.1
 
-pub stands_in : (order : List ℕ) (count n : ℕ) → StandsBefore order count n → In n order
-stands_in order count n s = subst (λ m. In m order) s.3 (at_in order s.0 s.2)
+pub among_order : (order : List ℕ) (count n : ℕ) → IsAmongFirst order count n → In n order
+among_order order count n s = subst (λ m. In m order) s.3 (at_in order s.0 s.2)
 
 -- the value by the head at the arguments' values
 pub by_head : (i : Interpretation) (h : Head) (ts : List Term) → takes h (map sort_of ts) ≡ true → bounded_value i [] (of h ts) ≡ (bounded_values i [] (terms_of ts) >>= λ vs. bounded_head i h vs)
@@ -125,8 +125,8 @@ unfolding ◌>>=◌
 wide_made i h ts u o fits means e = ap (λ r. r >>= λ vs. bounded_head i h vs) e ∙ sym (by_head i h ts fits) ∙ ap (bounded_value i []) (sym means)
 
 -- the term of the whole walk is among all
-pub root_stands : (t : TableView) (root : ℕ) (order : List ℕ) (count : ℕ) → IsOrder t root order → length order ≤ count → StandsBefore order count root
-root_stands t root order count o le = let p = in_place root order o.root_there in (p.0, omega (arith, p.1, le), p.1, p.2)
+pub root_among_first : (t : TableView) (root : ℕ) (order : List ℕ) (count : ℕ) → IsOrder t root order → length order ≤ count → IsAmongFirst order count root
+root_among_first t root order count o le = let p = in_place root order o.root_there in (p.0, omega (arith, p.1, le), p.1, p.2)
 
 -- what holds of each, and of one more
 pub all_push : {A : Type 0} (P : A → Type 0) (xs new : List A) (x : A) → new ≡ xs ++ x ∷ [] → All P xs → P x → All P new

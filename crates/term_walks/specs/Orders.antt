@@ -58,8 +58,8 @@ pub record IsOrder (t : TableView) (root : ℕ) (order : List ℕ) : Type 0 wher
       → FillsAll ts (number_term t k)
 
 -- the number is among the first so many
-abbrev pub StandsBefore : List ℕ → ℕ → ℕ → Type 0
-StandsBefore order count n = (j : ℕ) × (j < count) × (j < length order) × (get_or order j 0 ≡ n)
+abbrev pub IsAmongFirst : List ℕ → ℕ → ℕ → Type 0
+IsAmongFirst order count n = (j : ℕ) × (j < count) × (j < length order) × (get_or order j 0 ≡ n)
 
 -- each argument of the number's term is among the first so many
 abbrev pub HasArgumentsBefore : TableView → List ℕ → ℕ → ℕ → Type 0

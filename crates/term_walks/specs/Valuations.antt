@@ -101,7 +101,7 @@ pub record Tells (t : TableView) (interp : Interp) (i : Interpretation) : Type 0
   -- there are tables
   pub tables : HasTables t interp
   -- the interpretation has them
-  pub stands : HasSymbolTables t interp i
+  pub represents : HasSymbolTables t interp i
 
 -- the value that was found, or the overflow; out of memory says nothing
 abbrev pub IsOutcome : List Name → Result CodeValue ValueStop → Result Value Overflow → Type 0

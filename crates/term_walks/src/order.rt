@@ -2,7 +2,7 @@
 
 ghost use Rattle.std.specs.Prelude.{◌≡◌, ◌<◌, ℕ, List, length, get_or, IfOk, OnOk};
 ghost use Rattle.term_core.specs.Tables.{IsIn};
-ghost use Rattle.term_walks.specs.Orders.{numbers_of, In, Ascends, AddsNumbers, NamesArguments, IsOrder, StandsBefore};
+ghost use Rattle.term_walks.specs.Orders.{numbers_of, In, Ascends, AddsNumbers, NamesArguments, IsOrder, IsAmongFirst};
 
 use no_memory::NoMemory;
 use std::alloc::Global;
@@ -50,7 +50,7 @@ fn add_all(waiting: &mut BTreeSet<u64>, ids: &[TermId]) -> Result<(), NoMemory>
 /// Finds the place of a number among the first `count`.
 pub fn place_among(order: &[u64], number: u64, count: usize) -> usize
     requires ascends { Ascends order.now }
-    requires there { StandsBefore order.now count number }
+    requires there { IsAmongFirst order.now count number }
     ensures inside { result < count }
     ensures same { get_or order.now result 0 ≡ number }
 {

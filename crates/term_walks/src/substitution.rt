@@ -5,7 +5,7 @@ ghost use Rattle.spec_sorts.specs.Terms.{Term, filled};
 ghost use Rattle.term_core.specs.Tables.{TableView, declared_in, term_at, IsIn, AreIn, clause_at, node_term, IsPlaced, Extends};
 ghost use Rattle.term_walks.specs.Filling.{FillsAll};
 ghost use Rattle.term_walks.specs.FilledTerms.{IsFilled, AreFilled, refilled, IsNoParameter, IsParameterOr};
-ghost use Rattle.term_walks.specs.Orders.{Ascends, IsOrder, StandsBefore, HasArgumentsBefore};
+ghost use Rattle.term_walks.specs.Orders.{Ascends, IsOrder, IsAmongFirst, HasArgumentsBefore};
 
 use crate::order::{order_of, place_among};
 use no_memory::NoMemory;
@@ -173,7 +173,7 @@ fn filled_all(
     made: &[TermId],
 ) -> Result<Vec<TermId>, NoMemory>
     requires ascends { Ascends order.now }
-    requires there { All (λ id. StandsBefore order.now (length made.now) id.0) arguments.now }
+    requires there { All (λ id. IsAmongFirst order.now (length made.now) id.0) arguments.now }
     ensures { (t : TableView) (ts : List Term) → AreFilled t ts order.now made.now
         → IfOk result (λ v. AreIn t v.items
         × (clause_at t v.items ≡ map (filled ts) (clause_at t arguments.now))) }
@@ -188,7 +188,7 @@ fn filled_all(
 /// Says the number of the filled term of a number.
 fn made_at(order: &[u64], made: &[TermId], number: u64) -> TermId
     requires ascends { Ascends order.now }
-    requires there { StandsBefore order.now (length made.now) number }
+    requires there { IsAmongFirst order.now (length made.now) number }
     ensures { (t : TableView) (ts : List Term) → AreFilled t ts order.now made.now
         → IsFilled t ts number result }
 {

@@ -7,7 +7,7 @@ ghost use Rattle.spec_sorts.specs.Values.{Interpretation};
 ghost use Rattle.spec_sorts.specs.BoundedValues.{bounded_head, bounded_value, bounded_values};
 ghost use Rattle.term_core.specs.Tables.{TableView, IsIn, term_at, clause_at, head_meant, HasHead};
 ghost use Rattle.term_walks.specs.Valuations.{values_meant, IsNamed, AreNamed, HasTable, HasTables, HasSymbolTables, Tells, IsOutcome};
-ghost use Rattle.term_walks.specs.Orders.{number_term, Ascends, IsOrder, StandsBefore, HasArgumentsBefore};
+ghost use Rattle.term_walks.specs.Orders.{number_term, Ascends, IsOrder, IsAmongFirst, HasArgumentsBefore};
 ghost use Rattle.term_walks.specs.KnownValues.{known_meant, taken_meant, IsKnownNamed, AreKnownValues};
 
 use crate::heads::head_value;
@@ -112,7 +112,7 @@ fn take_values(
     arguments: &[TermId],
 ) -> Result<Option<Wide>, NoMemory>
     requires ascends { Ascends order.now }
-    requires there { All (λ id. StandsBefore order.now (length known.now) id.0) arguments.now }
+    requires there { All (λ id. IsAmongFirst order.now (length known.now) id.0) arguments.now }
     ensures exact { (t : TableView) (i : Interpretation) → AreKnownValues t i order.now known.now
         → IfOk result (λ w. taken_meant t.sorts w taken.new.items
         ≡ bounded_values i [] (terms_of (clause_at t arguments.now))) }
@@ -134,7 +134,7 @@ fn take_values(
 /// Says what is known of the term of a number.
 fn known_at(order: &[u64], known: &[KnownValue], number: u64) -> KnownValue
     requires ascends { Ascends order.now }
-    requires there { StandsBefore order.now (length known.now) number }
+    requires there { IsAmongFirst order.now (length known.now) number }
     ensures exact { (t : TableView) (i : Interpretation) → AreKnownValues t i order.now known.now
         → known_meant t.sorts result ≡ bounded_value i [] (number_term t number) }
     ensures named { (sorts : List Name) → All (IsKnownNamed sorts) known.now → IsKnownNamed sorts result }

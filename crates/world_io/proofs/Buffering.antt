@@ -6,15 +6,15 @@ use Rattle.std.specs.Io.KnownBytes.{Appends, Keeps, append_known}
 use Rattle.std.specs.Prelude.{Result, Ok, Err}
 use Rattle.world_io.specs.declared.fault.Failed.{Failed}
 use Rattle.world_io.specs.Writing.{SinkView, IsRoomFor, HasRoom, Sent, NotTaken, NotFlushed, Flushes, WritesPrefix}
-use Rattle.world_io.specs.Buffering.{room_beside, room_left, buffered, PassesOn, PassesNothing}
+use Rattle.world_io.specs.Buffering.{room_minus, room_left, buffered, PassesOn, PassesNothing}
 use Rattle.world_io.proofs.Sending.{rose_after, room_for_less}
 
-below : (most w n : ℕ) → IsRoomFor (room_beside most w) n → w + n ≤ most
+below : (most w n : ℕ) → IsRoomFor (room_minus most w) n → w + n ≤ most
 below most zero n h = omega arith
 below zero (suc w) n h = absurd h
 below (suc most) (suc w) n h = omega (arith, below most w n h)
 
-above : (most w n : ℕ) → w + n ≤ most → IsRoomFor (room_beside most w) n
+above : (most w n : ℕ) → w + n ≤ most → IsRoomFor (room_minus most w) n
 above most zero n h = omega arith
 above zero (suc w) n h = absurd (omega arith)
 above (suc most) (suc w) n h = above most w n (omega arith)

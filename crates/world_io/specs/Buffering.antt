@@ -14,15 +14,15 @@ abbrev pub pending_in : {K : Type 0} → BufferedSink K → List ℕ
 pending_in b = drop b.from b.bytes.items
 
 -- the room that is left where so many bytes of it are taken; none is promised where there are not so many
-abbrev pub room_beside : ℕ → ℕ → Option ℕ
-room_beside most zero = Some most
-room_beside zero (suc n) = None
-room_beside (suc most) (suc n) = room_beside most n
+abbrev pub room_minus : ℕ → ℕ → Option ℕ
+room_minus most zero = Some most
+room_minus zero (suc n) = None
+room_minus (suc most) (suc n) = room_minus most n
 
 -- the same, of a room that is promised or not
 abbrev pub room_left : Option ℕ → ℕ → Option ℕ
 room_left None n = None
-room_left (Some most) n = room_beside most n
+room_left (Some most) n = room_minus most n
 
 -- a sink with a buffer before it in which those bytes wait
 abbrev pub buffered : SinkView → List ℕ → SinkView

@@ -6,4 +6,4 @@ pub judge-requires : goal.judge-requires
 judge-requires c = (known_on c.requires.1, c.in_ok-known.ensures.known c.requires.0 c.requires.1 c.requires.2)
 
 pub returns : goal.returns
-returns c limit s stands = c.judge.ensures (known_on s) (c.in_ok-known.ensures.known limit s stands)
+returns c limit s represents = c.judge.ensures (known_on s) (c.in_ok-known.ensures.known limit s represents)

@@ -18,7 +18,7 @@ commands-init c =
     }
 
 pub command-requires : goal.command-requires
-command-requires c = let l = c.commands.invariant.loading in (term_limit, l.stack, l.stands)
+command-requires c = let l = c.commands.invariant.loading in (term_limit, l.stack, l.represents)
 
 pub returns-in-Ok-None : goal.returns-in-Ok-None
 returns-in-Ok-None c = let h = rw c.in-Ok-None.field-0-is at c.in-Ok-None.ensures in script_finishes (whole_of c.args.text) _ _ c.commands.place _ c.commands.invariant.loading h.0
@@ -30,14 +30,14 @@ pub returns-then-left-eq1 : goal.returns-then-left-eq1
 returns-then-left-eq1 c =
     let r = rw c.in-Ok-Some.field-0-is at c.in-Ok-Some.ensures in
     let l = c.commands.invariant.loading in
-    let d = rw c.in-Ok-Check.field-0-is at (c.in-Ok-Check.ensures.steps term_limit l.stack l.stands) in
+    let d = rw c.in-Ok-Check.field-0-is at (c.in-Ok-Check.ensures.steps term_limit l.stack l.represents) in
     check_here (whole_of c.args.text) _ _ c.commands.place _ l c.in-Ok-Some.read.0 c.in-Ok-Some.read.1 r c.in-Ok-Check.field-0-0 (over_table c.command.new.table c.command.new.self) c.if-left-eq1.true d (c.each_text_is_read.ensures (kept (whole_of c.args.text)) c.in-Ok-Some.read.1.offset 0 (omega arith))
 
 pub returns-in-Ok-Exit : goal.returns-in-Ok-Exit
 returns-in-Ok-Exit c =
     let r = rw c.in-Ok-Some.field-0-is at c.in-Ok-Some.ensures in
     let l = c.commands.invariant.loading in
-    let d = rw c.in-Ok-Exit.field-0-is at (c.in-Ok-Exit.ensures.steps term_limit l.stack l.stands) in
+    let d = rw c.in-Ok-Exit.field-0-is at (c.in-Ok-Exit.ensures.steps term_limit l.stack l.represents) in
     leaves_here (whole_of c.args.text) _ _ c.commands.place _ l c.in-Ok-Some.read.0 c.in-Ok-Some.read.1 r (over_table c.command.new.table c.command.new.self) d (c.each_text_is_read.ensures (kept (whole_of c.args.text)) c.in-Ok-Some.read.1.offset 0 (omega arith))
 
 pub commands-preserved : goal.commands-preserved
@@ -49,19 +49,19 @@ commands-preserved c =
       place = r.is.place;
       loading = elim c.match-command.branch [
         | in-Ok-Check+else-left-eq1 w ↦
-            let d = rw w.in-Ok-Check.field-0-is at (w.in-Ok-Check.ensures.steps term_limit l.stack l.stands) in
+            let d = rw w.in-Ok-Check.field-0-is at (w.in-Ok-Check.ensures.steps term_limit l.stack l.represents) in
             taken_here (whole_of c.args.text) _ _ c.commands.place _ l c.in-Ok-Some.read.0 c.in-Ok-Some.read.1 r (effects.Check w.in-Ok-Check.field-0-0) c.match-command.left new (one_less w.in-Ok-Check.field-0-0 c.commands.left c.match-command.left w.if-left-eq1.false (w.left-is ∙ w.saturating_sub-left.ensures)) d
         | in-Ok-Done w ↦
-            let d = rw w.in-Ok-Done.field-0-is at (w.in-Ok-Done.ensures.steps term_limit l.stack l.stands) in
+            let d = rw w.in-Ok-Done.field-0-is at (w.in-Ok-Done.ensures.steps term_limit l.stack l.represents) in
             taken_here (whole_of c.args.text) _ _ c.commands.place _ l c.in-Ok-Some.read.0 c.in-Ok-Some.read.1 r effects.Done c.match-command.left new (λ s rest. ap (rest s) (sym w.left-is)) d
         | in-Ok-Unsupported w ↦
-            let d = rw w.in-Ok-Unsupported.field-0-is at (w.in-Ok-Unsupported.ensures.steps term_limit l.stack l.stands) in
+            let d = rw w.in-Ok-Unsupported.field-0-is at (w.in-Ok-Unsupported.ensures.steps term_limit l.stack l.represents) in
             taken_here (whole_of c.args.text) _ _ c.commands.place _ l c.in-Ok-Some.read.0 c.in-Ok-Some.read.1 r effects.Unsupported c.match-command.left new (λ s rest. ap (rest s) (sym w.left-is)) d
         | in-Ok-Say w ↦
-            let d = rw w.in-Ok-Say.field-0-is at (w.in-Ok-Say.ensures.steps term_limit l.stack l.stands) in
+            let d = rw w.in-Ok-Say.field-0-is at (w.in-Ok-Say.ensures.steps term_limit l.stack l.represents) in
             taken_here (whole_of c.args.text) _ _ c.commands.place _ l c.in-Ok-Some.read.0 c.in-Ok-Some.read.1 r (effects.Say w.in-Ok-Say.field-0-0) c.match-command.left new (λ s rest. ap (rest s) (sym w.left-is)) d
         | in-Err-Fault-command w ↦ rw w.left-is (
-            let d = rw w.in-Err-Fault-command.field-0-is at (w.in-Err-Fault-command.ensures.steps term_limit l.stack l.stands) in
+            let d = rw w.in-Err-Fault-command.field-0-is at (w.in-Err-Fault-command.ensures.steps term_limit l.stack l.represents) in
             let same = w.in-Err-Fault-command.ensures.same in
             refused_here (whole_of c.args.text) _ _ c.commands.place _ l c.in-Ok-Some.read.0 c.in-Ok-Some.read.1 r _ new (λ i. over_table (same.1 i) (same.0 i)) d)
       ];

@@ -6,7 +6,7 @@ use Rattle.proof_log.specs.declared.premises.StepId.{StepId}
 use Rattle.proof_log.specs.Logs.{numbers_of}
 use Rattle.alethe_writer.specs.Marks.{MarksNumbers}
 use Rattle.alethe_writer.proofs.Closing.{marks_one}
-use Rattle.alethe_writer.proofs.Resting.{numbers_more}
+use Rattle.alethe_writer.proofs.Supports.{numbers_more}
 use Rattle.alethe_writer.proofs.marks.mark_steps.Goals as goal
 
 pub ids-preserved : goal.ids-preserved

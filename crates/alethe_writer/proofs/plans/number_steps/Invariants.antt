@@ -7,7 +7,7 @@ use Rattle.alethe_writer.proofs.plans.number_steps.Given as goal
 
 abbrev pub invariant-steps : goal.invariant-steps
 invariant-steps l = record {
-  so_far : (t : TableView) → l.numbers.items ++ counted_inferences l.assumes.next l.steps.next (drop l.number l.rests) (drop l.number (derivation_in t l.log)) ≡ counted_inferences 1 1 l.rests (derivation_in t l.log);
+  so_far : (t : TableView) → l.numbers.items ++ counted_inferences l.assumes.next l.steps.next (drop l.number l.support) (drop l.number (derivation_in t l.log)) ≡ counted_inferences 1 1 l.support (derivation_in t l.log);
   assumes_below : l.assumes.next ≤ l.number + 1;
   steps_below : l.steps.next ≤ l.number + 1;
 }

@@ -1,28 +1,28 @@
 -- The plan has the numbers of what is marked.
 use Rattle.std.proofs.Common.{◌≡◌, List, Bool, length, subst, ap, ◌∙◌, sym, refl, arith}
 use Rattle.std.proofs.lemmas.List.{length-map}
-use Rattle.spec_proof_texts.specs.Plans.{AreRests, counted, compounds, counted_inferences}
+use Rattle.spec_proof_texts.specs.Plans.{IsSupport, counted, compounds, counted_inferences}
 use Rattle.spec_proof_texts.proofs.Numbers.{counted_length, compounds_length}
 use Rattle.proof_log.specs.Logs.{derivation_in}
 use Rattle.alethe_writer.proofs.Counted.{inferences_length}
 use Rattle.alethe_writer.proofs.plans.prepare.Goals as goal
 
 pub printed_of-requires-clause-short : goal.printed_of-requires-clause-short
-printed_of-requires-clause-short c = omega (arith, ap length c.deref.ensures.value, (c.in_ok-rests.ensures c.args.table.now).up_to, c.requires.there)
+printed_of-requires-clause-short c = omega (arith, ap length c.deref.ensures.value, (c.in_ok-support.ensures c.args.table.now).up_to, c.requires.there)
 
 pub number_steps-requires : goal.number_steps-requires
-number_steps-requires c = omega (arith, ap length c.deref-3.ensures.value, (c.in_ok-rests.ensures c.args.table.now).up_to, c.requires.there)
+number_steps-requires c = omega (arith, ap length c.deref-3.ensures.value, (c.in_ok-support.ensures c.args.table.now).up_to, c.requires.there)
 
 pub returns-clause-plan : goal.returns-clause-plan
 returns-clause-plan c =
     let t = c.args.table.now in
     let d = derivation_in t c.args.log.now in
     record {
-      rests = c.in_ok-rests.rests.items;
-      are_rests = c.in_ok-rests.ensures t;
+      support = c.in_ok-support.support.items;
+      is_support = c.in_ok-support.ensures t;
       inferences = c.in_ok-number_steps.ensures t ∙ ap (λ (bs : List Bool). counted_inferences 1 1 bs d) c.deref-3.ensures.value;
       printed = c.in_ok-printed.printed.items;
-      are_printed = c.in_ok-printed.ensures.printed c.args.step.0 (subst (AreRests d c.args.step.0) (sym c.deref.ensures.value) (c.in_ok-rests.ensures t));
+      are_printed = c.in_ok-printed.ensures.printed c.args.step.0 (subst (IsSupport d c.args.step.0) (sym c.deref.ensures.value) (c.in_ok-support.ensures t));
       definitions = c.in_ok-number_terms.ensures ∙ ap (λ (bs : List Bool). counted 1 (compounds t.terms bs)) c.deref-2.ensures.value;
     }
 

@@ -1,4 +1,4 @@
--- The stack stands for the same stack, over a table that grew, or was cut back.
+-- The stack represents the same stack, over a table that grew, or was cut back.
 use Rattle.std.proofs.Common.{sym, ap, ◌∙◌, subst}
 use Rattle.term_core.specs.Tables.{clause_at}
 use Rattle.proof_log.specs.Logs.{AreFormulasIn}

@@ -27,6 +27,6 @@ returns-clause-more c =
     let means = c.in_ok-fact.ensures.means in
     let all = c.push.new.self.items in
     let ids = c.args.ids.now.items in
-    let said = order_fact (term_at t x.left) (term_at t x.right) in
-    more_same t u ids all (said ∷ []) (order_facts (term_at t c.args.id)) (sym (facts_are t c.args.id x c.requires.there is))
-    (more_pushed t u wider ids all fact said c.requires.ids c.in_ok-push.ensures.items (fact_in t u wider c.args.id x fact c.requires.there is means) means.1)
+    let told_fact = order_fact (term_at t x.left) (term_at t x.right) in
+    more_same t u ids all (told_fact ∷ []) (order_facts (term_at t c.args.id)) (sym (facts_are t c.args.id x c.requires.there is))
+    (more_pushed t u wider ids all fact told_fact c.requires.ids c.in_ok-push.ensures.items (fact_in t u wider c.args.id x fact c.requires.there is means) means.1)

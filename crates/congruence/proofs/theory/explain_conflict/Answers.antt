@@ -13,10 +13,10 @@ explain-requires g c =
     let w = c.args.closure.now in
     let forest = c.forest.result.now.now in
     let facts = c.requires.0 in
-    let stands = basis t w c.is_right.ensures c.truths.result forest c.requires.1.0 (subst (AreFactsOf t) facts c.requires.1.1.0) c.truths.ensures c.forest.ensures.edges c.forest.ensures.terms in (
+    let represents = basis t w c.is_right.ensures c.truths.result forest c.requires.1.0 (subst (AreFactsOf t) facts c.requires.1.1.0) c.truths.ensures c.forest.ensures.edges c.forest.ensures.terms in (
       c.requires.1.1.1.0,
       (
-        subst (λ (f : Facts). IsBasis t c.truths.result forest f) (sym facts) stands,
+        subst (λ (f : Facts). IsBasis t c.truths.result forest f) (sym facts) represents,
         subst (λ (es : List Edge). IsConflict g.facts es c.args.conflict) (sym c.forest.ensures.edges) c.requires.1.1.1.1,
       ),
     )

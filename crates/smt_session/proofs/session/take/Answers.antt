@@ -1,7 +1,7 @@
 -- By what the command came to.
 use Rattle.std.proofs.Common.{[], refl, sym, ap, ◌∙◌, subst}
 use Rattle.spec_commands.specs.Stack.{done, unsupported, check, say, leave}
-use Rattle.spec_sessions.specs.Responses.{success, not_supported, answered, said, ended}
+use Rattle.spec_sessions.specs.Responses.{success, not_supported, answered, echoed, ended}
 use Rattle.smt_sexpr.specs.Items.{tree_of}
 use Rattle.assertion_stack.specs.Stacks.{OverTable, over_table}
 use Rattle.check_evidence.specs.Evidence.{limits_meant, checked_on, IsHeld, IsEvidence}
@@ -31,7 +31,7 @@ returns-in-Ok-Say-clause-takes c = λ s h.
     let text = c.in-Ok-Say.text.now in
     let d = rw c.in-Ok-Say.field-0-is at (c.in-Ok-Say.ensures.steps l.terms s h.stack) in
     let kept = kept_on c.commands_keep_stacks.ensures.next c.commands_leave_script_names.ensures.next l.terms s x d.0 d.1 h.kept in
-    record { a = record { response = said text; stack = d.0.stack }; answers = taken_as l s (tree_of x) (said text) (say text) d.0 d.1 d.2 refl; is = refl; asked = tt; held = record { stack = d.3; kept = kept; readable = c.commands_leave_readable_definitions.ensures.next l.terms s (tree_of x) d.0 d.1 h.readable }; learned = tt }
+    record { a = record { response = echoed text; stack = d.0.stack }; answers = taken_as l s (tree_of x) (echoed text) (say text) d.0 d.1 d.2 refl; is = refl; asked = tt; held = record { stack = d.3; kept = kept; readable = c.commands_leave_readable_definitions.ensures.next l.terms s (tree_of x) d.0 d.1 h.readable }; learned = tt }
 
 pub returns-in-Ok-Exit-clause-takes : goal.returns-in-Ok-Exit-clause-takes
 returns-in-Ok-Exit-clause-takes c = λ s h.

@@ -5,7 +5,7 @@ use Rattle.congruence.specs.Views.{theory_of}
 use Rattle.search_loop.specs.declared.cdcl.Answer.TheVariants.{Unknown}
 use Rattle.search_loop.specs.Rounds.{ShowsAnswer}
 use Rattle.search_loop.proofs.SearchSpends.{handed_on}
-use Rattle.solve_core.proofs.SearchStops.{model_stops, rests_with}
+use Rattle.solve_core.proofs.SearchStops.{model_stops, saturated_with}
 use Rattle.solve_core.proofs.answering.answer_saturated.Goals as goal
 
 pub model-requires : goal.model-requires
@@ -13,7 +13,7 @@ model-requires c =
     let t = c.args.table.now in
     let x = c.args.search.now in
     let v = theory_of c.args.theory.now.congruence in
-    record { search_saturated = (v, rests_with t x v (λ a. a.0.0) c.requires.search_saturated, rw c.in-Agreed.is at c.in_ok-pairs.ensures.found) }
+    record { search_saturated = (v, saturated_with t x v (λ a. a.0.0) c.requires.search_saturated, rw c.in-Agreed.is at c.in_ok-pairs.ensures.found) }
 
 pub returns-in_err-pairs-clause-overflowed : goal.returns-in_err-pairs-clause-overflowed
 returns-in_err-pairs-clause-overflowed c =

@@ -16,7 +16,7 @@ use Rattle.search_loop.specs.declared.cdcl.Answer.TheVariants.{Sat}
 use Rattle.search_loop.proofs.SearchRounds.{shows_on}
 use Rattle.term_core.specs.Symbols.{SymbolsView, AreDeclared}
 use Rattle.solve_core.proofs.SearchNumbers.{plain_later, zeros_hold}
-use Rattle.solve_core.proofs.SearchStops.{rests_with}
+use Rattle.solve_core.proofs.SearchStops.{saturated_with}
 use Rattle.solve_core.proofs.answering.search_classes.Goals as goal
 
 pub returns-in_default-clause-grown : goal.returns-in_default-clause-grown
@@ -46,7 +46,7 @@ model-requires c =
     let tell = subst (λ (is : List TermId). TellClasses (AreEqualBy w v) is ns) c.deref-in-Saturated.ensures.value told in
     let count = c.in_ok-classes-in-Saturated.ensures.count ∙ ap length c.deref-in-Saturated.ensures.value in
     let zeros = c.in_ok-numbers-in-Saturated.ensures ∙ ap₂ replicate all zero_is in
-    record { search_saturated = (v, rests_with w y v (λ a. a.0) ends.0, zeros_hold w y v _ ends.0 plain ns tell count (map fraction c.in_ok-numbers-in-Saturated.numbers.items) zeros) }
+    record { search_saturated = (v, saturated_with w y v (λ a. a.0) ends.0, zeros_hold w y v _ ends.0 plain ns tell count (map fraction c.in_ok-numbers-in-Saturated.numbers.items) zeros) }
 
 pub returns-in_ok-model-in-Saturated-clause-answered : goal.returns-in_ok-model-in-Saturated-clause-answered
 returns-in_ok-model-in-Saturated-clause-answered c =

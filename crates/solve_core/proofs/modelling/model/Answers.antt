@@ -17,7 +17,7 @@ use Rattle.search_loop.specs.declared.cdcl.Answer.TheVariants.{Sat}
 use Rattle.search_loop.specs.Rounds.{ShowsAnswer}
 use Rattle.search_loop.proofs.SearchReady.{held_in}
 use Rattle.search_loop.proofs.SearchShows.{learning_shows}
-use Rattle.solve_core.proofs.SearchModelled.{given, taken, rests, nothing_assumed, has_model}
+use Rattle.solve_core.proofs.SearchModelled.{given, taken, saturated_here, nothing_assumed, has_model}
 use Rattle.solve_core.proofs.modelling.model.Goals as goal
 
 pub model_of-requires-clause-rising : goal.model_of-requires-clause-rising
@@ -74,11 +74,11 @@ returns c =
     let place = c.listed_terms_have_their_places_class.ensures in
     let linear = c.terms_of_linear_checks_are_linear.ensures in
     let g = given t differ x v _ h consistent h.agrees ns tell problem s place linear number k.values.reduced kept in
-    let saturation = rests t differ x v _ h consistent h.agrees ns tell problem s place linear number k.values.reduced kept k.shared k.shares k.heads k.agree in
+    let saturation = saturated_here t differ x v _ h consistent h.agrees ns tell problem s place linear number k.values.reduced kept k.shared k.shares k.heads k.agree in
     let arguments = taken t differ x v _ h consistent h.agrees ns tell problem s place linear number k.values.reduced kept k.shared k.shares k.heads k.agree in
     let assumed = nothing_assumed t differ x v _ h consistent h.agrees ns tell problem s in (
       has_model t differ x v _ h consistent h.agrees ns tell problem s place linear number k.values.reduced kept interp good
-          (c.made_models_stand.ensures.stands t ls ids ns (map number terms) interp declared.names_apart good)
+          (c.made_models_have_interpretations.ensures.represents t ls ids ns (map number terms) interp declared.names_apart good)
           (c.made_models_are_those_of_numbers.ensures t ls ids ns number interp arguments good)
           (λ i by. c.searches_saturated_on_numbers_have_models.ensures.interprets t.symbols problem terms held g i saturation by)
           (λ i by. c.searches_saturated_on_numbers_have_models.ensures.all t.symbols problem terms held g i saturation by assumed),

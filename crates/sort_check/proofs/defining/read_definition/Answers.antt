@@ -19,4 +19,4 @@ returns-in-Ok-clause-ends c =
     let at = with_definitions s k.definitions in
     let room = room_meant c.args.room in
     definition_ends room (setting_meant c.args.setting) s (parts_meant c.args.parts) (store c.read_whole.new.table c.read_whole.new.scope) c.in-Ok.named.items k c.find_room.result
-    (subst (λ us. EndsRoom (within room at us) c.find_room.result) (ap (clause_at c.read_whole.new.table) c.deref.ensures.value) (c.find_room.ensures at k.stands.count))
+    (subst (λ us. EndsRoom (within room at us) c.find_room.result) (ap (clause_at c.read_whole.new.table) c.deref.ensures.value) (c.find_room.ensures at k.represents.count))

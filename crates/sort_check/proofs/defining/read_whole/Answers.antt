@@ -16,7 +16,7 @@ use Rattle.sort_check.specs.Walks.{AllMean, terms_of_definitions}
 use Rattle.sort_check.proofs.Widening.{grows_same}
 use Rattle.sort_check.proofs.Kept.{mean_push}
 use Rattle.sort_check.proofs.NamesGiven.{fresh_is}
-use Rattle.sort_check.proofs.Definitions.{inside, name_stops, parameters_stop, sort_stops, body_stops, whole_read, whole_stands, macro_is}
+use Rattle.sort_check.proofs.Definitions.{inside, name_stops, parameters_stop, sort_stops, body_stops, whole_read, definition_means, macro_is}
 use Rattle.sort_check.proofs.defining.read_whole.Goals as goal
 
 pub returns-in-Err-clause-ends : goal.returns-in-Err-clause-ends
@@ -112,8 +112,8 @@ returns-clause-ends c =
     record {
       definitions = made ++ it ∷ [];
       read = whole_read w s d n fresh params ps.read result q.1 r.reading r.read;
-      stands = subst (λ (x : ScopeView). ScopeMeans u x (with_definitions s (made ++ it ∷ []))) (sym c.in_default.ensures.added)
-          (whole_stands w s d n fresh params ps.read result q.1 r.reading r.read u v r.stands h.sorted (record { parameters = p.1; result = sort; body = id }) macro c.each_name_means_something.ensures.functions);
+      represents = subst (λ (x : ScopeView). ScopeMeans u x (with_definitions s (made ++ it ∷ []))) (sym c.in_default.ensures.added)
+          (definition_means w s d n fresh params ps.read result q.1 r.reading r.read u v r.represents h.sorted (record { parameters = p.1; result = sort; body = id }) macro c.each_name_means_something.ensures.functions);
       terms = subst (λ ids. AllMean u ids (terms_of_definitions (made ++ it ∷ []))) (sym c.in_default-push.ensures.items)
           (subst (AllMean u (c.in-Ok-read_body.named.items ++ id ∷ [])) (sym (map-append (λ (x : Definition). x.term) made (it ∷ [])))
           (mean_push u c.in-Ok-read_body.named.items id (terms_of_definitions made) r.reading.term r.named r.term.0 r.term.1));

@@ -15,7 +15,7 @@ use Rattle.term_reader.specs.Scopes.{IsMacro}
 use Rattle.sort_check.specs.Naming.{NamesMean, annotated_meant}
 use Rattle.sort_check.proofs.Widening.{widens_same, widens_is}
 use Rattle.sort_check.proofs.Kept.{mean_push}
-use Rattle.sort_check.proofs.NamesGiven.{is_taken, fresh_is, not_given, may_not, is_given, given_stands}
+use Rattle.sort_check.proofs.NamesGiven.{is_taken, fresh_is, not_given, may_not, is_given, given_means}
 use Rattle.sort_check.proofs.naming.give_name.Goals as goal
 
 not_false : (b : Bool) → not b ≡ false → b ≡ true
@@ -71,6 +71,6 @@ returns-in_default-push-clause-ends c =
     record {
       made = naming n a ∷ [];
       read = is_given w s t a x n fresh (not_false c.args.term.may_name c.if-not-term.false);
-      stands = subst (λ u. NamesMean t u (with_definitions s (naming n a ∷ []))) (sym c.in_default.ensures.added) (given_stands w s t a x v h n fresh m macro c.each_name_means_something.ensures.functions);
+      represents = subst (λ u. NamesMean t u (with_definitions s (naming n a ∷ []))) (sym c.in_default.ensures.added) (given_means w s t a x v h n fresh m macro c.each_name_means_something.ensures.functions);
       named = λ us k. subst (λ ids. AllMean t ids (us ++ term_at t id ∷ [])) (sym c.in_default-push.ensures.items) (mean_push t c.args.named.now.items id us (term_at t id) k c.requires refl);
     }

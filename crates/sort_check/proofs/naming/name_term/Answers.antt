@@ -31,7 +31,7 @@ returns-in-Err-clause-ends c =
     let k = subst (λ xs. IsNaming w s a (named_words a_keyword (trees_meant c.args.attributes)) xs t c.attributes.scope c.args.named.now.items c.attributes.named.items)
     (ap (named_words next) (split_more (trees_meant c.attributes.rest) (trees_meant c.in-Some.after) item c.in-Some.ensures.first) ∙ words_next next item (trees_meant c.in-Some.after)) (c.attributes.invariant.1 s text h) in
     naming_stops w s a (named_words a_keyword (trees_meant c.args.attributes)) (wanted_word next item) (named_words (next_word next item) (trees_meant c.in-Some.after)) t c.attributes.scope c.args.named.now.items c.attributes.named.items k c.in-Err.stop
-    (subst (λ o. HasFault (made_by w (with_definitions s k.made) a (listed_word o)) c.in-Err.stop) c.word_wanted-word.ensures (c.in-Err.ensures.ends (with_definitions s k.made) text k.stands))
+    (subst (λ o. HasFault (made_by w (with_definitions s k.made) a (listed_word o)) c.in-Err.stop) c.word_wanted-word.ensures (c.in-Err.ensures.ends (with_definitions s k.made) text k.represents))
 
 pub attributes-preserved : goal.attributes-preserved
 attributes-preserved c =
@@ -47,7 +47,7 @@ attributes-preserved c =
           (ap (named_words next) (split_more (trees_meant c.attributes.rest) (trees_meant c.in-Some.after) item c.in-Some.ensures.first) ∙ words_next next item (trees_meant c.in-Some.after)) (c.attributes.invariant.1 s text h) in
           subst (λ n. IsNaming w s a all (named_words n (trees_meant c.in-Some.after)) t c.give_wanted.new.scope c.args.named.now.items c.give_wanted.new.named.items) (sym c.next_wanted-next.ensures)
           (naming_goes w s a all (wanted_word next item) (named_words (next_word next item) (trees_meant c.in-Some.after)) t c.attributes.scope c.args.named.now.items c.attributes.named.items k c.give_wanted.new.scope c.give_wanted.new.named.items
-          (subst (λ o. HasNamed t (with_definitions s k.made) c.give_wanted.new.scope (c.attributes.named.items, c.give_wanted.new.named.items) (made_by w (with_definitions s k.made) a (listed_word o))) c.word_wanted-word.ensures (c.in_default-give_wanted.ensures.ends (with_definitions s k.made) text k.stands))),
+          (subst (λ o. HasNamed t (with_definitions s k.made) c.give_wanted.new.scope (c.attributes.named.items, c.give_wanted.new.named.items) (made_by w (with_definitions s k.made) a (listed_word o))) c.word_wanted-word.ensures (c.in_default-give_wanted.ensures.ends (with_definitions s k.made) text k.represents))),
     )
 
 pub returns-clause-ends : goal.returns-clause-ends

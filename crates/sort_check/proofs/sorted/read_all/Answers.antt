@@ -38,7 +38,7 @@ returns-in-Err-clause-ends c =
     let at = known w s sort all (trees_meant c.trees.rest) (trees_meant c.in-Some.after) t now c.trees.ids.items is k in
     all_stop w s sort all (trees_meant c.trees.rest) (trees_meant c.in-Some.after) t now c.trees.ids.items is k c.in-Err.stop
     (subst (λ ss. HasFault (reading_of_sort w at [] (sort_meant ss c.args.sort) t) c.in-Err.stop) sorts
-    (subst (λ (b : BindingsView). HasFault (reading_of_sort w at (bound_at c.trees.table b) (sort_meant c.trees.table.sorts c.args.sort) t) c.in-Err.stop) c.new.ensures (c.in-Err.ensures.ends at k.stands)))
+    (subst (λ (b : BindingsView). HasFault (reading_of_sort w at (bound_at c.trees.table b) (sort_meant c.trees.table.sorts c.args.sort) t) c.in-Err.stop) c.new.ensures (c.in-Err.ensures.ends at k.represents)))
 
 pub trees-preserved : goal.trees-preserved
 trees-preserved c =
@@ -52,13 +52,13 @@ trees-preserved c =
     let sorts = ap (λ d. d.sorts) c.trees.invariant.1.keeps.declared in
     let e = c.trees.invariant.0 in
     let one = c.in-Ok.ensures.ends e.0 e.1 in (
-      (with_definitions e.0 one.reading.made, one.stands),
+      (with_definitions e.0 one.reading.made, one.represents),
       grows_along _ _ _ c.trees.invariant.1 c.in-Ok.ensures.grows,
       λ s h.
           let k = c.trees.invariant.2 s h in
           let at = known w s sort all (trees_meant c.trees.rest) (trees_meant c.in-Some.after) t now c.trees.ids.items is k in
           let read = subst (λ ss. HasOne at new (reading_of_sort w at [] (sort_meant ss c.args.sort) t) (c.in-Ok.id, c.in-Ok.field-0-1.items)) sorts
-          (subst (λ (b : BindingsView). HasOne at new (reading_of_sort w at (bound_at c.trees.table b) (sort_meant c.trees.table.sorts c.args.sort) t) (c.in-Ok.id, c.in-Ok.field-0-1.items)) c.new.ensures (c.in-Ok.ensures.ends at k.stands)) in
+          (subst (λ (b : BindingsView). HasOne at new (reading_of_sort w at (bound_at c.trees.table b) (sort_meant c.trees.table.sorts c.args.sort) t) (c.in-Ok.id, c.in-Ok.field-0-1.items)) c.new.ensures (c.in-Ok.ensures.ends at k.represents)) in
           subst (IsAll w s sort (all, trees_meant c.in-Some.after) new) (sym c.in_default-push.ensures.items)
           (all_go w s sort all (trees_meant c.trees.rest) (trees_meant c.in-Some.after) t now c.trees.ids.items is k new c.in-Ok.id c.in-Ok.field-0-1.items c.in-Ok.ensures.grows.keeps read),
     )

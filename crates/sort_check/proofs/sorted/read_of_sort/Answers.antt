@@ -75,6 +75,6 @@ returns-else-not-all_have-clause-ends c =
       reading = record { made = r.readings.made; term = first_term r.readings.terms };
       read = subst (λ x. reading_of_sort w s b sort x ≡ Ok (record { made = r.readings.made; term = first_term r.readings.terms })) (sym same) (that_sort w s b text u c.in-Ok.ids.items sort (trees_meant c.in-Some.text) r.readings c.in-Some.ensures.alone r.read r.terms.1 right);
       term = subst (λ id. IsIn u id × (term_at u id ≡ first_term r.readings.terms)) (sym c.index.ensures) at.1;
-      stands = r.stands;
+      represents = r.represents;
       named = r.named;
     }

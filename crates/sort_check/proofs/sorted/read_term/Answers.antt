@@ -27,7 +27,7 @@ returns-in-Err-find_room-clause-ends c =
     λ s h.
     let r = subst (λ (b : BindingsView). HasOne s (store c.read_of_sort.new.table c.read_of_sort.new.scope) (reading_of_sort w s (bound_at c.args.table.now b) sort t) (c.in-Ok.id, c.in-Ok.field-0-1.items)) c.new.ensures (c.in-Ok.ensures.ends s h) in
     reading_room_fault (room_meant c.args.room) w s sort t r.reading c.in-Err-find_room.stop r.read
-    (subst (λ u. HasFault (within (room_meant c.args.room) (with_definitions s r.reading.made) (u ∷ [])) c.in-Err-find_room.stop) r.term.1 (c.in-Err-find_room.ensures (with_definitions s r.reading.made) r.stands.count))
+    (subst (λ u. HasFault (within (room_meant c.args.room) (with_definitions s r.reading.made) (u ∷ [])) c.in-Err-find_room.stop) r.term.1 (c.in-Err-find_room.ensures (with_definitions s r.reading.made) r.represents.count))
 
 pub returns-clause-ends : goal.returns-clause-ends
 returns-clause-ends c =
@@ -38,7 +38,7 @@ returns-clause-ends c =
     let r = subst (λ (b : BindingsView). HasOne s (store c.read_of_sort.new.table c.read_of_sort.new.scope) (reading_of_sort w s (bound_at c.args.table.now b) sort t) (c.in-Ok.id, c.in-Ok.field-0-1.items)) c.new.ensures (c.in-Ok.ensures.ends s h) in
     record {
       reading = r.reading;
-      read = reading_room (room_meant c.args.room) w s sort t r.reading r.read (ap (λ u. within (room_meant c.args.room) (with_definitions s r.reading.made) (u ∷ [])) (sym r.term.1) ∙ c.in-Ok-find_room.ensures (with_definitions s r.reading.made) r.stands.count);
+      read = reading_room (room_meant c.args.room) w s sort t r.reading r.read (ap (λ u. within (room_meant c.args.room) (with_definitions s r.reading.made) (u ∷ [])) (sym r.term.1) ∙ c.in-Ok-find_room.ensures (with_definitions s r.reading.made) r.represents.count);
       term = r.term;
-      stands = r.stands;
+      represents = r.represents;
     }

@@ -20,7 +20,7 @@ returns-in-Err-find_room-clause-ends c =
     let at = with_definitions s r.readings.made in
     let terms = ap (clause_at c.read_all.new.table) c.deref.ensures.value ∙ r.terms in
     readings_room_fault (room_meant c.args.room) (setting_meant c.args.setting) s (sort_meant c.args.table.now.sorts c.args.sort) (trees_meant c.args.trees) r.readings c.in-Err-find_room.stop r.read
-    (subst (λ us. HasFault (within (room_meant c.args.room) at us) c.in-Err-find_room.stop) terms (c.in-Err-find_room.ensures at r.stands.count))
+    (subst (λ us. HasFault (within (room_meant c.args.room) at us) c.in-Err-find_room.stop) terms (c.in-Err-find_room.ensures at r.represents.count))
 
 pub returns-in-Ok-find_room-clause-ends : goal.returns-in-Ok-find_room-clause-ends
 returns-in-Ok-find_room-clause-ends c =
@@ -30,8 +30,8 @@ returns-in-Ok-find_room-clause-ends c =
     let terms = ap (clause_at c.read_all.new.table) c.deref.ensures.value ∙ r.terms in
     record {
       readings = r.readings;
-      read = readings_room (room_meant c.args.room) (setting_meant c.args.setting) s (sort_meant c.args.table.now.sorts c.args.sort) (trees_meant c.args.trees) r.readings r.read (ap (within (room_meant c.args.room) at) (sym terms) ∙ c.in-Ok-find_room.ensures at r.stands.count);
+      read = readings_room (room_meant c.args.room) (setting_meant c.args.setting) s (sort_meant c.args.table.now.sorts c.args.sort) (trees_meant c.args.trees) r.readings r.read (ap (within (room_meant c.args.room) at) (sym terms) ∙ c.in-Ok-find_room.ensures at r.represents.count);
       there = r.there;
       terms = r.terms;
-      stands = r.stands;
+      represents = r.represents;
     }

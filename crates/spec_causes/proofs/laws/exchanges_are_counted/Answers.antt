@@ -1,6 +1,6 @@
 -- By what simplex came to last.
 use Rattle.std.proofs.Common.{refl}
-use Rattle.spec_causes.proofs.Resting.{uncounted}
+use Rattle.spec_causes.proofs.IdleChecks.{uncounted}
 use Rattle.spec_causes.proofs.laws.exchanges_are_counted.Goals as goal
 
 pub returns : goal.returns

@@ -1,5 +1,5 @@
 -- As no basic variable violates a bound.
-use Rattle.spec_causes.proofs.Resting.{kept_makes_none, kept_is_not_short}
+use Rattle.spec_causes.proofs.IdleChecks.{kept_makes_none, kept_is_not_short}
 use Rattle.spec_causes.proofs.laws.kept_bounds_make_no_run.Goals as goal
 
 pub returns-clause-none : goal.returns-clause-none

@@ -22,5 +22,5 @@ returns c limit script k check interface d n current right formulas derived empt
     let each = subst (λ (x : Check). All (IsTrueAssertion i (signature_of x.stack)) (asked x)) same model.each in
     let values = c.what_is_asked_has_its_texts_value.ensures.value limit script k check current i in
     let true_terms = terms_have (λ t. term_true i t ≡ true) check interface (λ j x lt. ap is_true (sym (values j x lt) ∙ each j x lt)) in
-    let holds = c.derivations_are_sound.ensures symbols d i right interprets formulas n derived.there (λ m t rests e. All-contains (λ u. term_true i u ≡ true) terms t true_terms (subst (AssumesAmong terms) e (derived.assumptions m rests))) in
+    let holds = c.derivations_are_sound.ensures symbols d i right interprets formulas n derived.there (λ m t depends e. All-contains (λ u. term_true i u ≡ true) terms t true_terms (subst (AssumesAmong terms) e (derived.assumptions m depends))) in
     false≢true (ap (clause_true i) (sym empty) ∙ holds)

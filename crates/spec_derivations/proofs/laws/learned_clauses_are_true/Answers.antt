@@ -11,4 +11,4 @@ pub returns : goal.returns
 returns c symbols p d learned i h interprets formulas true_terms clause there =
     let from = All-contains (IsLearnedFrom p d) learned clause h.derived there in
     let true_there = All-contains (λ u. term_true i u ≡ true) (terms_of_problem p) in
-    (conclusion_at d from.number, from.same, c.derivations_are_sound.ensures symbols d i h.right interprets formulas from.number from.derived.there (λ m t rests e. true_there t true_terms (subst (AssumesAmong (terms_of_problem p)) e (from.derived.assumptions m rests))))
+    (conclusion_at d from.number, from.same, c.derivations_are_sound.ensures symbols d i h.right interprets formulas from.number from.derived.there (λ m t depends e. true_there t true_terms (subst (AssumesAmong (terms_of_problem p)) e (from.derived.assumptions m depends))))

@@ -10,5 +10,5 @@ pub returns-clause-first : goal.returns-clause-first
 returns-clause-first c = nothing_named
 
 pub returns-clause-next : goal.returns-clause-next
-returns-clause-next c = λ limit s text from t rest d stands taken names.
-    (step_named limit (5 * length (signature_of s)) s t d (words_of_tree text from t rest stands) taken (record { names = names; few = omega arith })).names
+returns-clause-next c = λ limit s text from t rest d tree_there_first taken names.
+    (step_named limit (5 * length (signature_of s)) s t d (words_of_tree text from t rest tree_there_first) taken (record { names = names; few = omega arith })).names

@@ -69,8 +69,8 @@ module _ (c : goal.After-printed_proofs_are_accepted) where
     -- where the text has few numbers, few are printed
     few_printed : (p : List ℕ) (h : IsProofOf x p) → HasFewNumerals p → numbers_in (lines_in x p h) ≤ 2 ^ 18
     few_printed p h (commands, whole, few) =
-        let stands = subst (λ (q : List ℕ). IsWholeText q commands) h.written whole in
-        omega (arith, few, c.printed_numbers_are_numerals.ensures.right g (terms_asserted (asked x)) (lines_in x p h) commands names (right p h) stands)
+        let whole_now = subst (λ (q : List ℕ). IsWholeText q commands) h.written whole in
+        omega (arith, few, c.printed_numbers_are_numerals.ensures.right g (terms_asserted (asked x)) (lines_in x p h) commands names (right p h) whole_now)
 
     proof_at : (p : List ℕ) → IsProofOf x p → (i : Interpretation) → IsModelOf x i → ⊥
     proof_at p h i m =

@@ -14,13 +14,13 @@ use Rattle.spec_valuations.proofs.Named.{model_by, named}
 use Rattle.spec_valuations.proofs.checks.saturated_searches_give_current_checks_models.Goals as goal
 
 pub returns : goal.returns
-returns c limit script k check interface terms held v class current rests assumed =
+returns c limit script k check interface terms held v class current saturated_here assumed =
     let s = signature_of check.stack in
     let p = problem_of check interface in
     let point : Term → Fraction = λ t. zero_fraction in
     let i = model_by s (value_by (term_true_by v) point class) terms in
     let sound = (c.assertions_have_their_texts_value.ensures.kept limit script k check current).names in
     let model = named s (value_by (term_true_by v) point class) terms sound in
-    let tables = c.saturated_searches_have_models.ensures.interprets (symbols_in s) p terms held v class point i rests model in
-    let each = c.saturated_searches_have_models.ensures.all (symbols_in s) p terms held v class point i rests model assumed in
+    let tables = c.saturated_searches_have_models.ensures.interprets (symbols_in s) p terms held v class point i saturated_here model in
+    let each = c.saturated_searches_have_models.ensures.all (symbols_in s) p terms held v class point i saturated_here model assumed in
     (i, c.satisfied_scripts_have_a_model.ensures.model limit script k check current i tables (assertions_have (λ t. term_true i t ≡ true) check interface (λ n d lt. ap is_true (each n d lt))))

@@ -6,16 +6,16 @@ use Rattle.spec_valuations.proofs.laws.searches_saturated_on_numbers_have_models
 
 pub returns-clause-interprets : goal.returns-clause-interprets
 returns-clause-interprets c symbols p terms held a i r =
-    interpreted symbols p terms held a.truths a.class (at_saturation symbols p terms held a r.rests) (number_at a.number) (has_numbers symbols p terms held a r) i
+    interpreted symbols p terms held a.truths a.class (at_saturation symbols p terms held a r.saturated_here) (number_at a.number) (has_numbers symbols p terms held a r) i
 
 pub returns-clause-values : goal.returns-clause-values
 returns-clause-values c symbols p terms held a i r =
-    valued symbols p terms held a.truths a.class (at_saturation symbols p terms held a r.rests) (number_at a.number) (has_numbers symbols p terms held a r) i
+    valued symbols p terms held a.truths a.class (at_saturation symbols p terms held a r.saturated_here) (number_at a.number) (has_numbers symbols p terms held a r) i
 
 pub returns-clause-asserted : goal.returns-clause-asserted
 returns-clause-asserted c symbols p terms held a i r =
-    asserted_valued symbols p terms held a.truths a.class (at_saturation symbols p terms held a r.rests) (number_at a.number) (has_numbers symbols p terms held a r) i
+    asserted_valued symbols p terms held a.truths a.class (at_saturation symbols p terms held a r.saturated_here) (number_at a.number) (has_numbers symbols p terms held a r) i
 
 pub returns-clause-all : goal.returns-clause-all
 returns-clause-all c symbols p terms held a i r =
-    all_valued symbols p terms held a.truths a.class (at_saturation symbols p terms held a r.rests) (number_at a.number) (has_numbers symbols p terms held a r) i
+    all_valued symbols p terms held a.truths a.class (at_saturation symbols p terms held a r.saturated_here) (number_at a.number) (has_numbers symbols p terms held a r) i

@@ -1,4 +1,4 @@
--- Literals may stand as divisors, and no other head but `-` and `/` makes one.
+-- Literals may be divisors, and no other head but `-` and `/` makes one.
 use Rattle.term_core.proofs.FactsOfNodes.{divisor_literal, no_divisor}
 use Rattle.term_core.proofs.facts.is_divisor.Goals as goal
 

@@ -1,4 +1,4 @@
--- More than one term do not stand negated.
+-- More than one term are not negated.
 use Rattle.std.proofs.Common.{arith}
 use Rattle.term_core.proofs.FactsOfNodes.{no_negative}
 use Rattle.term_core.proofs.facts.is_negative_divisor.Goals as goal

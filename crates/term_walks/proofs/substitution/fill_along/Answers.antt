@@ -7,7 +7,7 @@ use Rattle.term_walks.specs.Filling.{FillsAll}
 use Rattle.term_walks.specs.FilledTerms.{AreFilled}
 use Rattle.term_walks.specs.Orders.{number_term, HasArgumentsBefore}
 use Rattle.term_walks.proofs.Among.{at_in}
-use Rattle.term_walks.proofs.Taking.{ready, root_stands}
+use Rattle.term_walks.proofs.Taking.{ready, root_among_first}
 use Rattle.term_walks.proofs.Filled.{ready_kept, number_kept, filled_push}
 use Rattle.term_walks.proofs.substitution.fill_along.Goals as goal
 
@@ -71,7 +71,7 @@ terms-preserved c =
 
 pub made_at-requires-clause-there : goal.made_at-requires-clause-there
 made_at-requires-clause-there c =
-    root_stands c.args.table.now c.args.body.0 c.args.order.now _ c.requires.order
+    root_among_first c.args.table.now c.args.body.0 c.args.order.now _ c.requires.order
     (omega (arith, ap length c.as_slice-2.ensures.value, c.terms.invariant.long, c.terms-test.false))
 
 pub returns-clause-filled : goal.returns-clause-filled

@@ -4,8 +4,8 @@ use Rattle.std.proofs.lemmas.Result.{IfOk-weaker}
 use Rattle.spec_sorts.specs.Terms.{filled}
 use Rattle.term_core.specs.declared.ids.TermId.{TermId}
 use Rattle.term_core.specs.Tables.{head_meant, clause_at, term_at, AreIn}
-use Rattle.term_walks.specs.Orders.{StandsBefore}
-use Rattle.term_walks.proofs.Taking.{stand}
+use Rattle.term_walks.specs.Orders.{IsAmongFirst}
+use Rattle.term_walks.proofs.Taking.{numbers_among_first}
 use Rattle.term_walks.proofs.Filled.{node_filled}
 use Rattle.term_walks.proofs.substitution.filled_node.Goals as goal
 
@@ -13,8 +13,8 @@ pub filled_all-requires-clause-there : goal.filled_all-requires-clause-there
 filled_all-requires-clause-there c =
     let t = c.args.table.now in
     let node = c.node-node.result.now in
-    subst (λ l. All (λ (id : TermId). StandsBefore c.args.order.now (length c.args.made.now) id.0) l) (sym c.as_slice.ensures)
-    (stand t c.args.order.now (length c.args.made.now) c.args.id.0 (head_meant t node.head) node.arguments.items c.ids_are_unique.ensures c.requires.ready c.node-node.ensures.means c.node-node.ensures.placed.arguments)
+    subst (λ l. All (λ (id : TermId). IsAmongFirst c.args.order.now (length c.args.made.now) id.0) l) (sym c.as_slice.ensures)
+    (numbers_among_first t c.args.order.now (length c.args.made.now) c.args.id.0 (head_meant t node.head) node.arguments.items c.ids_are_unique.ensures c.requires.ready c.node-node.ensures.means c.node-node.ensures.placed.arguments)
 
 pub returns : goal.returns
 returns c ts are fills =

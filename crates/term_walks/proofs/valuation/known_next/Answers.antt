@@ -5,17 +5,17 @@ use Rattle.spec_sorts.specs.BoundedValues.{bounded_head}
 use Rattle.term_core.specs.declared.ids.TermId.{TermId}
 use Rattle.term_core.specs.Tables.{head_meant, clause_at, term_at}
 use Rattle.term_walks.specs.Valuations.{values_meant, AreNamed}
-use Rattle.term_walks.specs.Orders.{StandsBefore}
+use Rattle.term_walks.specs.Orders.{IsAmongFirst}
 use Rattle.term_walks.specs.KnownValues.{known_meant}
-use Rattle.term_walks.proofs.Taking.{stand, value_made, wide_made}
+use Rattle.term_walks.proofs.Taking.{numbers_among_first, value_made, wide_made}
 use Rattle.term_walks.proofs.valuation.known_next.Goals as goal
 
 pub take_values-requires-clause-there : goal.take_values-requires-clause-there
 take_values-requires-clause-there c =
     let t = c.args.table.now in
     let node = c.node-node.result.now in
-    subst (λ l. All (λ (id : TermId). StandsBefore c.args.order.now (length c.args.known.now) id.0) l) (sym c.as_slice.ensures)
-    (stand t c.args.order.now (length c.args.known.now) c.args.id.0 (head_meant t node.head) node.arguments.items c.ids_are_unique.ensures c.requires.ready c.node-node.ensures.means c.node-node.ensures.placed.arguments)
+    subst (λ l. All (λ (id : TermId). IsAmongFirst c.args.order.now (length c.args.known.now) id.0) l) (sym c.as_slice.ensures)
+    (numbers_among_first t c.args.order.now (length c.args.known.now) c.args.id.0 (head_meant t node.head) node.arguments.items c.ids_are_unique.ensures c.requires.ready c.node-node.ensures.means c.node-node.ensures.placed.arguments)
 
 pub returns-in-Some-clause-exact : goal.returns-in-Some-clause-exact
 returns-in-Some-clause-exact c i tells are =

@@ -6,7 +6,7 @@ use Rattle.term_walks.specs.Valuations.{Tells}
 use Rattle.term_walks.specs.Orders.{HasArgumentsBefore}
 use Rattle.term_walks.specs.KnownValues.{IsKnownNamed, AreKnownValues}
 use Rattle.term_walks.proofs.Among.{at_in}
-use Rattle.term_walks.proofs.Taking.{ready, root_stands, known_push, all_push}
+use Rattle.term_walks.proofs.Taking.{ready, root_among_first, known_push, all_push}
 use Rattle.term_walks.proofs.valuation.value_along.Goals as goal
 
 pub known_next-requires-clause-there : goal.known_next-requires-clause-there
@@ -32,13 +32,13 @@ terms-preserved c =
 
 pub known_at-requires-clause-there : goal.known_at-requires-clause-there
 known_at-requires-clause-there c =
-    root_stands c.args.table.now c.args.id.0 c.args.order.now _ c.requires.order
+    root_among_first c.args.table.now c.args.id.0 c.args.order.now _ c.requires.order
     (omega (arith, ap length c.as_slice-2.ensures.value, c.terms.invariant.long, c.terms-test.false))
 
 pub returns-in-Value-clause-exact : goal.returns-in-Value-clause-exact
-returns-in-Value-clause-exact c i stands =
+returns-in-Value-clause-exact c i represents =
     let t = c.args.table.now in
-    let tells : Tells t c.args.interp.now i = record { apart = subst (λ (s : SymbolsView). HaveNoTwice s.sorts) c.symbols.ensures c.are_declared.ensures.sorts_apart; tables = c.requires.interprets; stands = stands } in
+    let tells : Tells t c.args.interp.now i = record { apart = subst (λ (s : SymbolsView). HaveNoTwice s.sorts) c.symbols.ensures c.are_declared.ensures.sorts_apart; tables = c.requires.interprets; represents = represents } in
     sym (c.in-Value.ensures.exact t i (subst (AreKnownValues t i c.args.order.now) (sym c.as_slice-2.ensures.value) (c.terms.invariant.so_far i tells)))
 
 pub returns-in-Value-clause-named : goal.returns-in-Value-clause-named
@@ -47,7 +47,7 @@ returns-in-Value-clause-named c =
     c.in-Value.ensures.named t.sorts (subst (All (IsKnownNamed t.sorts)) (sym c.as_slice-2.ensures.value) c.terms.invariant.named)
 
 pub returns-clause-exact : goal.returns-clause-exact
-returns-clause-exact c i stands =
+returns-clause-exact c i represents =
     let t = c.args.table.now in
-    let tells : Tells t c.args.interp.now i = record { apart = subst (λ (s : SymbolsView). HaveNoTwice s.sorts) c.symbols.ensures c.are_declared.ensures.sorts_apart; tables = c.requires.interprets; stands = stands } in
+    let tells : Tells t c.args.interp.now i = record { apart = subst (λ (s : SymbolsView). HaveNoTwice s.sorts) c.symbols.ensures c.are_declared.ensures.sorts_apart; tables = c.requires.interprets; represents = represents } in
     sym (c.in-Wide.ensures.exact t i (subst (AreKnownValues t i c.args.order.now) (sym c.as_slice-2.ensures.value) (c.terms.invariant.so_far i tells)))

@@ -22,7 +22,7 @@ returns-in-Ok-add_written-clause-performs c limit s h =
       assert_done limit c.args.at s tree (room_meant c.room-room.result) (setting_meant c.in_script.result) room c.in_script.ensures r.reading r.read,
       refl,
       subst (λ z. IsStack limit (over_table t z) next) (sym added)
-          (one_asserted limit t y (with_definitions s r.reading.made) tree r.reading.term c.in-Ok.id (named limit c.args.table.now t x s c.term.new.scope r.reading.made h c.in-Ok.ensures.grows.keeps r.stands) r.term),
+          (one_asserted limit t y (with_definitions s r.reading.made) tree r.reading.term c.in-Ok.id (named limit c.args.table.now t x s c.term.new.scope r.reading.made h c.in-Ok.ensures.grows.keeps r.represents) r.term),
     )
 
 pub returns-in-Err-clause-performs : goal.returns-in-Err-clause-performs

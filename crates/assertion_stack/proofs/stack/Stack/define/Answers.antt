@@ -16,7 +16,7 @@ returns-in-Ok-clause-performs c limit s h =
       did (begun (with_definitions s r.definitions)),
       define_done limit c.args.at s (parts_view c.args.parts) (room_meant c.room-room.result) (setting_meant c.in_script.result) room c.in_script.ensures r.definitions r.read,
       refl,
-      begun_stack limit t (record x { scope = c.define.new.scope }) (with_definitions s r.definitions) (named limit c.args.table.now t x s c.define.new.scope r.definitions h c.in-Ok.ensures.grows.keeps r.stands),
+      begun_stack limit t (record x { scope = c.define.new.scope }) (with_definitions s r.definitions) (named limit c.args.table.now t x s c.define.new.scope r.definitions h c.in-Ok.ensures.grows.keeps r.represents),
     )
 
 pub returns-in-Err-clause-performs : goal.returns-in-Err-clause-performs

@@ -1,6 +1,6 @@
 -- One clause after the other is looked at.
 use Rattle.std.proofs.Common.{◌-◌, length}
-use Rattle.clause_store.specs.Resting.{IsAtWork, WorksOn}
+use Rattle.clause_store.specs.QuietPairs.{IsAtWork, WorksOn}
 use Rattle.clause_store.proofs.parts.StoreParts.attach_all.Given as goal
 
 abbrev pub invariant-clauses : goal.invariant-clauses

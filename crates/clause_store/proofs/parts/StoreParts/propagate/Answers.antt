@@ -7,9 +7,9 @@ use Rattle.clause_store.specs.declared.entry.StoredClause.{StoredClause}
 use Rattle.clause_store.specs.declared.watched.Watched.{Watched}
 use Rattle.clause_store.specs.Entries.{clauses_of, bare}
 use Rattle.clause_store.specs.Propagating.{IsPropagated}
-use Rattle.clause_store.specs.Watching.{AreResting}
-use Rattle.clause_store.specs.Resting.{last_of}
-use Rattle.clause_store.proofs.Atwork.{adds_after, adds_marked, kept_by, quiet_by, rested_still, works_on}
+use Rattle.clause_store.specs.Watching.{AreQuietPairs}
+use Rattle.clause_store.specs.QuietPairs.{last_of}
+use Rattle.clause_store.proofs.Atwork.{adds_after, adds_marked, kept_by, quiet_by, quiet_still, works_on}
 use Rattle.clause_store.proofs.Working.{last_none, last_read, last_within}
 use Rattle.clause_store.proofs.parts.StoreParts.propagate.Goals as goal
 use Rattle.clause_store.proofs.parts.StoreParts.propagate.Goals.{then-is_empty, else-is_empty}
@@ -31,31 +31,31 @@ returns-in-Some-2-clause-adds c = adds_after c.args.self.now c.begin.new.self c.
 
 pub walk_from-requires-clause-from : goal.walk_from-requires-clause-from
 walk_from-requires-clause-from c =
-    let rests = c.begin.new.self.rests.items in
-    let from : c.if-is_empty.from ≡ last_of rests = elim c.if-is_empty.branch [
-      | then-is_empty w ↦ w.from-is ∙ sym (last_none rests (grind (arith, nat_tests, w.if-is_empty.ensures, c.begin.new.self.rests.ok.0)))
+    let quiet_at = c.begin.new.self.quiet_at.items in
+    let from : c.if-is_empty.from ≡ last_of quiet_at = elim c.if-is_empty.branch [
+      | then-is_empty w ↦ w.from-is ∙ sym (last_none quiet_at (grind (arith, nat_tests, w.if-is_empty.ensures, c.begin.new.self.quiet_at.ok.0)))
       | else-is_empty w ↦
-          let filled : 0 ≢ length rests = grind (arith, nat_tests, w.if-is_empty.ensures, c.begin.new.self.rests.ok.0) in
-          let some : 0 < length rests = elim (cases_lt 0 (length rests)) [ inl lt ↦ lt | inr le ↦ absurd (filled (omega (arith, le))) ] in
-          w.from-is ∙ last_read rests (w.len.result - 1) w.index.result.now (omega (arith, w.len.ensures, c.begin.new.self.rests.ok.0)) some w.index.ensures
+          let filled : 0 ≢ length quiet_at = grind (arith, nat_tests, w.if-is_empty.ensures, c.begin.new.self.quiet_at.ok.0) in
+          let some : 0 < length quiet_at = elim (cases_lt 0 (length quiet_at)) [ inl lt ↦ lt | inr le ↦ absurd (filled (omega (arith, le))) ] in
+          w.from-is ∙ last_read quiet_at (w.len.result - 1) w.index.result.now (omega (arith, w.len.ensures, c.begin.new.self.quiet_at.ok.0)) some w.index.ensures
     ] in
-    let within : last_of rests ≤ length c.begin.new.trail.literals = omega (arith, last_within rests c.begin.new.trail.propagated c.begin.ensures.work.rests.within, c.is_sound.ensures.propagated) in
+    let within : last_of quiet_at ≤ length c.begin.new.trail.literals = omega (arith, last_within quiet_at c.begin.new.trail.propagated c.begin.ensures.work.quiet_at.within, c.is_sound.ensures.propagated) in
     let a = c.attach_all.ensures.goes.advances.0 in
     omega (arith, from, within, ap length a.literals, length-append c.begin.new.trail.literals a.more)
 
-pub walk_from-requires-clause-rested : goal.walk_from-requires-clause-rested
-walk_from-requires-clause-rested c =
-    let rests = c.begin.new.self.rests.items in
-    let from : c.if-is_empty.from ≡ last_of rests = elim c.if-is_empty.branch [
-      | then-is_empty w ↦ w.from-is ∙ sym (last_none rests (grind (arith, nat_tests, w.if-is_empty.ensures, c.begin.new.self.rests.ok.0)))
+pub walk_from-requires-clause-were_quiet : goal.walk_from-requires-clause-were_quiet
+walk_from-requires-clause-were_quiet c =
+    let quiet_at = c.begin.new.self.quiet_at.items in
+    let from : c.if-is_empty.from ≡ last_of quiet_at = elim c.if-is_empty.branch [
+      | then-is_empty w ↦ w.from-is ∙ sym (last_none quiet_at (grind (arith, nat_tests, w.if-is_empty.ensures, c.begin.new.self.quiet_at.ok.0)))
       | else-is_empty w ↦
-          let filled : 0 ≢ length rests = grind (arith, nat_tests, w.if-is_empty.ensures, c.begin.new.self.rests.ok.0) in
-          let some : 0 < length rests = elim (cases_lt 0 (length rests)) [ inl lt ↦ lt | inr le ↦ absurd (filled (omega (arith, le))) ] in
-          w.from-is ∙ last_read rests (w.len.result - 1) w.index.result.now (omega (arith, w.len.ensures, c.begin.new.self.rests.ok.0)) some w.index.ensures
+          let filled : 0 ≢ length quiet_at = grind (arith, nat_tests, w.if-is_empty.ensures, c.begin.new.self.quiet_at.ok.0) in
+          let some : 0 < length quiet_at = elim (cases_lt 0 (length quiet_at)) [ inl lt ↦ lt | inr le ↦ absurd (filled (omega (arith, le))) ] in
+          w.from-is ∙ last_read quiet_at (w.len.result - 1) w.index.result.now (omega (arith, w.len.ensures, c.begin.new.self.quiet_at.ok.0)) some w.index.ensures
     ] in
-    let within : last_of rests ≤ length c.begin.new.trail.literals = omega (arith, last_within rests c.begin.new.trail.propagated c.begin.ensures.work.rests.within, c.is_sound.ensures.propagated) in
-    subst (λ (n : ℕ). AreResting c.attach_all.new.self.attached c.attach_all.new.self.watched.pairs.items (take n c.attach_all.new.trail.literals) c.attach_all.new.trail.literals) (sym from)
-    (rested_still c.begin.new.self c.attach_all.new.self c.begin.new.trail c.attach_all.new.trail (last_of rests) within c.attach_all.ensures.goes c.in_default.ensures.ends)
+    let within : last_of quiet_at ≤ length c.begin.new.trail.literals = omega (arith, last_within quiet_at c.begin.new.trail.propagated c.begin.ensures.work.quiet_at.within, c.is_sound.ensures.propagated) in
+    subst (λ (n : ℕ). AreQuietPairs c.attach_all.new.self.attached c.attach_all.new.self.watched.pairs.items (take n c.attach_all.new.trail.literals) c.attach_all.new.trail.literals) (sym from)
+    (quiet_still c.begin.new.self c.attach_all.new.self c.begin.new.trail c.attach_all.new.trail (last_of quiet_at) within c.attach_all.ensures.goes c.in_default.ensures.ends)
 
 pub returns-in_err-n-2-clause-kept : goal.returns-in_err-n-2-clause-kept
 returns-in_err-n-2-clause-kept c = kept_by c.walk_from.new.self c.walk_from.new.trail c.walk_from.ensures.work

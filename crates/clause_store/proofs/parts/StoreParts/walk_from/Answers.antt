@@ -2,14 +2,14 @@
 use Rattle.std.proofs.Common.{arith, ◌≡◌, ◌+◌, ◌<◌, ◌∙◌, ℕ, length, take, ap, subst, sym, refl}
 use Rattle.std.proofs.lemmas.List.{length-append}
 use Rattle.clause_literals.specs.Literals.{lit_complement}
-use Rattle.clause_store.specs.Watching.{AreResting}
+use Rattle.clause_store.specs.Watching.{AreQuietPairs}
 use Rattle.clause_store.specs.Entries.{bare}
 use Rattle.clause_store.proofs.Atwork.{works_none, works_on, work_goes, works_goes, goes_attached, count_attached}
-use Rattle.clause_store.proofs.Walking.{rests_more}
+use Rattle.clause_store.proofs.Walking.{quiet_by_one}
 use Rattle.clause_store.proofs.parts.StoreParts.walk_from.Goals as goal
 
 pub literals-init : goal.literals-init
-literals-init c = record { work = c.requires.work; all = c.requires.all; there = c.requires.from; goes = works_none _ _; rested = c.requires.rested }
+literals-init c = record { work = c.requires.work; all = c.requires.all; there = c.requires.from; goes = works_none _ _; were_quiet = c.requires.were_quiet }
 
 pub returns-in_err-n-clause-work : goal.returns-in_err-n-clause-work
 returns-in_err-n-clause-work c =
@@ -49,8 +49,8 @@ literals-preserved c =
       there = omega (arith, lt, ap length w.goes.advances.0.literals, length-append c.literals.trail.literals w.goes.advances.0.more);
       goes = works_on c.args.self.now c.literals.self _ c.args.trail.now c.literals.trail c.walk.new.trail i.goes
           (works_goes c.literals.self _ c.literals.trail c.walk.new.trail c.is_sound.ensures.propagated w.watched w.entries refl (goes_attached c.literals.self i.work.watched i.all _ _ _ w.goes) i.work refl);
-      rested = subst (λ (n : ℕ). AreResting n c.walk.new.self.pairs.items (take (c.literals.done + 1) c.walk.new.trail.literals) c.walk.new.trail.literals) count
-          (rests_more (bare c.literals.self.watched.entries.items) c.literals.self.watched.pairs.items c.walk.new.self.pairs.items c.literals.trail c.walk.new.trail c.literals.done c.negated-f.result lt
+      were_quiet = subst (λ (n : ℕ). AreQuietPairs n c.walk.new.self.pairs.items (take (c.literals.done + 1) c.walk.new.trail.literals) c.walk.new.trail.literals) count
+          (quiet_by_one (bare c.literals.self.watched.entries.items) c.literals.self.watched.pairs.items c.walk.new.self.pairs.items c.literals.trail c.walk.new.trail c.literals.done c.negated-f.result lt
           (c.negated-f.ensures ∙ ap lit_complement c.literal.ensures) w.goes (rw c.in-None.is at c.in_ok-n.ensures.ends)
-          (subst (λ (n : ℕ). AreResting n c.literals.self.watched.pairs.items (take c.literals.done c.literals.trail.literals) c.literals.trail.literals) (sym count) i.rested));
+          (subst (λ (n : ℕ). AreQuietPairs n c.literals.self.watched.pairs.items (take c.literals.done c.literals.trail.literals) c.literals.trail.literals) (sym count) i.were_quiet));
     }

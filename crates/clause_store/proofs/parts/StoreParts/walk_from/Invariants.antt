@@ -1,7 +1,7 @@
 -- The clauses are quiet by the literals that are done.
 use Rattle.std.proofs.Common.{◌≡◌, ◌≤◌, ◌-◌, length, take}
-use Rattle.clause_store.specs.Watching.{AreResting}
-use Rattle.clause_store.specs.Resting.{IsAtWork, WorksOn}
+use Rattle.clause_store.specs.Watching.{AreQuietPairs}
+use Rattle.clause_store.specs.QuietPairs.{IsAtWork, WorksOn}
 use Rattle.clause_store.proofs.parts.StoreParts.walk_from.Given as goal
 
 abbrev pub invariant-literals : goal.invariant-literals
@@ -10,7 +10,7 @@ invariant-literals l = record {
   all : l.self.attached ≡ length l.self.watched.entries.items;
   there : l.done ≤ length l.trail.literals;
   goes : WorksOn l.fn.self l.self l.fn.trail l.trail;
-  rested : AreResting l.self.attached l.self.watched.pairs.items (take l.done l.trail.literals) l.trail.literals;
+  were_quiet : AreQuietPairs l.self.attached l.self.watched.pairs.items (take l.done l.trail.literals) l.trail.literals;
 }
 
 abbrev pub decreases-literals : goal.decreases-literals

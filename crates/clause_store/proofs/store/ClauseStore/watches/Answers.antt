@@ -1,7 +1,7 @@
 -- By the lists.
 use Rattle.std.proofs.Common.{sym, subst}
 use Rattle.clause_store.specs.Stores.{StoreView, AreWatchedBy}
-use Rattle.clause_store.specs.Resting.{store_of}
+use Rattle.clause_store.specs.QuietPairs.{store_of}
 use Rattle.clause_store.proofs.Watches.{watched_by}
 use Rattle.clause_store.proofs.store.ClauseStore.watches.Goals as goal
 

@@ -10,7 +10,7 @@ use Rattle.clause_store.specs.Entries.{clauses_of, bare}
 use Rattle.clause_store.specs.Propagating.{Advances}
 use Rattle.clause_store.specs.Watching.{IsOpenIn, IsOpenBut, AreFalseBut, Has, NoPrefix, Below}
 use Rattle.clause_store.proofs.Adding.{advances_none}
-use Rattle.clause_store.proofs.Resting.{goes_none, goes_past, two_differ, fresh_open, fresh_forced, fresh_single, below_safe}
+use Rattle.clause_store.proofs.QuietPairs.{goes_none, goes_past, two_differ, fresh_open, fresh_forced, fresh_single, below_safe}
 use Rattle.clause_store.proofs.Stored.{entry_there, clause_there, entry_clause, all_known}
 use Rattle.clause_store.proofs.Looking.{taken_had, had_in}
 use Rattle.clause_store.proofs.Attaching.{repaired_on, two_of, other_differs, pair_kept}

@@ -6,7 +6,7 @@ use Rattle.clause_literals.specs.Literals.{lit_complement}
 use Rattle.clause_store.specs.Entries.{clauses_of, bare}
 use Rattle.clause_store.specs.Watching.{IsOpenBut, AreFalseBut}
 use Rattle.clause_store.proofs.Adding.{adds_one}
-use Rattle.clause_store.proofs.Resting.{goes_none, goes_by, goes_moved}
+use Rattle.clause_store.proofs.QuietPairs.{goes_none, goes_by, goes_moved}
 use Rattle.clause_store.proofs.Stored.{entry_there, clause_there, entry_clause, entry_step, known_of, all_known}
 use Rattle.clause_store.proofs.Looking.{below, differ, which, other_had, had_in, keeps, passes, all_false, indexed_now, pairs_now, exchanged}
 use Rattle.clause_store.proofs.watched.Watched.take_up.Goals as goal

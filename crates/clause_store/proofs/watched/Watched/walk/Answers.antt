@@ -4,7 +4,7 @@ use Rattle.watch_index.specs.Indexes.{list_of}
 use Rattle.clause_store.specs.Entries.{bare}
 use Rattle.clause_store.specs.Watching.{PropagatesPart}
 use Rattle.clause_store.proofs.Adding.{holds_on}
-use Rattle.clause_store.proofs.Resting.{goes_none, goes_on}
+use Rattle.clause_store.proofs.QuietPairs.{goes_none, goes_on}
 use Rattle.clause_store.proofs.Walking.{passed_none, passed_stays, passed_moved, passed_all}
 use Rattle.clause_store.proofs.watched.Watched.walk.Goals as goal
 

@@ -164,7 +164,7 @@ pub returns-in_err-look-clause-grown : goal.returns-in_err-look-clause-grown
 returns-in_err-look-clause-grown g c = Extends-trans c.args.table.now c.rounds.table c.look.new.table c.rounds.invariant.continues.table c.look.ensures.grown
 
 pub returns-in_default-clause-came : goal.returns-in_default-clause-came
-returns-in_default-clause-came g c ts h rests =
+returns-in_default-clause-came g c ts h saturated_here =
     let n = c.rounds.invariant.came ts h in
     let m = rw c.in-Fine.is at (c.in_ok-look.ensures.came ts n.0 n.2) in
     let k = m.3 in
@@ -182,8 +182,8 @@ returns-in_default-clause-came g c ts h rests =
     )
 
 pub returns-in-Some-2-clause-came : goal.returns-in-Some-2-clause-came
-returns-in-Some-2-clause-came g c ts h rests =
-    absurd (subst (λ (e : End). ResolvesConflict (state c.look.new.table c.look.new.self) (state c.resolve_conflict.new.table c.resolve_conflict.new.self) (g.T.Theory.view c.resolve_conflict.new.theory) (Some e)) rests
+returns-in-Some-2-clause-came g c ts h saturated_here =
+    absurd (subst (λ (e : End). ResolvesConflict (state c.look.new.table c.look.new.self) (state c.resolve_conflict.new.table c.resolve_conflict.new.self) (g.T.Theory.view c.resolve_conflict.new.theory) (Some e)) saturated_here
     (rw c.in-Some-2.is at c.in_ok-end-in-Clash.ensures.resolves_conflict))
 
 pub returns-in_err-look-clause-came : goal.returns-in_err-look-clause-came

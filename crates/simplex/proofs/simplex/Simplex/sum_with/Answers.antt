@@ -14,16 +14,16 @@ pub returns-in_err-product-in-Some-clause-wide : goal.returns-in_err-product-in-
 returns-in_err-product-in-Some-clause-wide c =
     let s = c.self.inside in
     let v : SimplexView = record { theory = s.literals; atoms = s.atoms; assignment = s.assignment; bounds = s.bounds; starts = s.starts.items } in
-    let stands = subst (IsNumberOf s.atoms.owners c.args.id) c.in-Some.is c.var.ensures in
+    let represents = subst (IsNumberOf s.atoms.owners c.args.id) c.in-Some.is c.var.ensures in
     told (λ w. OverflowsNextSum c.args.self.now c.args.id (number_of c.args.k) (pair_of c.args.sum) (overflow w)) c.from_residual.result c.in_err-product-in-Some.field-0.0 c.from_residual.ensures.1
     (subst (λ (x : SimplexView). OverflowsNextSum x c.args.id (number_of c.args.k) (pair_of c.args.sum) (overflow c.in_err-product-in-Some.field-0.0)) c.self.view_is
-    (product_overflowing v c.args.id c.in-Some.y c.args.k c.args.sum c.value.result c.value.result stands c.value.ensures (overflow c.in_err-product-in-Some.field-0.0) c.in_err-product-in-Some.ensures.wide))
+    (product_overflowing v c.args.id c.in-Some.y c.args.k c.args.sum c.value.result c.value.result represents c.value.ensures (overflow c.in_err-product-in-Some.field-0.0) c.in_err-product-in-Some.ensures.wide))
 
 pub returns-in_err-next-in-Some-clause-wide : goal.returns-in_err-next-in-Some-clause-wide
 returns-in_err-next-in-Some-clause-wide c =
     let s = c.self.inside in
     let v : SimplexView = record { theory = s.literals; atoms = s.atoms; assignment = s.assignment; bounds = s.bounds; starts = s.starts.items } in
-    let stands = subst (IsNumberOf s.atoms.owners c.args.id) c.in-Some.is c.var.ensures in
+    let represents = subst (IsNumberOf s.atoms.owners c.args.id) c.in-Some.is c.var.ensures in
     told (λ w. OverflowsNextSum c.args.self.now c.args.id (number_of c.args.k) (pair_of c.args.sum) (overflow w)) c.from_residual-in_err-next-in-Some.result c.in_err-next-in-Some.field-0.0 c.from_residual-in_err-next-in-Some.ensures.1
     (subst (λ (x : SimplexView). OverflowsNextSum x c.args.id (number_of c.args.k) (pair_of c.args.sum) (overflow c.in_err-next-in-Some.field-0.0)) c.self.view_is
-    (next_overflows v c.args.id c.in-Some.y c.args.k c.args.sum c.value.result c.in_ok-product-in-Some.product stands c.value.ensures (overflow c.in_err-next-in-Some.field-0.0) c.in_ok-product-in-Some.ensures.exact c.in_err-next-in-Some.ensures.wide))
+    (next_overflows v c.args.id c.in-Some.y c.args.k c.args.sum c.value.result c.in_ok-product-in-Some.product represents c.value.ensures (overflow c.in_err-next-in-Some.field-0.0) c.in_ok-product-in-Some.ensures.exact c.in_err-next-in-Some.ensures.wide))

@@ -10,7 +10,7 @@ use Rattle.simplex_bounds.specs.Held.{ranges_in}
 use Rattle.simplex_check.specs.Assignments.{state_of}
 use Rattle.spec_tableaux.specs.BoundsOverflows.{CheckOverflows, OverflowsMove}
 use Rattle.simplex_check.proofs.Following.{first_comes}
-use Rattle.simplex_check.proofs.Shifts.{violates_at, goal_at, gap_at, overflows_difference, overflows_settling, reached_by}
+use Rattle.simplex_check.proofs.Shifts.{violates_at, goal_at, gap_at, overflows_difference, overflows_updating, reached_by}
 use Rattle.simplex_check.proofs.assignment.RealAssignment.update_one.Goals as goal
 
 pub returns-in_err-d-clause-wide : goal.returns-in_err-d-clause-wide
@@ -44,7 +44,7 @@ returns-clause-wide c =
     let ranges = ranges_in c.args.bounds.now.held in
     let t = state_of c.args.self.now in
     err_as (OverflowsMove t c.args.y (pair_of c.in_ok-d.d)) (CheckOverflows ranges t) c.shift.result
-    (overflows_settling ranges t c.args.y (pair_of c.in_ok-d.d) c.requires.nonbasic
+    (overflows_updating ranges t c.args.y (pair_of c.in_ok-d.d) c.requires.nonbasic
     (violates_at ranges t c.args.y (range_of c.range.result) (pair_of c.value-value.result) c.in-Some.ensures.0 c.range.ensures c.value-value.ensures)
     (gap_at ranges t c.args.y (pair_of c.in-Some.bound) (pair_of c.value-value.result) (pair_of c.in_ok-d.d)
     (goal_at ranges t c.args.y (range_of c.range.result) (pair_of c.value-value.result) (pair_of c.in-Some.bound) (below deltas (pair_of c.value-value.result) (range_of c.range.result).lower) c.in-Some.ensures.2 refl c.range.ensures c.value-value.ensures)

@@ -1,4 +1,4 @@
--- A name's latest place tells whether it stands from a place on.
+-- A name's latest place tells whether it is there from a place on.
 use Rattle.std.proofs.Common.{◌≡◌, false, drop, sym, subst}
 use Rattle.std.specs.Prelude.{nat_le}
 use Rattle.spec_text.specs.Bytes.{among}

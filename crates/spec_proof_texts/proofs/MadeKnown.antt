@@ -25,10 +25,10 @@ use Rattle.spec_proof_texts.specs.Meaning.{Told, nothing_told, with_definition, 
 use Rattle.spec_proof_texts.specs.ReadBack.{AreScriptNames, numbers_among}
 use Rattle.spec_proof_texts.proofs.Lookups.{extended, not_extended, numbered_push, numbered_next, function_push, stays, entry, clause_push, told_apart, entry_unfound, head_same, tail_same}
 use Rattle.spec_proof_texts.proofs.Known.{number_terms, number_terms_count, closed_numbers, closed_more}
-use Rattle.spec_proof_texts.proofs.Arguments.{StandsFor, Knows, Holds}
+use Rattle.spec_proof_texts.proofs.Arguments.{IsDefinedAs, Knows, Holds}
 
 -- A signature and entries are those that lines make known, after which so many numbers were printed.
-pub record Stands (g : Signature) (told : Told) (s : Signature) (entries : List NamedClause) (numbers : ℕ) : Type 0 where
+pub record IsKnownAfter (g : Signature) (told : Told) (s : Signature) (entries : List NamedClause) (numbers : ℕ) : Type 0 where
   pub knows : Knows g told s
   pub count : length s ≡ length g + length told.terms
   pub sorts : (n : Name) → sort_as s n ≡ sort_as g n
@@ -60,8 +60,8 @@ symbols_count (of_function (declared f) ∷ g) = omega (arith, symbols_count g)
 symbols_count (of_function (by_definition d) ∷ g) = omega (arith, symbols_count g)
 
 -- no term has a name at first
-pub nothing_stands : (g : Signature) → AreScriptNames g → Stands g nothing_told g [] 0
-nothing_stands g own = record {
+pub nothing_known : (g : Signature) → AreScriptNames g → IsKnownAfter g nothing_told g [] 0
+nothing_known g own = record {
   knows = record { grown = λ n k e. e; terms = λ n. go n (known_as g (defined_name n)) (own.none_kept (defined_name n) refl); whole = λ t c. absurd (no_member t c) };
   count = omega arith;
   sorts = λ n. refl;
@@ -81,9 +81,9 @@ nothing_stands g own = record {
     none_numbered zero = refl
     none_numbered (suc n) = refl
 
-    go : (n : ℕ) (o : Option Found) → o ≡ None → StandsFor o (numbered [] n)
-    go zero o e = subst (λ x. StandsFor x None) (sym e) tt
-    go (suc n) o e = subst (λ x. StandsFor x None) (sym e) tt
+    go : (n : ℕ) (o : Option Found) → o ≡ None → IsDefinedAs o (numbered [] n)
+    go zero o e = subst (λ x. IsDefinedAs x None) (sym e) tt
+    go (suc n) o e = subst (λ x. IsDefinedAs x None) (sym e) tt
 
     truth_there : (b : Bool) → Contains (leaves g) (truth_term b)
     truth_there true = first (of True []) (of False [] ∷ map constant_term (symbols_in g))
@@ -97,16 +97,16 @@ next_is p xs c n m o is e =
     ap (λ x. extended x b c) e ∙ sym (numbered_push xs c m b (λ t. d.0 t ∙ is) (λ t. d.1 (t ∙ sym is)))
 
 -- a definition more stands for its term
-stands_more : (o : Option Found) (p : Option Term) (b : Bool) (d : Definition) (t : Term) → d.parameters ≡ [] → d.term ≡ t → StandsFor o p → StandsFor (extended o b (by_definition d)) (extended p b t)
-stands_more None None true d t e f h = (e, f)
-stands_more None None false d t e f h = tt
-stands_more None (Some u) b d t e f h = absurd h
-stands_more (Some (declared x)) (Some u) b d t e f h = absurd h
-stands_more (Some (declared x)) None b d t e f h = absurd h
-stands_more (Some (by_definition x)) None b d t e f h = absurd h
-stands_more (Some (by_definition x)) (Some u) b d t e f h = h
+as_defined_more : (o : Option Found) (p : Option Term) (b : Bool) (d : Definition) (t : Term) → d.parameters ≡ [] → d.term ≡ t → IsDefinedAs o p → IsDefinedAs (extended o b (by_definition d)) (extended p b t)
+as_defined_more None None true d t e f h = (e, f)
+as_defined_more None None false d t e f h = tt
+as_defined_more None (Some u) b d t e f h = absurd h
+as_defined_more (Some (declared x)) (Some u) b d t e f h = absurd h
+as_defined_more (Some (declared x)) None b d t e f h = absurd h
+as_defined_more (Some (by_definition x)) None b d t e f h = absurd h
+as_defined_more (Some (by_definition x)) (Some u) b d t e f h = h
 
-module _ (g : Signature) (told : Told) (s : Signature) (entries : List NamedClause) (numbers : ℕ) (h : Stands g told s entries numbers) where
+module _ (g : Signature) (told : Told) (s : Signature) (entries : List NamedClause) (numbers : ℕ) (h : IsKnownAfter g told s entries numbers) where
   -- terms that are known with the numbers among arguments
   abbrev pub with_numbers : List Argument → List Term
   with_numbers items = h.among ++ number_terms items
@@ -124,8 +124,8 @@ module _ (g : Signature) (told : Told) (s : Signature) (entries : List NamedClau
   pub numbers_few : (items : List Argument) → length (with_numbers items) ≤ length g + (numbers + numbers_among items) + length told.terms + 2
   numbers_few items = omega (arith, h.few, length-append h.among (number_terms items), number_terms_count items)
 
-  pub assume_stands : (n : ℕ) (a : Argument) (c : Clause) → n ≡ length told.assumes + 1 → Stands g (with_assume told c) s (entries ++ entry (assume_name n) c ∷ []) (numbers + numbers_among (a ∷ []))
-  assume_stands n a c is = record {
+  pub assume_known : (n : ℕ) (a : Argument) (c : Clause) → n ≡ length told.assumes + 1 → IsKnownAfter g (with_assume told c) s (entries ++ entry (assume_name n) c ∷ []) (numbers + numbers_among (a ∷ []))
+  assume_known n a c is = record {
     knows = record { grown = h.knows.grown; terms = h.knows.terms; whole = h.knows.whole };
     count = h.count;
     sorts = h.sorts;
@@ -137,8 +137,8 @@ module _ (g : Signature) (told : Told) (s : Signature) (entries : List NamedClau
     few = numbers_few (a ∷ []);
   }
 
-  pub step_stands : (n : ℕ) (items : List Argument) (c : Clause) → n ≡ length told.steps + 1 → Stands g (with_step told c) s (entries ++ entry (step_name n) c ∷ []) (numbers + numbers_among items)
-  step_stands n items c is = record {
+  pub step_known : (n : ℕ) (items : List Argument) (c : Clause) → n ≡ length told.steps + 1 → IsKnownAfter g (with_step told c) s (entries ++ entry (step_name n) c ∷ []) (numbers + numbers_among items)
+  step_known n items c is = record {
     knows = record { grown = h.knows.grown; terms = h.knows.terms; whole = h.knows.whole };
     count = h.count;
     sorts = h.sorts;
@@ -150,14 +150,14 @@ module _ (g : Signature) (told : Told) (s : Signature) (entries : List NamedClau
     few = numbers_few items;
   }
 
-  pub definition_stands : (n : ℕ) (items : List Argument) (d : Definition) (t : Term) → d.name ≡ defined_name n → d.parameters ≡ [] → d.term ≡ t → n ≡ length told.terms + 1 → filled [] t ≡ t → AreAmong (arguments_of t) (with_numbers items) → Stands g (with_definition told t) (s ++ definition d ∷ []) entries (numbers + numbers_among items)
-  definition_stands n items d t named bare for is whole args = record {
+  pub definition_known : (n : ℕ) (items : List Argument) (d : Definition) (t : Term) → d.name ≡ defined_name n → d.parameters ≡ [] → d.term ≡ t → n ≡ length told.terms + 1 → filled [] t ≡ t → AreAmong (arguments_of t) (with_numbers items) → IsKnownAfter g (with_definition told t) (s ++ definition d ∷ []) entries (numbers + numbers_among items)
+  definition_known n items d t named bare for is whole args = record {
     knows = record {
       grown = λ m k e. function_push s (by_definition d) m ∙ stays (known_as s m) (bytes_eq d.name m) (by_definition d) k (h.knows.grown m k e);
       terms = λ m.
-          subst (λ o. StandsFor o (numbered (told.terms ++ t ∷ []) m)) (sym (function_push s (by_definition d) (defined_name m)))
-          (subst (λ p. StandsFor (extended (known_as s (defined_name m)) (bytes_eq d.name (defined_name m)) (by_definition d)) p) (told_next m)
-          (stands_more (known_as s (defined_name m)) (numbered told.terms m) (bytes_eq d.name (defined_name m)) d t bare for (h.knows.terms m)));
+          subst (λ o. IsDefinedAs o (numbered (told.terms ++ t ∷ []) m)) (sym (function_push s (by_definition d) (defined_name m)))
+          (subst (λ p. IsDefinedAs (extended (known_as s (defined_name m)) (bytes_eq d.name (defined_name m)) (by_definition d)) p) (told_next m)
+          (as_defined_more (known_as s (defined_name m)) (numbered told.terms m) (bytes_eq d.name (defined_name m)) d t bare for (h.knows.terms m)));
       whole = λ u c. whole_more u (Contains-push_cases told.terms t u c);
     };
     count = omega (arith, h.count, length-append s (definition d ∷ []), length-append told.terms (t ∷ []));
@@ -193,9 +193,9 @@ module _ (g : Signature) (told : Told) (s : Signature) (entries : List NamedClau
   new_step n is = entry_unfound entries (step_name n) (h.steps n ∙ ap (numbered told.steps) is ∙ numbered_next told.steps)
 
   pub new_definition : (n : ℕ) → n ≡ length told.terms + 1 → is_function s (defined_name n) ≡ false
-  new_definition n is = go (known_as s (defined_name n)) (subst (StandsFor (known_as s (defined_name n))) (ap (numbered told.terms) is ∙ numbered_next told.terms) (h.knows.terms n))
+  new_definition n is = go (known_as s (defined_name n)) (subst (IsDefinedAs (known_as s (defined_name n))) (ap (numbered told.terms) is ∙ numbered_next told.terms) (h.knows.terms n))
     where
-      go : (o : Option Found) → StandsFor o None → is_some o ≡ false
+      go : (o : Option Found) → IsDefinedAs o None → is_some o ≡ false
       go None e = refl
       go (Some (declared f)) e = absurd e
       go (Some (by_definition d)) e = absurd e

@@ -7,7 +7,7 @@ use Rattle.clause_store.specs.declared.parts.StoreParts.{StoreParts}
 use Rattle.clause_store.specs.Stores.{StoreView, no_pair, HasSeen}
 use Rattle.clause_store.specs.Entries.{clauses_of, steps_of, bare}
 use Rattle.clause_store.specs.Propagating.{Advances}
-use Rattle.clause_store.specs.Watching.{IsWatched, AreLiteralsAmong, IsFalseOf, AreResting, AreKnownIn}
+use Rattle.clause_store.specs.Watching.{IsWatched, AreLiteralsAmong, IsFalseOf, AreQuietPairs, AreKnownIn}
 
 -- what the parts mean
 abbrev pub store_of : StoreParts → StoreView
@@ -20,16 +20,16 @@ store_of p = record {
 
 -- the lengths rise
 abbrev pub LengthsRise : List ℕ → Type 0
-LengthsRise rests = (i j : ℕ) → i < j → j < length rests → get_or rests i 0 ≤ get_or rests j 0
+LengthsRise quiet_at = (i j : ℕ) → i < j → j < length quiet_at → get_or quiet_at i 0 ≤ get_or quiet_at j 0
 
 -- The first pairs are quiet by the prefixes of these lengths, which are no longer than one.
-pub record HaveRested (rests : List ℕ) (count : ℕ) (pairs : List Pair) (most : ℕ) (held : List Lit) : Type 0 where
+pub record QuietLengths (quiet_at : List ℕ) (count : ℕ) (pairs : List Pair) (most : ℕ) (held : List Lit) : Type 0 where
   -- they rise
-  pub rising : LengthsRise rests
+  pub rising : LengthsRise quiet_at
   -- none is longer
-  pub within : (r : ℕ) → Contains rests r → r ≤ most
+  pub within : (r : ℕ) → Contains quiet_at r → r ≤ most
   -- by each the pairs are quiet
-  pub rested : (r : ℕ) → Contains rests r → AreResting count pairs (take r held) (take r held)
+  pub were_quiet : (r : ℕ) → Contains quiet_at r → AreQuietPairs count pairs (take r held) (take r held)
 
 -- The first clauses were looked at: each has a literal, and those of one literal are in a list.
 pub record AreAttached (clauses : List (List Lit)) (pairs : List Pair) (count : ℕ) (short : List ℕ) : Type 0 where
@@ -45,7 +45,7 @@ pub record AreAttached (clauses : List (List Lit)) (pairs : List Pair) (count : 
 
 -- the last length, or 0 where there is none
 abbrev pub last_of : List ℕ → ℕ
-last_of rests = get_or rests (length rests - 1) 0
+last_of quiet_at = get_or quiet_at (length quiet_at - 1) 0
 
 -- the first of some lengths
 abbrev pub IsPrefixOf : List ℕ → List ℕ → Type 0
@@ -58,7 +58,7 @@ pub record StoreFits (p : StoreParts) : Type 0 where
   -- what was looked at
   pub attached : AreAttached (clauses_of p.watched.entries.items) p.watched.pairs.items p.attached p.short.items
   -- the prefixes
-  pub rests : HaveRested p.rests.items p.attached p.watched.pairs.items (length p.seen.items) p.seen.items
+  pub quiet_at : QuietLengths p.quiet_at.items p.attached p.watched.pairs.items (length p.seen.items) p.seen.items
 
 -- The parts fit together in the midst of propagation, where the prefixes are those of the trail.
 pub record IsAtWork (p : StoreParts) (t : TrailView) : Type 0 where
@@ -67,7 +67,7 @@ pub record IsAtWork (p : StoreParts) (t : TrailView) : Type 0 where
   -- what was looked at
   pub attached : AreAttached (clauses_of p.watched.entries.items) p.watched.pairs.items p.attached p.short.items
   -- the prefixes
-  pub rests : HaveRested p.rests.items p.attached p.watched.pairs.items t.propagated t.literals
+  pub quiet_at : QuietLengths p.quiet_at.items p.attached p.watched.pairs.items t.propagated t.literals
   -- the terms are variables
   pub known : AreKnownIn p.watched t.vars
   -- what is marked was seen
@@ -83,8 +83,8 @@ pub record WorksOn (old new : StoreParts) (before after : TrailView) : Type 0 wh
   pub seen : new.seen.items ≡ old.seen.items
   -- where the clauses that were looked at were quiet by what holds, they are quiet
   pub prefixes : (F : List Lit) → AreLiteralsAmong F before.literals
-      → AreResting old.attached old.watched.pairs.items F before.literals
-      → AreResting new.attached new.watched.pairs.items F after.literals
+      → AreQuietPairs old.attached old.watched.pairs.items F before.literals
+      → AreQuietPairs new.attached new.watched.pairs.items F after.literals
 
 -- what a look at the next clause comes to: it is false, or it was looked at
 abbrev pub AttachesOne : StoreParts → StoreParts → List Lit → Bool → Type 0

@@ -3,8 +3,8 @@ use Rattle.std.proofs.Common.{◌≡◌, length}
 use Rattle.term_core.specs.Tables.{TableView}
 use Rattle.proof_log.specs.Logs.{derivation_in}
 use Rattle.alethe_writer.proofs.Closing.{IsClosedFrom}
-use Rattle.alethe_writer.proofs.Resting.{IsIt, IsPremise}
-use Rattle.alethe_writer.proofs.marks.mark_rests.Given as goal
+use Rattle.alethe_writer.proofs.Supports.{IsIt, IsPremise}
+use Rattle.alethe_writer.proofs.marks.mark_support.Given as goal
 
 abbrev pub invariant-steps : goal.invariant-steps
 invariant-steps l = record {

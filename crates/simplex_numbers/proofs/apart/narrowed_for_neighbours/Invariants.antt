@@ -5,7 +5,7 @@ use Rattle.tableau.specs.Numbers.{number_of}
 use Rattle.simplex_bounds.specs.Deltas.{pair_of}
 use Rattle.spec_causes.specs.Causes.{IsHalfAmong}
 use Rattle.simplex_numbers.specs.Values.{IsSmaller, IsClear}
-use Rattle.simplex_numbers.proofs.apart.narrowed_beside.Given as goal
+use Rattle.simplex_numbers.proofs.apart.narrowed_for_neighbours.Given as goal
 
 abbrev pub invariant-slacks : goal.invariant-slacks
 invariant-slacks l = record {

@@ -14,7 +14,7 @@ use Rattle.spec_tableaux.specs.Points.{deltas, Ranges, AssignmentState}
 use Rattle.spec_tableaux.specs.Runs.{Ran, RanShort}
 use Rattle.spec_sorts.specs.Terms.{Term}
 use Rattle.spec_causes.specs.TermTableau.{TermTableau}
-use Rattle.spec_causes.specs.Reached.{IsReached, beginning, naming, summing, resting, checking}
+use Rattle.spec_causes.specs.Reached.{IsReached, beginning, naming, summing, idling, checking}
 
 -- a value that is within its range stays
 stays_within : (range : Range (Pair Number)) (x : Pair Number)
@@ -27,7 +27,7 @@ stays_within range x h = by (below deltas x range.lower) (above deltas x range.u
     by false false h = refl
 
 -- A check from t led to u, and nothing changed.
-record IsRest (t u : AssignmentState) (old new : List (ℕ × ℕ)) : Type 0 where
+record IsUnmoved (t u : AssignmentState) (old new : List (ℕ × ℕ)) : Type 0 where
   pub same_point : (y : ℕ) → u.point y ≡ t.point y
   pub none_made : new ≡ old
 
@@ -44,7 +44,7 @@ module _ (ranges : Ranges) (t : AssignmentState) (solved : IsSolved numbers t.ro
       by false h = false≢true h
 
   -- so the exchanges of such a check are none, and it ends where it starts
-  kept_stays : (u : AssignmentState) (old new : List (ℕ × ℕ)) → Ran ranges t u old new → IsRest t u old new
+  kept_stays : (u : AssignmentState) (old new : List (ℕ × ℕ)) → Ran ranges t u old new → IsUnmoved t u old new
   kept_stays u old new ran = record {
     same_point = subst (λ (w : AssignmentState). (y : ℕ) → w.point y ≡ t.point y) made.1 same;
     none_made = ran.kept ∙ ap (λ es. old ++ es) made.0 ∙ append-nil old;
@@ -78,5 +78,5 @@ pub uncounted : (ts : List Term) (n : ℕ) (es : List (ℕ × ℕ)) (s : TermTab
 uncounted ts _ _ _ beginning e = refl
 uncounted ts _ _ _ (naming n es s h f among u k has new) e = uncounted ts n es s h e
 uncounted ts _ _ _ (summing n es s h f among gs are longer) e = uncounted ts n es s h e
-uncounted ts _ _ _ (resting n es s h ranges bounds rs vs many ran) e = uncounted ts n es s h e
+uncounted ts _ _ _ (idling n es s h ranges bounds rs vs many ran) e = uncounted ts n es s h e
 uncounted ts _ _ _ (checking n old new s h ranges bounds rs vs many ran) e = absurd (omega (arith, e))

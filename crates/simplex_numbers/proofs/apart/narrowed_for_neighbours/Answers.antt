@@ -7,7 +7,7 @@ use Rattle.simplex_bounds.specs.Deltas.{pair_of}
 use Rattle.spec_tableaux.specs.Halves.{OverflowsApart}
 use Rattle.simplex_numbers.proofs.Orders.{irreflexive, smaller_smaller}
 use Rattle.simplex_numbers.proofs.Neighbours.{clear_more, half_more, overflows_more, none_among}
-use Rattle.simplex_numbers.proofs.apart.narrowed_beside.Goals as goal
+use Rattle.simplex_numbers.proofs.apart.narrowed_for_neighbours.Goals as goal
 
 pub slacks-init : goal.slacks-init
 slacks-init c = record {

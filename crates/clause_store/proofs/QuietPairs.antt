@@ -10,18 +10,18 @@ use Rattle.sat_trail.specs.Trails.{TrailView, no_lit}
 use Rattle.clause_store.specs.declared.pair.Pair.{Pair}
 use Rattle.clause_store.specs.Stores.{StoreView, no_pair}
 use Rattle.clause_store.specs.Propagating.{Advances, IsPropagated}
-use Rattle.clause_store.specs.Watching.{Has, IsPairOf, ArePairs, Rests, AreResting, AreLiteralsAmong, HaveSameShapes, PropagatesPart, IsRepaired, IsFresh, AnyPrefix, Below}
+use Rattle.clause_store.specs.Watching.{Has, IsPairOf, ArePairs, IsQuietPair, AreQuietPairs, AreLiteralsAmong, HaveSameShapes, PropagatesPart, IsRepaired, IsFresh, AnyPrefix, Below}
 use Rattle.clause_store.proofs.Adding.{advances_none, advances_on, holds_on}
 use Rattle.clause_store.proofs.Indexing.{one_or_two}
 
 -- ---- quiet pairs
 
 -- more may hold
-pub rests_on : (front held more : List Lit) (p : Pair) → AreLiteralsAmong held more → Rests front held p → Rests front more p
-rests_on front held more p w h = record { by_first = λ c. w _ (h.by_first c); by_second = λ c. w _ (h.by_second c); alone = λ e. w _ (h.alone e) }
+pub quiet_on : (front held more : List Lit) (p : Pair) → AreLiteralsAmong held more → IsQuietPair front held p → IsQuietPair front more p
+quiet_on front held more p w h = record { by_first = λ c. w _ (h.by_first c); by_second = λ c. w _ (h.by_second c); alone = λ e. w _ (h.alone e) }
 
-pub resting_on : (count : ℕ) (pairs : List Pair) (front held more : List Lit) → AreLiteralsAmong held more → AreResting count pairs front held → AreResting count pairs front more
-resting_on count pairs front held more w h n lt = rests_on front held more _ w (h n lt)
+pub all_quiet_on : (count : ℕ) (pairs : List Pair) (front held more : List Lit) → AreLiteralsAmong held more → AreQuietPairs count pairs front held → AreQuietPairs count pairs front more
+all_quiet_on count pairs front held more w h n lt = quiet_on front held more _ w (h n lt)
 
 -- a prefix is within
 pub front_within : (n : ℕ) (held : List Lit) → n ≤ length held → AreLiteralsAmong (take n held) held
@@ -31,7 +31,7 @@ front_within n held le l (i, lt, e) =
 
 -- where all are quiet by what holds, nothing follows
 pub quiet : (clauses : List (List Lit)) (pairs : List Pair) (held : List Lit) → ArePairs clauses pairs → ((n : ℕ) → n < length clauses → Contains (get_or clauses n []) (get_or pairs n no_pair).first)
-    → AreResting (length clauses) pairs held held → IsPropagated clauses held
+    → AreQuietPairs (length clauses) pairs held held → IsPropagated clauses held
 quiet clauses pairs held ps there r c (n, lt, e) = subst (PropagatesNothing held) (get_or_default clauses n [] c lt ∙ e) (go (one_or_two p) (is_in held (lit_complement p.first)) (is_in held (lit_complement p.second)))
   where
     p : Pair
@@ -88,25 +88,25 @@ goes_past s n old new t u a r = record {
   advances = a;
   paired = r.paired;
   shapes = r.shapes;
-  prefixes = λ F G f g h m lt. subst (Rests F G) (sym (r.others m (omega (arith, lt)))) (h m lt);
+  prefixes = λ F G f g h m lt. subst (IsQuietPair F G) (sym (r.others m (omega (arith, lt)))) (h m lt);
 }
 
 -- a watch moves from a false literal to one that is not
 module _ (s : StoreView) (pairs : List Pair) (t : TrailView) (n : ℕ) (f d other : Lit) (p : Pair)
     (below : n < length pairs) (two : (get_or pairs n no_pair).first ≢ (get_or pairs n no_pair).second) (consistent : IsConsistent t.literals) (fails : Contains t.literals (lit_complement f))
     (open_d : Contains t.literals (lit_complement d) → ⊥) (differs : d ≢ other) (is : p ≡ record { first = other; second = d })
-    (keeps : (F G : List Lit) → Rests F G (get_or pairs n no_pair) → Contains F (lit_complement other) → Contains G f) where
+    (keeps : (F G : List Lit) → IsQuietPair F G (get_or pairs n no_pair) → Contains F (lit_complement other) → Contains G f) where
   pub goes_moved : PropagatesPart s (length pairs) pairs (set pairs n p) t t
   goes_moved = record { advances = advances_none s t; paired = length-set pairs n p; shapes = shapes_set pairs n p below two (rw is (λ e. differs (sym e))); prefixes = prefixes }
     where
-      here : (F G : List Lit) → AreLiteralsAmong F t.literals → AreLiteralsAmong G t.literals → Rests F G (get_or pairs n no_pair) → Rests F G (record { first = other; second = d })
+      here : (F G : List Lit) → AreLiteralsAmong F t.literals → AreLiteralsAmong G t.literals → IsQuietPair F G (get_or pairs n no_pair) → IsQuietPair F G (record { first = other; second = d })
       here F G a b h = record {
         by_first = λ c. absurd (consistent f (b f (keeps F G h c)) fails);
         by_second = λ c. absurd (open_d (a (lit_complement d) c));
         alone = λ e. absurd (differs (sym e));
       }
 
-      prefixes : (F G : List Lit) → AreLiteralsAmong F t.literals → AreLiteralsAmong G t.literals → AreResting (length pairs) pairs F G → AreResting (length pairs) (set pairs n p) F G
+      prefixes : (F G : List Lit) → AreLiteralsAmong F t.literals → AreLiteralsAmong G t.literals → AreQuietPairs (length pairs) pairs F G → AreQuietPairs (length pairs) (set pairs n p) F G
       prefixes F G a b h m lt = elim (cases_eq m n) [
         | inl e ↦ rw (e, get_or-set_same pairs n p no_pair below, is) (here F G a b (h n below))
         | inr o ↦ rw (get_or-set_other pairs n m p no_pair o) (h m lt)
@@ -139,8 +139,8 @@ module _ (clause held : List Lit) (p : Pair) (a b : Lit) (d : a ≢ b) (one : Ha
   pub fresh_open : (Contains held (lit_complement a) → ⊥) → (Contains held (lit_complement b) → ⊥) → IsFresh clause held p AnyPrefix
   fresh_open na nb =
       let none = either (λ (l : Lit). Contains held (lit_complement l) → ⊥) na nb in
-      let rests : (F G : List Lit) → AreLiteralsAmong F held → Rests F G p = λ F G w. record { by_first = λ c. absurd (none.0 (w _ c)); by_second = λ c. absurd (none.1 (w _ c)); alone = λ e. absurd (two_differ e) } in
-      record { there = pair.first_in two_differ; now = λ F w. rests F held w; prefixes = λ r le s. rests (take r held) (take r held) (front_within r held le) }
+      let quiet_at : (F G : List Lit) → AreLiteralsAmong F held → IsQuietPair F G p = λ F G w. record { by_first = λ c. absurd (none.0 (w _ c)); by_second = λ c. absurd (none.1 (w _ c)); alone = λ e. absurd (two_differ e) } in
+      record { there = pair.first_in two_differ; now = λ F w. quiet_at F held w; prefixes = λ r le s. quiet_at (take r held) (take r held) (front_within r held le) }
 
   -- the one holds, and the other may be false
   pub fresh_forced : (Safe : ℕ → Type 0) → IsConsistent held → Contains held a → ((r : ℕ) → r ≤ length held → Safe r → Contains (take r held) (lit_complement b) → ⊥) → IsFresh clause held p Safe

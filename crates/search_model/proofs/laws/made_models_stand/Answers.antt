@@ -1,9 +1,0 @@
--- That a model's tables are those of an interpretation, and what such a one is.
-use Rattle.search_model.proofs.Interpreting.{interpretation, models_by}
-use Rattle.search_model.proofs.laws.made_models_stand.Goals as goal
-
-pub returns-clause-stands : goal.returns-clause-stands
-returns-clause-stands c t held terms classes numbers interp apart model = interpretation t interp apart
-
-pub returns-clause-models : goal.returns-clause-models
-returns-clause-models c = models_by
