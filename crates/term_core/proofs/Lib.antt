@@ -17,3 +17,5 @@ pub mod SortsTaken
 pub mod TermsDeclared
 pub mod TablePut
 pub mod TermsWellSorted
+pub mod SymbolsOver
+pub mod Undeclared

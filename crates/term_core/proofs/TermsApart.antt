@@ -85,7 +85,7 @@ one_sort sorts (declared_sort a) _ apart in_s in_t e = absurd (subst IsDeclaredS
 one_sort sorts _ (declared_sort b) apart in_s in_t e = absurd (subst IsDeclaredSort (sym e) tt)
 one_sort sorts _ _ apart in_s in_t e = ap sort_word e
 
-one_symbol : (symbols : List Symbol) (a b : SymbolId) → HaveNoTwice (names_of symbols) → IsSymbol symbols a → IsSymbol symbols b → symbol_at symbols a ≡ symbol_at symbols b → a ≡ b
+pub one_symbol : (symbols : List Symbol) (a b : SymbolId) → HaveNoTwice (names_of symbols) → IsSymbol symbols a → IsSymbol symbols b → symbol_at symbols a ≡ symbol_at symbols b → a ≡ b
 one_symbol symbols a b apart in_a in_b e =
     let name : Symbol → List ℕ = λ s. s.name in
     let long = length-map symbols name in

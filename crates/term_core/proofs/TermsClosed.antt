@@ -30,7 +30,7 @@ pub term_there : (t : TableView) (id : TermId) → IsIn t id → Contains t.term
 term_there t id lt = (id.0, lt, get_or_default t.terms id.0 (term_at t id) no_term lt)
 
 -- a term of the table is written at its number
-is_written : (d : SymbolsView) (nodes : List Node) → NodesFit d nodes → (t : Term) → Contains (grown d [] (shapes_of nodes)) t
+pub is_written : (d : SymbolsView) (nodes : List Node) → NodesFit d nodes → (t : Term) → Contains (grown d [] (shapes_of nodes)) t
     → (s : Shape) × ShapeFits (view d (grown d [] (shapes_of nodes))) s × (t ≡ shape_term (view d (grown d [] (shapes_of nodes))) s)
 is_written d nodes whole t c =
     let terms = grown d [] (shapes_of nodes) in

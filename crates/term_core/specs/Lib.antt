@@ -2,5 +2,6 @@
 pub mod NameLists
 pub mod Symbols
 pub mod Tables
+pub mod Uses
 pub mod Facts
 pub mod TheoryHeads

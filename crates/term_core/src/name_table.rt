@@ -1,6 +1,6 @@
 //! Names by their numbers: each name once.
 
-ghost use Rattle.std.specs.Prelude.{◌≡◌, false, ◌<◌, [], ◌∷◌, ◌++◌, length, slice_index_or, MatchOption, OnErr, OnOk};
+ghost use Rattle.std.specs.Prelude.{◌≡◌, false, ◌<◌, [], ◌∷◌, ◌++◌, length, slice_index_or, take, MatchOption, OnErr, OnOk};
 ghost use Rattle.spec_text.specs.Bytes.{among};
 ghost use Rattle.term_core.specs.NameLists.{HaveNoTwice};
 
@@ -84,5 +84,11 @@ impl NameTable {
         let copy = name.to_vec(self.alloc)?;
         self.set.insert(copy)?;
         Ok(())
+    }
+    /// Takes away all names after the first `len`, none where there are no more. It takes no memory.
+    pub fn cut(&mut self, len: u64)
+        ensures { self.new ≡ take len self.old }
+    {
+        self.set.truncate(len as usize);
     }
 }

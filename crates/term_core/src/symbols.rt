@@ -1,7 +1,8 @@
 //! The declared sorts and symbols: each name once.
 
-ghost use Rattle.std.specs.Prelude.{◌≡◌, false, ◌<◌, [], ◌∷◌, ◌++◌, length, IfOk, OnErr, OnOk, MatchBool, MatchOption, None, Some};
+ghost use Rattle.std.specs.Prelude.{◌≡◌, false, ◌<◌, [], ◌∷◌, ◌++◌, length, take, IfOk, OnErr, OnOk, MatchBool, MatchOption, None, Some};
 ghost use Rattle.spec_text.specs.Bytes.{among};
+ghost use Rattle.term_core.specs.Uses.{AreSymbolsOver};
 ghost use Rattle.term_core.specs.Symbols.{sort_name, IsSort, HasSortIn, HaveSortsIn, sort_meant, sorts_meant, symbol_at, IsSymbol, symbol_named, symbol_of, AreDeclared};
 
 use crate::ids::{SortId, SymbolId};
@@ -188,6 +189,25 @@ impl Symbols {
             result: gives,
         });
         Ok(SymbolId(number))
+    }
+
+    /// Takes away all sorts after the first `sorts` and all symbols after the first `symbols`, none where there are no more.
+    ///
+    /// No symbol that is left may use a sort that goes. It takes no memory.
+    pub fn cut(&mut self, sorts: u64, symbols: u64)
+        requires { AreSymbolsOver (take sorts self.old.sorts) (take symbols self.old.symbols) }
+        ensures { self.new ≡ record { sorts = take sorts self.old.sorts; symbols = take symbols self.old.symbols } }
+    {
+        self.sorts.cut(sorts);
+        self.names.cut(symbols);
+        self.ranks.truncate(symbols as usize);
+    }
+
+    /// States that the symbols use declared sorts alone.
+    pub fn symbols_use_sorts(&self)
+        ensures { AreSymbolsOver self.now.sorts self.now.symbols }
+    {
+        let _ = &self.names;
     }
 
     /// States that no name occurs twice.

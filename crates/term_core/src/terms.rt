@@ -9,6 +9,7 @@ ghost use Rattle.spec_sorts.specs.Subsets.{arguments_of, AreAmong, IsClosed};
 ghost use Rattle.spec_sorts.specs.Literals.{literal_of};
 ghost use Rattle.term_core.specs.Symbols.{HasSortIn, HaveSortsIn, sort_meant, symbol_named, symbol_of};
 ghost use Rattle.term_core.specs.Tables.{declared_in, term_at, IsIn, AreIn, literal_at, takes, IsParameterAmong, IsPlaced, node_term, NamesBelow, AreDifferent, Extends, positive_literal};
+ghost use Rattle.term_core.specs.Uses.{UsesDeclared, first_declared};
 ghost use Rattle.term_core.specs.declared.ids.TermId.{TermId as Number};
 
 use crate::facts::{Facts, facts_of};
@@ -188,6 +189,16 @@ impl TermTable {
         self.facts.truncate(len as usize);
     }
 
+    /// Takes away all sorts after the first `sorts` and all symbols after the first `symbols`, none where there are no more.
+    ///
+    /// No term and no symbol that is left may use one that goes. It takes no memory.
+    pub fn undeclare(&mut self, sorts: u64, symbols: u64)
+        requires { UsesDeclared (first_declared sorts symbols self.old) }
+        ensures { self.new ≡ first_declared sorts symbols self.old }
+    {
+        self.symbols.cut(sorts, symbols);
+    }
+
     /// Takes the negations off a term: what is left, and whether their number is even. It takes no memory.
     ///
     /// Source: Alethe specification, the rule `resolution`.
@@ -285,6 +296,13 @@ impl TermTable {
         ensures { (h : TermHead) (ts : Terms) → Contains self.now.terms (app h ts) → IsHeadOver self.now.symbols h }
     {
         let _ = &self.symbols;
+    }
+
+    /// States that the sorts and symbols that the table's symbols and terms use are declared.
+    pub fn uses_what_is_declared(&self)
+        ensures { UsesDeclared self.now }
+    {
+        self.symbols.symbols_use_sorts();
     }
 
     /// States that each of the table's terms is well sorted, where its parameters have the sorts of their numbers.
