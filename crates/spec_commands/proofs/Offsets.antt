@@ -1,24 +1,28 @@
 -- The fault of a command is at an offset of its text, and so does a check that it asks for.
 use Rattle.std.proofs.Common.{◌≡◌, ℕ, Bool, List, [], ◌∷◌, Option, Some, None, subst}
-use Rattle.std.specs.Prelude.{Ok, Err, not}
-use Rattle.spec_text.specs.declared.Fault.TheVariants.{Reserved, UnknownLogic, WrongMode, Full}
+use Rattle.std.specs.Prelude.{◌+◌, ◌&&◌, Ok, Err, not, nat_le, codes, true, false}
+use Rattle.std.specs.Str.{bytes_eq}
+use Rattle.spec_text.specs.declared.Fault.TheVariants.{Reserved, UnknownLogic, PopTooFar, WrongMode, Full, NotLiteral}
 use Rattle.spec_text.specs.Bytes.{among}
 use Rattle.spec_text.specs.Faults.{Located}
-use Rattle.spec_text.specs.Shapes.{is_reserved}
+use Rattle.spec_text.specs.Shapes.{Word, is_symbol, is_reserved}
 use Rattle.spec_text.specs.Answers.{Answer, ◌>>=◌, require}
 use Rattle.spec_text.specs.Trees.{Tree, Trees, atom, list, none, more, offset_of}
 use Rattle.spec_text.specs.Offsets.{AllOffsets, AllOffsetsOf, HasOffset, own_offsets}
-use Rattle.spec_text.proofs.AnswerLaws.{Gives, gives_in_turn, IsFaultWithin, require_within, own_offset}
+use Rattle.spec_text.proofs.AnswerLaws.{Gives, gives_in_turn, IsFaultWithin, within_in_turn, require_within, own_offset}
 use Rattle.spec_text.proofs.ShapeLaws.{Holds}
 use Rattle.spec_sorts.specs.Terms.{Truth, Term}
+use Rattle.spec_sorts.specs.Theory.{is_of_theory}
+use Rattle.spec_sorts.specs.Signatures.{Known, Signature, known_as}
 use Rattle.spec_reading.specs.Names.{script, new_name, is_sort, is_function}
 use Rattle.spec_reading.specs.Sorts.{sort_in, sorts_in}
 use Rattle.spec_reading.specs.Reading.{reading_of_sort}
 use Rattle.spec_reading.specs.Definitions.{definitions_in}
 use Rattle.spec_sorts.specs.Subterms.{has_room}
 use Rattle.spec_reading.proofs.Offsets.{name_within, sort_within, sorts_within, of_sort_within, definitions_within}
-use Rattle.spec_commands.specs.Commands.{Command, SetLogic, SetOption, SetInfo, DeclareSort, DefineSort, DeclareFun, DefineFun, Assert, CheckSat, Echo, Exit, Verb, shaped, verb_of, command_by, command_as, command_of}
-use Rattle.spec_commands.specs.Stack.{Assertion, Stack, Key, Effect, check, Taken, key_named, signature_of, logics, truth_in, option_set, roomy, performed, step}
+use Rattle.spec_commands.specs.Commands.{Command, SetLogic, SetOption, SetInfo, DeclareSort, DefineSort, DeclareFun, DefineFun, Assert, Push, Pop, CheckSat, CheckSatAssuming, ResetAssertions, Reset, Echo, Exit, Verb, shaped, verb_of, command_by, command_as, command_of}
+use Rattle.spec_commands.specs.Stack.{Assertion, Stack, Key, Effect, check, Taken, key_named, signature_of, terms_asserted, levels_open, level_limit, logics, truth_in, option_set, roomy, literals_in, performed, step}
+use Rattle.spec_commands.specs.Literals.{is_proposition, symbol_if, literal_symbol, proposition_by, proposition_of, literal_in}
 use Rattle.spec_commands.proofs.Parts.{PartsWithin, parts_within}
 
 module _ (P : ℕ → Type 0) where
@@ -59,6 +63,43 @@ module _ (P : ℕ → Type 0) where
   roomy_within : (limit at : ℕ) (ts : List Term) (s : Stack) → P at → TakenWithin (roomy limit at ts s)
   roomy_within limit at ts s h = then_within (require (has_room limit (signature_of s) ts) at Full) _ (require_within P _ at Full h) λ room. tt
 
+  -- the symbol of a literal
+  symbol_within : (b : Bool) (x : Word) → P x.at → Holds (λ (y : Word). P y.at) (symbol_if b x)
+  symbol_within true x h = h
+  symbol_within false x h = tt
+
+  literal_symbol_within : (t : Tree) → AllOffsets P t → Holds (λ (y : Word). P y.at) (literal_symbol t)
+  literal_symbol_within (atom at k n) h = symbol_within (is_symbol k) (record { at = at; kind = k; bytes = n }) h
+  literal_symbol_within (list at none end) h = tt
+  literal_symbol_within (list at (more (list x us e) ts) end) h = tt
+  literal_symbol_within (list at (more (atom place j m) none) end) h = tt
+  literal_symbol_within (list at (more (atom place j m) (more (list x us e) ts)) end) h = tt
+  literal_symbol_within (list at (more (atom place j m) (more (atom x k n) (more u us))) end) h = tt
+  literal_symbol_within (list at (more (atom place j m) (more (atom x k n) none)) end) h =
+      symbol_within (is_symbol j && bytes_eq m (codes "not") && is_symbol k) (record { at = x; kind = k; bytes = n }) h.1.1.0
+
+  proposition_within : (s : Signature) (item : ℕ) (o : Option Word) → P item → Holds (λ (y : Word). P y.at) o → IsFaultWithin P (proposition_of s item o)
+  proposition_within s item None here h = here
+  proposition_within s item (Some x) here h = go (is_of_theory x.bytes) (known_as s x.bytes)
+    where
+      go : (b : Bool) (k : Option Known) → IsFaultWithin P (proposition_by item x b k)
+      go true k = here
+      go false None = h
+      go false (Some k) = within_in_turn P (require (is_proposition k) item NotLiteral) _ (require_within P _ item NotLiteral here) λ fits. tt
+
+  -- a literal
+  literal_within : (s : Signature) (t : Tree) → AllOffsets P t → IsFaultWithin P (literal_in s t)
+  literal_within s t h =
+      within_in_turn P (proposition_of s (offset_of t) (literal_symbol t)) _ (proposition_within s (offset_of t) (literal_symbol t) (own_offset P t h) (literal_symbol_within t h)) λ k.
+      within_in_turn P (reading_of_sort script s [] Truth t) _ (of_sort_within P script s [] Truth t h) λ r. tt
+
+  literals_within : (s : Signature) (ts : Trees) → AllOffsetsOf P ts → IsFaultWithin P (literals_in s ts)
+  unfolding literals_in
+  literals_within s none h = tt
+  literals_within s (more t ts) h =
+      within_in_turn P (literal_in s t) _ (literal_within s t h.0) λ u.
+      within_in_turn P (literals_in s ts) _ (literals_within s ts h.1) λ ls. tt
+
   performed_within : (limit at : ℕ) (s : Stack) (c : Command) → P at → PartsWithin P c → TakenWithin (performed limit at s c)
   performed_within limit at s (SetLogic x) here h =
       then_within (require (not (is_reserved x.kind)) x.at Reserved) _ (require_within P _ x.at Reserved h) λ free.
@@ -79,7 +120,14 @@ module _ (P : ℕ → Type 0) where
       then_within (definitions_in script (signature_of s) d) _ (definitions_within P script (signature_of s) d h) λ ds. roomy_within limit at _ _ here
   performed_within limit at s (Assert t) here h =
       then_within (reading_of_sort script (signature_of s) [] Truth t) _ (of_sort_within P script (signature_of s) [] Truth t h) λ r. roomy_within limit at (r.term ∷ []) _ here
+  performed_within limit at s (Push n) here h = then_within (require (nat_le (levels_open s.levels + n) level_limit) at Full) _ (require_within P _ at Full here) λ room. tt
+  performed_within limit at s (Pop n) here h = then_within (require (nat_le n (levels_open s.levels)) at PopTooFar) _ (require_within P _ at PopTooFar here) λ enough. tt
   performed_within limit at s (CheckSat place) here h = h
+  performed_within limit at s (CheckSatAssuming place ts) here h =
+      then_within (literals_in (signature_of s) ts) _ (literals_within (signature_of s) ts h.1) λ ls.
+      then_within (require (has_room limit (signature_of s) (terms_asserted ls)) at Full) _ (require_within P _ at Full here) λ room. h.0
+  performed_within limit at s ResetAssertions here h = tt
+  performed_within limit at s Reset here h = tt
   performed_within limit at s (Echo text) here h = tt
   performed_within limit at s Exit here h = tt
 

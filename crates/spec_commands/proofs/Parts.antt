@@ -1,6 +1,6 @@
 -- The parts of a command is in its text.
 use Rattle.std.proofs.Common.{ℕ, Bool, true, false, Option}
-use Rattle.std.specs.Prelude.{Some, codes}
+use Rattle.std.specs.Prelude.{Some, None, codes}
 use Rattle.std.specs.Str.{bytes_eq}
 use Rattle.spec_text.specs.Shapes.{◌>>=◌, passes, first_word, first_list, only_tree, no_tree, is_keyword}
 use Rattle.spec_text.specs.Trees.{Tree, Trees, atom, list, none, more}
@@ -8,7 +8,7 @@ use Rattle.spec_text.specs.Offsets.{AllOffsets, AllOffsetsOf}
 use Rattle.spec_text.proofs.ShapeLaws.{Holds, holds_in_turn, tree_is_within, PrefixWithin, word_is_within}
 use Rattle.spec_sorts.specs.Forms.{is_name, are_named}
 use Rattle.spec_reading.proofs.Offsets.{DefinitionWithin}
-use Rattle.spec_commands.specs.Commands.{Command, SetLogic, SetInfo, DeclareSort, DefineSort, DeclareFun, DefineFun, Assert, CheckSat, Verb, sets_logic, sets_option, sets_info, declares_sort, defines_sort, declares_const, declares_fun, defines_fun, asserts, checks, echoes, exits, is_numeral, is_string, one_at_most, first_name, first_tree, set_logic, set_option, set_info, declare_sort, define_sort, declare_const, declare_fun, define_fun, assertion, echo, command_by}
+use Rattle.spec_commands.specs.Commands.{Command, SetLogic, SetInfo, DeclareSort, DefineSort, DeclareFun, DefineFun, Assert, Push, Pop, CheckSat, CheckSatAssuming, Verb, sets_logic, sets_option, sets_info, declares_sort, defines_sort, declares_const, declares_fun, defines_fun, asserts, pushes, pops, checks, checks_assuming, resets_assertions, resets, echoes, exits, is_numeral, is_string, one_at_most, first_name, first_tree, set_logic, set_option, set_info, declare_sort, define_sort, declare_const, declare_fun, define_fun, assertion, levels_in, push, pop, check_assuming, echo, command_by}
 
 module _ (P : ℕ → Type 0) where
   -- the parts of a command are at offsets with the property
@@ -20,6 +20,7 @@ module _ (P : ℕ → Type 0) where
   PartsWithin (DefineFun d) = DefinitionWithin P d
   PartsWithin (Assert t) = AllOffsets P t
   PartsWithin (CheckSat place) = P place
+  PartsWithin (CheckSatAssuming place ts) = P place × AllOffsetsOf P ts
   PartsWithin c = Unit {0}
 
   -- what follows a test
@@ -109,6 +110,29 @@ module _ (P : ℕ → Type 0) where
   unfolding assertion
   asserted_within ts h = holds_in_turn (AllOffsets P) PartsWithin (only_tree ts) _ (tree_is_within P ts h) λ t v. v
 
+  -- a number of levels
+  push_within : (ts : Trees) → Holds PartsWithin (push ts)
+  unfolding push
+  push_within ts = go (levels_in ts)
+    where
+      go : (o : Option ℕ) → Holds PartsWithin (o >>= λ n. Some (Push n))
+      go (Some n) = tt
+      go None = tt
+
+  pop_within : (ts : Trees) → Holds PartsWithin (pop ts)
+  unfolding pop
+  pop_within ts = go (levels_in ts)
+    where
+      go : (o : Option ℕ) → Holds PartsWithin (o >>= λ n. Some (Pop n))
+      go (Some n) = tt
+      go None = tt
+
+  assuming_within : (place : ℕ) (ts : Trees) → P place → AllOffsetsOf P ts → Holds PartsWithin (check_assuming place ts)
+  unfolding check_assuming
+  assuming_within place ts here h =
+      holds_in_turn (λ (y : Trees × Trees). AllOffsetsOf P y.0 × AllOffsetsOf P y.1) PartsWithin (first_list ts) _ (list_within ts h) λ ls l.
+      after_end PartsWithin ls.1 _ (here, l.0)
+
   echo_within : (ts : Trees) → AllOffsetsOf P ts → Holds PartsWithin (echo ts)
   unfolding echo
   echo_within ts h =
@@ -125,6 +149,11 @@ module _ (P : ℕ → Type 0) where
   parts_within declares_fun place ts here h = function_within ts h
   parts_within defines_fun place ts here h = definition_within ts h
   parts_within asserts place ts here h = asserted_within ts h
+  parts_within pushes place ts here h = push_within ts
+  parts_within pops place ts here h = pop_within ts
   parts_within checks place ts here h = after_end PartsWithin ts _ here
+  parts_within checks_assuming place ts here h = assuming_within place ts here h
+  parts_within resets_assertions place ts here h = after_end PartsWithin ts _ tt
+  parts_within resets place ts here h = after_end PartsWithin ts _ tt
   parts_within echoes place ts here h = echo_within ts h
   parts_within exits place ts here h = after_end PartsWithin ts _ tt

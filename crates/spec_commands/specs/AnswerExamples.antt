@@ -44,6 +44,13 @@ pub others : answers (
 unfolding commands_on_literals answers_after
 others = refl
 
+-- levels that are opened and closed are done, and so is what is taken back
+pub levels : answers (
+    codes "(push)(push 2)(check-sat)(pop 3)" ∷
+    codes "(pop)(reset-assertions)(push 0)(reset)" ∷ []) ≡ done ∷ done ∷ check 15 [] ∷ done ∷ done ∷ done ∷ done ∷ []
+unfolding commands_on_literals answers_after
+levels = refl
+
 -- a check is asked for at its word, whatever is asserted
 pub checks : answers (codes "(check-sat)(assert (= 1 1.0))( check-sat)" ∷ []) ≡ check 1 [] ∷ done ∷ check 31 [] ∷ []
 unfolding commands_on_literals answers_after

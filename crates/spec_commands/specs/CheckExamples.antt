@@ -209,6 +209,42 @@ pub names_in_order : names_at 1
 unfolding commands_on_literals
 names_in_order = refl
 
+-- a name belongs to the level at which it is declared, and so do those of annotations
+pub names_with_levels : names_at 1
+    (codes "(declare-const p Bool)(push 2)(declare-const q Bool)(define-fun f () Bool (! q :named n))(push)"
+    ++ codes "(declare-sort U 0)(assert (! p :named m))(check-sat)")
+    ≡ (Some ((0, codes "p") ∷ (2, codes "q") ∷ (2, codes "n") ∷ (2, codes "f") ∷ (3, codes "U") ∷ (3, codes "m") ∷ []))
+unfolding commands_on_literals
+names_with_levels = refl
+
+-- names of closed levels can be declared again, with another sort too
+pub names_go_with_levels : names_at 1
+    (codes "(declare-const p Bool)(push 1)(declare-sort U 0)(declare-const c Bool)(push 1)(declare-const d U)(pop 2)"
+    ++ codes "(declare-const c Real)(push)(declare-fun d (Real) Real)(define-sort U () Real)(check-sat)")
+    ≡ (Some ((0, codes "p") ∷ (0, codes "c") ∷ (1, codes "d") ∷ (1, codes "U") ∷ []))
+unfolding commands_on_literals
+names_go_with_levels = refl
+
+-- and so do assertions of closed levels; those below them stay
+pub assertions_go_with_levels : map (λ k. count_at k
+    (codes "(declare-const p Bool)(assert p)(push 2)(assert p)(assert p)(check-sat)(push)(assert p)(check-sat)(pop 0)"
+    ++ codes "(check-sat)(pop 2)(check-sat)(assert p)(pop)(check-sat)")) (1 ∷ 2 ∷ 3 ∷ 4 ∷ 5 ∷ [])
+    ≡ Some 3 ∷ Some 4 ∷ Some 4 ∷ Some 1 ∷ Some 1 ∷ []
+unfolding commands_on_literals
+assertions_go_with_levels = refl
+
+-- `reset-assertions` takes back what is declared and asserted, at all levels
+pub assertions_reset : names_at 1
+    (codes "(declare-const p Bool)(assert p)(push 2)(declare-sort U 0)(reset-assertions)(declare-sort p 0)(check-sat)")
+    ≡ Some ((0, codes "p") ∷ [])
+unfolding commands_on_literals
+assertions_reset = refl
+
+-- so nothing is current after it
+pub nothing_after_reset : count_at 1 (codes "(assert true)(push)(assert true)(reset-assertions)(check-sat)") ≡ Some 0
+unfolding commands_on_literals
+nothing_after_reset = refl
+
 -- options that are known are set, and others change nothing
 pub options_are_set : options_at 1
     (codes "(set-option :print-success false)(set-option :produce-models true)(set-option :other 5)"
@@ -216,3 +252,18 @@ pub options_are_set : options_at 1
     ≡ Some (record { print_success = false; models = true; proofs = false; assertions = false })
 unfolding commands_on_literals
 options_are_set = refl
+
+-- they stay when levels are closed and assertions taken back
+pub options_stay : options_at 1
+    (codes "(push)(set-option :produce-models true)(pop)(set-option :print-success false)(reset-assertions)(check-sat)")
+    ≡ Some (record { print_success = false; models = true; proofs = false; assertions = false })
+unfolding commands_on_literals
+options_stay = refl
+
+-- and `reset` gives back those of the start
+pub options_reset : options_at 1
+    (codes "(set-option :print-success false)(set-option :produce-models true)(declare-const p Bool)(reset)"
+    ++ codes "(set-option :produce-proofs true)(check-sat)")
+    ≡ Some (record { print_success = true; models = false; proofs = true; assertions = false })
+unfolding commands_on_literals
+options_reset = refl

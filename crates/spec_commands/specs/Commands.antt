@@ -1,6 +1,7 @@
 -- The commands that a script may have, by their own shape. Source: SMT-LIB 2.6, section 3.9; that sorts have no
 -- parameters is own.
-use Rattle.std.specs.Prelude.{ℕ, Bool, true, false, List, [], ◌∷◌, Option, Some, None, Ok, codes}
+use Rattle.std.specs.Prelude.{ℕ, ◌-◌, ◌^◌, Bool, true, false, List, [], ◌∷◌, Option, Some, None, Ok, codes, nat_le}
+use Rattle.std.specs.Prelude.{if◌then◌else◌}
 use Rattle.std.specs.Str.{bytes_eq}
 use Rattle.spec_text.specs.declared.Kind.{Kind}
 use Rattle.spec_text.specs.declared.Kind.TheVariants.{Numeral, Text}
@@ -10,6 +11,7 @@ use Rattle.spec_text.specs.Trees.{Tree, Trees, atom, list, none, more, offset_of
 use Rattle.spec_text.specs.Shapes.{◌>>=◌, Word, passes, first_word, first_list, only_tree, no_tree, is_keyword}
 use Rattle.spec_text.specs.Shapes.{is_reserved}
 use Rattle.spec_text.specs.Answers.{Answer, refused}
+use Rattle.spec_sorts.specs.Numerals.{number_after}
 use Rattle.spec_sorts.specs.Theory.{look_up}
 use Rattle.spec_sorts.specs.Forms.{is_name, are_named}
 use Rattle.spec_reading.specs.Definitions.{Parts}
@@ -32,8 +34,18 @@ pub data Command : Type 0 where
   DefineFun : Parts → Command
   -- the text of the term
   Assert : Tree → Command
+  -- so many levels are opened
+  Push : ℕ → Command
+  -- so many levels are closed
+  Pop : ℕ → Command
   -- what is asserted is to be checked: the offset of the command's word
   CheckSat : ℕ → Command
+  -- the same with literals that are assumed: the offset of the command's word, and the texts of the literals
+  CheckSatAssuming : ℕ → Trees → Command
+  -- what is declared, defined and asserted is taken back
+  ResetAssertions : Command
+  -- all is taken back, the options and the logic too
+  Reset : Command
   -- a text to be written, without its quotes
   Echo : List ℕ → Command
   -- the script ends
@@ -45,10 +57,12 @@ pub data Verb : Type 0 where
   sets_logic sets_option sets_info : Verb
   -- `declare-sort`, `define-sort`, `declare-const`, `declare-fun`, `define-fun`
   declares_sort defines_sort declares_const declares_fun defines_fun : Verb
-  -- `assert`, `check-sat`, `echo`, `exit`
-  asserts checks echoes exits : Verb
+  -- `assert`, `push`, `pop`, `check-sat`, `check-sat-assuming`
+  asserts pushes pops checks checks_assuming : Verb
+  -- `reset-assertions`, `reset`, `echo`, `exit`
+  resets_assertions resets echoes exits : Verb
 
--- which word is which
+-- which word is which; `check-sat-assuming` is absent, as that command is not taken yet
 abbrev pub verbs : List (Name × Verb)
 verbs =
     (codes "set-logic", sets_logic) ∷
@@ -60,7 +74,11 @@ verbs =
     (codes "declare-fun", declares_fun) ∷
     (codes "define-fun", defines_fun) ∷
     (codes "assert", asserts) ∷
+    (codes "push", pushes) ∷
+    (codes "pop", pops) ∷
     (codes "check-sat", checks) ∷
+    (codes "reset-assertions", resets_assertions) ∷
+    (codes "reset", resets) ∷
     (codes "echo", echoes) ∷
     (codes "exit", exits) ∷ []
 
@@ -164,6 +182,38 @@ assertion ts = do
   t ← only_tree ts
   Some (Assert t)
 
+-- a number of levels, of which all above 2^64 - 1 are one
+abbrev pub number_of_levels : ℕ → ℕ
+number_of_levels n = if nat_le n (2 ^ 64 - 1) then n else 2 ^ 64 - 1
+
+-- a numeral, or nothing, which counts as 1
+unfoldable pub levels_in : Trees → Option ℕ
+levels_in none = Some 1
+levels_in (more t ts) = do
+  n ← first_word (more t ts)
+  is_number ← passes (is_numeral n.0.kind)
+  end ← no_tree n.1
+  Some (number_of_levels (number_after 0 n.0.bytes))
+
+-- (push n) or (push)
+unfoldable pub push : Trees → Option Command
+push ts = do
+  n ← levels_in ts
+  Some (Push n)
+
+-- (pop n) or (pop)
+unfoldable pub pop : Trees → Option Command
+pop ts = do
+  n ← levels_in ts
+  Some (Pop n)
+
+-- (check-sat-assuming (l ..))
+unfoldable pub check_assuming : ℕ → Trees → Option Command
+check_assuming place ts = do
+  ls ← first_list ts
+  end ← no_tree ls.1
+  Some (CheckSatAssuming place ls.0)
+
 -- (echo s)
 unfoldable pub echo : Trees → Option Command
 echo ts = do
@@ -187,7 +237,12 @@ command_by declares_const place ts = declare_const ts
 command_by declares_fun place ts = declare_fun ts
 command_by defines_fun place ts = define_fun ts
 command_by asserts place ts = assertion ts
+command_by pushes place ts = push ts
+command_by pops place ts = pop ts
 command_by checks place ts = alone (CheckSat place) ts
+command_by checks_assuming place ts = check_assuming place ts
+command_by resets_assertions place ts = alone ResetAssertions ts
+command_by resets place ts = alone Reset ts
 command_by echoes place ts = echo ts
 command_by exits place ts = alone Exit ts
 

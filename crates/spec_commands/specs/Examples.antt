@@ -61,7 +61,7 @@ pub no_command : faults (
     codes "(frobnicate)" ∷
     codes "(|assert| true)" ∷
     codes "((assert) true)" ∷
-    codes "(push 1)" ∷
+    codes "(get-proof)" ∷
     codes "(get-model)" ∷
     codes "assert" ∷
     codes "()" ∷

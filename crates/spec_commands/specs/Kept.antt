@@ -1,5 +1,5 @@
 -- What holds of what commands leave.
-use Rattle.std.specs.Prelude.{◌≡◌, ℕ, true, [], ◌∷◌, ◌++◌, length, nat_le, All, Ok}
+use Rattle.std.specs.Prelude.{◌≡◌, ◌<◌, ℕ, true, List, [], ◌∷◌, ◌++◌, length, nat_le, All, Ok}
 use Rattle.spec_sorts.specs.Terms.{Truth, same_sort, sort_of}
 use Rattle.spec_sorts.specs.Signatures.{Signature, with_definitions}
 use Rattle.spec_reading.specs.Names.{script}
@@ -7,7 +7,8 @@ use Rattle.spec_reading.specs.Reading.{Reading, reading}
 use Rattle.spec_sorts.specs.Subterms.{subterms_of}
 use Rattle.spec_reading.specs.WellSorted.{AreWellSorted}
 use Rattle.spec_reading.specs.Agreement.{AreSound}
-use Rattle.spec_commands.specs.Stack.{Assertion, Stack, signature_of, assertions_of}
+use Rattle.spec_commands.specs.Stack.{Assertion, ScopedDeclaration, Stack, signature_of, assertions_of, levels_open}
+use Rattle.spec_commands.specs.Stack.{up_to_level}
 
 -- the assertion was read with the oldest names of the signature, before those that it made and all later ones
 pub record WasRead (s : Signature) (a : Assertion) : Type 0 where
@@ -33,11 +34,29 @@ pub record IsAsserted (limit : ℕ) (s : Signature) (a : Assertion) : Type 0 whe
   -- there is room for it
   pub room : nat_le (length (subterms_of (a.term ∷ []))) limit ≡ true
 
--- what commands leave under a limit
-pub record IsSoundStack (limit : ℕ) (s : Stack) : Type 0 where
+-- What commands leave under a limit: names and assertions.
+pub record AreSoundNames (limit : ℕ) (g : Signature) (assertions : List Assertion) : Type 0 where
   -- each name gives by its text what its term gives
-  pub names : AreSound (signature_of s)
+  pub names : AreSound g
   -- each definition stands for a well-sorted term
-  pub sorts : AreWellSorted (signature_of s)
+  pub sorts : AreWellSorted g
   -- the assertions were read, and fit in
-  pub assertions : All (IsAsserted limit (signature_of s)) (assertions_of s)
+  pub assertions_read : All (IsAsserted limit g) assertions
+
+-- Names belong to levels that are there.
+pub record AreLeveled (s : Stack) : Type 0 where
+  -- there is the first level
+  pub first : 0 < length s.levels
+  -- the level of each name is there
+  pub names : All (λ (e : ScopedDeclaration). nat_le e.level (levels_open s.levels) ≡ true) s.names
+
+-- What holds of names and assertions does at each level: of those up to it.
+pub record AtEachLevel (P : Signature → List Assertion → Type 0) (s : Stack) : Type 0 where
+  -- names belong to levels that are there
+  pub leveled : AreLeveled s
+  -- it holds of those up to a level, 0 for the first one, and of all where there is no such level
+  pub each : (k : ℕ) → P (signature_of (up_to_level k s)) (assertions_of (up_to_level k s))
+
+-- what commands leave under a limit, at each level
+abbrev pub IsSoundStack : ℕ → Stack → Type 0
+IsSoundStack limit s = AtEachLevel (AreSoundNames limit) s

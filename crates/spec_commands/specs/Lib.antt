@@ -1,5 +1,6 @@
 -- The commands of a script, what they leave, and what is current at a check.
 pub mod Commands
+pub mod Literals
 pub mod Stack
 pub mod Checks
 pub mod Kept
@@ -7,4 +8,5 @@ pub mod OnLiterals
 pub mod Examples
 pub mod CheckExamples
 pub mod OrderExamples
+pub mod LevelExamples
 pub mod AnswerExamples

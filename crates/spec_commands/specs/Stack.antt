@@ -1,13 +1,15 @@
 -- What is after commands, and what they answer. Source: SMT-LIB 2.6, sections 4.1.4 and 4.2; the order of faults and
 -- the limits are own.
-use Rattle.std.specs.Prelude.{ℕ, suc, Bool, true, false, not, List, [], ◌∷◌, ◌++◌, map, Option, Some, None, Ok, codes}
-use Rattle.std.specs.Prelude.{if◌then◌else◌}
+use Rattle.std.specs.Prelude.{ℕ, suc, ◌+◌, ◌-◌, Bool, true, false, not, List, [], ◌∷◌, ◌++◌, map, take, replicate}
+use Rattle.std.specs.Prelude.{Option, Some, None, Ok, codes, if◌then◌else◌, nat_le}
+use Rattle.std.specs.List.{filter}
 use Rattle.std.specs.Str.{bytes_eq}
-use Rattle.spec_text.specs.declared.Fault.TheVariants.{BadShape, Reserved, UnknownLogic, WrongMode, Full}
+use Rattle.spec_text.specs.declared.Fault.TheVariants.{BadShape, Reserved, UnknownLogic, PopTooFar}
+use Rattle.spec_text.specs.declared.Fault.TheVariants.{WrongMode, Full}
 use Rattle.spec_text.specs.Bytes.{Name, among}
 use Rattle.spec_text.specs.Shapes.{is_symbol, is_reserved}
 use Rattle.spec_text.specs.Answers.{Answer, ◌>>=◌, refused, require}
-use Rattle.spec_text.specs.Trees.{Tree, atom, list, offset_of}
+use Rattle.spec_text.specs.Trees.{Tree, Trees, atom, list, none, more, offset_of}
 use Rattle.spec_sorts.specs.Terms.{Truth, Declared, Term}
 use Rattle.spec_sorts.specs.Signatures.{Definition, Declaration, of_sort, of_function, declared, Signature, definition}
 use Rattle.spec_reading.specs.Names.{script, new_name, is_function, is_sort}
@@ -16,7 +18,9 @@ use Rattle.spec_reading.specs.Reading.{reading_of_sort}
 use Rattle.spec_reading.specs.Definitions.{definitions_in}
 use Rattle.spec_sorts.specs.Subterms.{has_room}
 use Rattle.spec_commands.specs.Commands.{Command, SetLogic, SetOption, SetInfo, DeclareSort, DefineSort, DeclareFun}
-use Rattle.spec_commands.specs.Commands.{DefineFun, Assert, CheckSat, Echo, Exit, command_of}
+use Rattle.spec_commands.specs.Commands.{DefineFun, Assert, Push, Pop, CheckSat, CheckSatAssuming}
+use Rattle.spec_commands.specs.Commands.{ResetAssertions, Reset, Echo, Exit, command_of}
+use Rattle.spec_commands.specs.Literals.{literal_in}
 
 -- An asserted expression: its text, and the term that it is read as.
 pub record Assertion : Type 0 where
@@ -114,6 +118,26 @@ with_definitions s (d ∷ ds) = with_definitions (with_declaration s (definition
 abbrev pub with_assertion : Stack → Tree → Term → Stack
 with_assertion s t u = record s { levels = with_last s.levels (record { text = t; term = u }) }
 
+-- how many levels may be open above the first one
+abbrev pub level_limit : ℕ
+level_limit = 1000000
+
+-- so many levels more, each without assertions
+abbrev pub with_levels : ℕ → Stack → Stack
+with_levels n s = record s { levels = s.levels ++ replicate n [] }
+
+-- the stack up to a level, 0 for the first one: those above it are closed, with what was declared, defined and asserted
+-- at them
+abbrev pub up_to_level : ℕ → Stack → Stack
+up_to_level k s = record s {
+  names = filter (λ (e : ScopedDeclaration). nat_le e.level k) s.names;
+  levels = take (suc k) s.levels;
+}
+
+-- nothing declared and nothing asserted; the options stay, and so does the start
+abbrev pub emptied : Stack → Stack
+emptied s = record s { names = []; levels = [] ∷ [] }
+
 -- the logics that may be set; all have one language. Source: SMT-LIB 2.6, section 4.2.1, and the names of SMT-LIB's
 -- logics.
 abbrev pub logics : List Name
@@ -190,9 +214,16 @@ roomy limit at ts s = require (has_room limit (signature_of s) ts) at Full >>= �
 abbrev pub terms_defined : List Definition → List Term
 terms_defined ds = map (λ (d : Definition). d.term) ds
 
+-- the literals that a check assumes, in their order
+unfoldable pub literals_in : Signature → Trees → Answer (List Assertion)
+literals_in s none = Ok []
+literals_in s (more t ts) =
+    literal_in s t >>= λ u.
+    literals_in s ts >>= λ ls.
+    Ok (record { text = t; term = u } ∷ ls)
+
 -- what a command answers and leaves, or its first fault: `limit` bounds the names, and the different subterms of a
--- command's
--- terms; `at` is the command's offset
+-- command's terms; `at` is the command's offset
 abbrev pub performed : (limit at : ℕ) → Stack → Command → Answer Taken
 performed limit at s (SetLogic x) =
     require (not (is_reserved x.kind)) x.at Reserved >>= λ free.
@@ -220,7 +251,19 @@ performed limit at s (DefineFun d) =
 performed limit at s (Assert t) =
     reading_of_sort script (signature_of s) [] Truth t >>= λ r.
     roomy limit at (r.term ∷ []) (begun (with_assertion (with_definitions s r.made) t r.term))
+performed limit at s (Push n) =
+    require (nat_le (levels_open s.levels + n) level_limit) at Full >>= λ room.
+    Ok (did (begun (with_levels n s)))
+performed limit at s (Pop n) =
+    require (nat_le n (levels_open s.levels)) at PopTooFar >>= λ enough.
+    Ok (did (begun (up_to_level (levels_open s.levels - n) s)))
 performed limit at s (CheckSat place) = Ok (record { effect = check place []; stack = begun s })
+performed limit at s (CheckSatAssuming place ts) =
+    literals_in (signature_of s) ts >>= λ ls.
+    require (has_room limit (signature_of s) (terms_asserted ls)) at Full >>= λ room.
+    Ok (record { effect = check place ls; stack = begun s })
+performed limit at s ResetAssertions = Ok (did (emptied s))
+performed limit at s Reset = Ok (did empty_stack)
 performed limit at s (Echo text) = Ok (record { effect = say text; stack = s })
 performed limit at s Exit = Ok (record { effect = leave; stack = s })
 

@@ -16,7 +16,7 @@ ghost use Rattle.spec_sorts.specs.TermValues.{value_at};
 ghost use Rattle.spec_sorts.specs.Meaning.{value_under};
 ghost use Rattle.spec_commands.specs.Stack.{Assertion, Stack, check, Taken, empty_stack, signature_of, assertions_of, step};
 ghost use Rattle.spec_commands.specs.Checks.{Check, asked, IsCurrent, HasNoCheck};
-ghost use Rattle.spec_commands.specs.Kept.{IsSoundStack};
+ghost use Rattle.spec_commands.specs.Kept.{IsAsserted, IsSoundStack};
 
 /// States that the fault of a command of a script is at the offset of one of its atoms or lists.
 pub fn faults_are_in_their_command()
@@ -31,8 +31,8 @@ pub fn checks_are_in_their_command()
 
 /// States that commands leave what they should, under any limit: nothing is declared or asserted at first. After a
 /// command that is taken names give by their texts what their terms give, and definitions stand for well-sorted terms.
-/// Assertions have terms that were read of their texts, are of sort Bool and fit in. Later names change no value.
-/// Source: SMT-LIB 2.6, section 4.1.4.
+/// Assertions have terms that were read of their texts, are of sort Bool and fit in. Later names change no value. It is
+/// so up to each level, and so after levels are closed. Source: SMT-LIB 2.6, section 4.1.4.
 pub fn commands_keep_stacks()
     ensures first { (limit : ℕ) → IsSoundStack limit empty_stack }
     ensures next { (limit : ℕ) (s : Stack) (t : Tree) (d : Taken) → step limit s t ≡ Ok d → IsSoundStack limit s
@@ -74,6 +74,16 @@ pub fn texts_have_one_check_of_a_number()
 {
     spec_text::laws::a_text_is_read_up_to_one_end();
 }
+
+/// States that what a check assumes was read with the names that are there, is of sort Bool and fits in. It is so of the
+/// check that a command asks for, and of the one that is current. Source: SMT-LIB 2.6, section 4.2.5.
+pub fn assumptions_are_read()
+    ensures taken { (limit : ℕ) (s : Stack) (t : Tree) (d : Taken) (place : ℕ) (assumptions : List Assertion)
+        → step limit s t ≡ Ok d → d.effect ≡ check place assumptions
+        → All (IsAsserted limit (signature_of d.stack)) assumptions }
+    ensures current { (limit : ℕ) (text : List ℕ) (k : ℕ) (c : Check) → IsCurrent limit text k c
+        → All (IsAsserted limit (signature_of c.stack)) c.assumptions }
+{}
 
 /// States that what a check asks about, its assumptions among it, is formulas over the declared symbols. Under every
 /// interpretation the text of each has its term's value. Source: SMT-LIB 2.6, sections 5.2 and 5.3.
