@@ -1,12 +1,12 @@
 -- The names of a script are no more than its limit allows.
-use Rattle.std.proofs.Common.{◌≡◌, ℕ, zero, suc, true, List, [], ◌∷◌, length, Option, Some, None, subst}
+use Rattle.std.proofs.Common.{◌≡◌, ℕ, ◌+◌, ◌-◌, arith, true, List, [], ◌∷◌, length, Option, Some, None, subst}
 use Rattle.std.specs.Prelude.{Bool, Ok, Err, not, nat_le}
-use Rattle.std.proofs.lemmas.Bool.{and_parts}
-use Rattle.spec_text.specs.declared.Fault.TheVariants.{Reserved, UnknownLogic, WrongMode, Full}
+use Rattle.std.proofs.lemmas.Bool.{and_parts, le-leb, leb-true}
+use Rattle.spec_text.specs.declared.Fault.TheVariants.{Reserved, UnknownLogic, PopTooFar, WrongMode, Full}
 use Rattle.spec_text.specs.Bytes.{among}
 use Rattle.spec_text.specs.Shapes.{is_reserved}
 use Rattle.spec_text.specs.Answers.{Answer, require}
-use Rattle.spec_text.specs.Trees.{Tree, Trees, none, more, offset_of}
+use Rattle.spec_text.specs.Trees.{Tree, Trees, offset_of}
 use Rattle.spec_text.proofs.AnswerLaws.{in_turn, require_true}
 use Rattle.spec_sorts.specs.Terms.{Truth, Term}
 use Rattle.spec_sorts.specs.Subterms.{has_room}
@@ -14,9 +14,11 @@ use Rattle.spec_reading.specs.Names.{script, new_name, is_sort, is_function}
 use Rattle.spec_reading.specs.Sorts.{sort_in, sorts_in}
 use Rattle.spec_reading.specs.Reading.{reading_of_sort}
 use Rattle.spec_reading.specs.Definitions.{definitions_in}
-use Rattle.spec_commands.specs.Commands.{Command, SetLogic, SetOption, SetInfo, DeclareSort, DefineSort, DeclareFun, DefineFun, Assert, CheckSat, Echo, Exit, command_of}
-use Rattle.spec_commands.specs.Stack.{Stack, Key, Effect, done, unsupported, check, say, leave, Taken, signature_of, logics, key_named, truth_in, option_set, roomy, terms_defined, performed, step}
-use Rattle.spec_commands.specs.Checks.{Check, this_or, after_effect, after_command, current_at}
+use Rattle.spec_commands.specs.Commands.{Command, SetLogic, SetOption, SetInfo, DeclareSort, DefineSort, DeclareFun, DefineFun, Assert, Push, Pop, CheckSat, CheckSatAssuming, ResetAssertions, Reset, Echo, Exit, command_of}
+use Rattle.spec_commands.specs.Stack.{Stack, Key, Taken, signature_of, terms_asserted, levels_open, up_to_level, level_limit, logics, key_named, truth_in, option_set, roomy, terms_defined, literals_in, performed, step}
+use Rattle.spec_commands.specs.Checks.{Check, current_at}
+use Rattle.spec_commands.proofs.Levels.{shorter_up_to}
+use Rattle.spec_commands.proofs.Carried.{current_carried}
 
 module _ (limit : ℕ) where
   -- there is room for the names
@@ -57,7 +59,17 @@ module _ (limit : ℕ) where
         in_turn LeavesFew (λ _. tt) (definitions_in script (signature_of s) d) _ λ ds _. roomy_few (terms_defined ds) _
     performed_few s (Assert t) h =
         in_turn LeavesFew (λ _. tt) (reading_of_sort script (signature_of s) [] Truth t) _ λ r _. roomy_few (r.term ∷ []) _
+    performed_few s (Push n) h = in_turn LeavesFew (λ _. tt) (require (nat_le (levels_open s.levels + n) level_limit) at Full) _ λ room _. h
+    performed_few s (Pop n) h =
+        in_turn LeavesFew (λ _. tt) (require (nat_le n (levels_open s.levels)) at PopTooFar) _ λ enough _.
+        le-leb (length (signature_of (up_to_level (levels_open s.levels - n) s))) limit
+        (omega (arith, shorter_up_to (levels_open s.levels - n) s, leb-true (length (signature_of s)) limit h))
     performed_few s (CheckSat place) h = h
+    performed_few s (CheckSatAssuming place ts) h =
+        in_turn LeavesFew (λ _. tt) (literals_in (signature_of s) ts) _ λ ls _.
+        in_turn LeavesFew (λ _. tt) (require (has_room limit (signature_of s) (terms_asserted ls)) at Full) _ λ room _. h
+    performed_few s ResetAssertions h = le-leb 0 limit (omega arith)
+    performed_few s Reset h = le-leb 0 limit (omega arith)
     performed_few s (Echo text) h = h
     performed_few s Exit h = h
 
@@ -65,24 +77,6 @@ module _ (limit : ℕ) where
   unfolding step
   step_few s t h = in_turn LeavesFew (λ _. tt) (command_of t) _ λ c _. performed_few (offset_of t) s c h
 
-  this_few : (here : Check) (k : ℕ) (rest : ℕ → Option Check) (c : Check) → AreFew here.stack → this_or here k rest ≡ Some c → ((n : ℕ) → rest n ≡ Some c → AreFew c.stack) → AreFew c.stack
-  this_few here zero rest c few e later = later zero e
-  this_few here (suc zero) rest c few e later = let same : here ≡ c = cc in subst (λ (x : Check). AreFew x.stack) same few
-  this_few here (suc (suc k)) rest c few e later = later (suc k) e
-
-  effect_few : (x : Effect) (s : Stack) (k : ℕ) (rest : Stack → ℕ → Option Check) (c : Check) → AreFew s → after_effect x s k rest ≡ Some c → ((n : ℕ) → rest s n ≡ Some c → AreFew c.stack) → AreFew c.stack
-  effect_few (check place assumptions) s k rest c few e later = this_few (record { stack = s; assumptions = assumptions }) k (rest s) c few e later
-  effect_few leave s k rest c few e later = cc
-  effect_few done s k rest c few e later = later k e
-  effect_few unsupported s k rest c few e later = later k e
-  effect_few (say text) s k rest c few e later = later k e
-
   -- and so there is at a check
   pub current_few : (s : Stack) (k : ℕ) (ts : Trees) (c : Check) → current_at limit s k ts ≡ Some c → AreFew s → AreFew c.stack
-  unfolding current_at
-  current_few s k none c e h = cc
-  current_few s k (more t ts) c e h = go (step limit s t) (step_few s t h) e (λ next n later few. current_few next n ts c later few)
-    where
-      go : (o : Answer Taken) → LeavesFew o → after_command s k o (λ next n. current_at limit next n ts) ≡ Some c → ((next : Stack) (n : ℕ) → current_at limit next n ts ≡ Some c → AreFew next → AreFew c.stack) → AreFew c.stack
-      go (Ok d) few e later = effect_few d.effect d.stack k _ c few e (λ n x. later d.stack n x few)
-      go (Err f) few e later = later s k e h
+  current_few s k ts c e h = current_carried AreFew limit (λ s t d e h. subst LeavesFew e (step_few s t h)) s k ts c e h

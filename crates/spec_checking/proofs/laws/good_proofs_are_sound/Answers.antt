@@ -6,6 +6,7 @@ use Rattle.spec_sorts.specs.Values.{is_true, Interprets}
 use Rattle.spec_sorts.specs.Signatures.{symbols_in}
 use Rattle.spec_commands.specs.Stack.{Assertion, signature_of}
 use Rattle.spec_commands.specs.Checks.{Check, asked, IsCurrent, IsTrueAssertion, HasNoModel}
+use Rattle.spec_commands.proofs.Kept.{sound_here}
 use Rattle.spec_checking.specs.Commands.{known_at}
 use Rattle.spec_checking.specs.Good.{AreGood}
 use Rattle.spec_checking.proofs.Good.{no_fault}
@@ -23,7 +24,7 @@ returns c = record {
         let same = c.texts_have_one_check_of_a_number.ensures.one limit script k model.here here model.current current in
         let texts = subst (λ (x : Check). All (IsTrueAssertion i (signature_of x.stack)) (asked x)) same model.each in
         let values = c.what_is_asked_has_its_texts_value.ensures.value limit script k here current i in
-        let kept = c.assertions_have_their_texts_value.ensures.kept limit script k here current in
+        let kept = sound_here limit here.stack (c.assertions_have_their_texts_value.ensures.kept limit script k here current) in
         let all : IsTruly i (known_at here) = record {
           names = kept.sorts;
           interprets = subst (λ (x : Check). Interprets i (symbols_in (signature_of x.stack))) same model.interprets;

@@ -6,6 +6,7 @@ use Rattle.spec_sorts.specs.Signatures.{symbols_in}
 use Rattle.spec_sorts.specs.TermValues.{value_at}
 use Rattle.spec_commands.specs.Stack.{signature_of}
 use Rattle.spec_commands.specs.Checks.{asked}
+use Rattle.spec_commands.proofs.Kept.{sound_here}
 use Rattle.spec_checking.proofs.Models.{model_of, interprets, has_truth}
 use Rattle.spec_checking.proofs.laws.satisfied_scripts_have_a_model.Goals as goal
 
@@ -16,7 +17,7 @@ true_value v h e = h.1 ∙ ap truth (sym (ap is_true h.1) ∙ e)
 pub returns-clause-truths : goal.returns-clause-truths
 returns-clause-truths c = λ limit script k here v current.
     let s = signature_of here.stack in
-    let sound = (c.assertions_have_their_texts_value.ensures.kept limit script k here current).names in
+    let sound = (sound_here limit here.stack (c.assertions_have_their_texts_value.ensures.kept limit script k here current)).names in
     (model_of s v, interprets s v sound, has_truth s v sound)
 
 pub returns-clause-model : goal.returns-clause-model

@@ -5,6 +5,7 @@ use Rattle.spec_sorts.specs.Terms.{Term}
 use Rattle.spec_sorts.specs.Values.{is_true}
 use Rattle.spec_sorts.specs.Signatures.{symbols_in}
 use Rattle.spec_commands.specs.Stack.{signature_of}
+use Rattle.spec_commands.proofs.Kept.{sound_here}
 use Rattle.spec_rules.specs.Clauses.{term_true}
 use Rattle.spec_rules.specs.Truths.{term_true_by}
 use Rattle.spec_derivations.specs.Problems.{problem_of}
@@ -19,7 +20,7 @@ returns c limit script k check interface terms held v class current saturated_he
     let p = problem_of check interface in
     let point : Term → Fraction = λ t. zero_fraction in
     let i = model_by s (value_by (term_true_by v) point class) terms in
-    let sound = (c.assertions_have_their_texts_value.ensures.kept limit script k check current).names in
+    let sound = (sound_here limit check.stack (c.assertions_have_their_texts_value.ensures.kept limit script k check current)).names in
     let model = named s (value_by (term_true_by v) point class) terms sound in
     let tables = c.saturated_searches_have_models.ensures.interprets (symbols_in s) p terms held v class point i saturated_here model in
     let each = c.saturated_searches_have_models.ensures.all (symbols_in s) p terms held v class point i saturated_here model assumed in

@@ -3,6 +3,7 @@ use Rattle.std.proofs.Common.{◌≡◌, true, ap}
 use Rattle.spec_sorts.specs.Values.{is_true}
 use Rattle.spec_sorts.specs.Signatures.{symbols_in}
 use Rattle.spec_commands.specs.Stack.{signature_of}
+use Rattle.spec_commands.proofs.Kept.{sound_here}
 use Rattle.spec_rules.specs.Clauses.{term_true}
 use Rattle.spec_derivations.specs.Problems.{problem_of}
 use Rattle.spec_derivations.proofs.Asked.{assertions_have}
@@ -15,7 +16,7 @@ returns c limit script k check interface terms held a current saturated_here ass
     let s = signature_of check.stack in
     let p = problem_of check interface in
     let i = model_by s (values_of a) terms in
-    let sound = (c.assertions_have_their_texts_value.ensures.kept limit script k check current).names in
+    let sound = (sound_here limit check.stack (c.assertions_have_their_texts_value.ensures.kept limit script k check current)).names in
     let model = named s (values_of a) terms sound in
     let law = c.searches_saturated_on_numbers_have_models.ensures in
     let tables = law.interprets (symbols_in s) p terms held a i saturated_here model in
