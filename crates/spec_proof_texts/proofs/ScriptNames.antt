@@ -1,5 +1,5 @@
 -- The names that the commands of a script leave, and how many they are.
-use Rattle.std.proofs.Common.{◌≡◌, ◌≤◌, ℕ, zero, suc, ◌+◌, ◌*◌, Bool, true, false, ◌||◌, cond, All, List, [], ◌∷◌, ◌++◌, length, map, Option, Some, None, refl, sym, ap, ◌∙◌, subst, length-append, arith}
+use Rattle.std.proofs.Common.{◌≡◌, ◌≤◌, ℕ, ◌+◌, ◌*◌, Bool, true, false, ◌||◌, cond, All, List, [], ◌∷◌, ◌++◌, length, map, Option, Some, None, refl, sym, ap, ◌∙◌, subst, length-append, arith}
 use Rattle.std.specs.Prelude.{Ok, Err, codes}
 use Rattle.std.specs.Str.{bytes_eq}
 use Rattle.std.proofs.lemmas.Bool.{false≢true, or_parts}
@@ -19,7 +19,7 @@ use Rattle.spec_text.proofs.Tests.{symbol_bytes_in_bars}
 use Rattle.spec_text.proofs.Words.{IsWord, HasWords, HaveWords}
 use Rattle.spec_text.proofs.AnswerLaws.{answer, went}
 use Rattle.spec_text.proofs.ShapeLaws.{Holds, holds_in_turn}
-use Rattle.spec_sorts.specs.Terms.{Sort, Truth, Number, Declared, Symbol, same_sort, sort_of}
+use Rattle.spec_sorts.specs.Terms.{Sort, Truth, Number, Declared, same_sort, sort_of}
 use Rattle.spec_sorts.specs.Theory.{look_up}
 use Rattle.spec_sorts.specs.Signatures.{Definition, Declaration, of_sort, of_function, declared, Signature, sort_as, is_some, definition}
 use Rattle.spec_sorts.specs.Signatures as signatures
@@ -30,10 +30,11 @@ use Rattle.spec_reading.specs.Reading.{Bound, Reading, reading, reading_of_sort}
 use Rattle.spec_reading.specs.Definitions.{Parts, bound_parameters, parameters_in, definitions_in}
 use Rattle.spec_reading.proofs.Values.{with_both}
 use Rattle.spec_reading.proofs.Sound.{not_taken, unknown}
-use Rattle.spec_commands.specs.Commands.{Command, SetLogic, SetOption, SetInfo, DeclareSort, DefineSort, DeclareFun, DefineFun, Assert, CheckSat, Echo, Exit, Verb, sets_logic, sets_option, sets_info, declares_sort, defines_sort, declares_const, declares_fun, defines_fun, asserts, checks, echoes, exits, verbs, is_numeral, one_at_most, first_name, first_tree, set_logic, set_option, set_info, declare_sort, define_sort, declare_const, declare_fun, define_fun, assertion, echo, alone, command_by, shaped, verb_of, command_as, command_of}
-use Rattle.spec_commands.specs.Stack.{Assertion, Stack, Key, Effect, done, unsupported, check, say, leave, Taken, did, empty_stack, signature_of, begun, with_declaration, with_definitions, with_assertion, key_named, truth_in, option_set, terms_defined, performed, step}
-use Rattle.spec_commands.specs.Checks.{Check, this_or, after_effect, after_command, current_at}
-use Rattle.spec_commands.proofs.Kept.{signature_last, signature_with, roomy_ok}
+use Rattle.spec_commands.specs.Commands.{Command, DeclareSort, DefineSort, DeclareFun, DefineFun, Assert, CheckSat, ResetAssertions, Reset, Exit, Verb, sets_logic, sets_option, sets_info, declares_sort, defines_sort, declares_const, declares_fun, defines_fun, asserts, pushes, pops, checks, checks_assuming, resets_assertions, resets, echoes, exits, verbs, is_numeral, one_at_most, first_name, first_tree, set_logic, set_option, set_info, declare_sort, define_sort, declare_const, declare_fun, define_fun, assertion, levels_in, push, pop, check_assuming, echo, alone, command_by, shaped, verb_of, command_as, command_of}
+use Rattle.spec_commands.specs.Stack.{Stack, Taken, empty_stack, step}
+use Rattle.spec_commands.specs.Checks.{Check, after_command, current_at}
+use Rattle.spec_commands.specs.Kept.{AtEachLevel}
+use Rattle.spec_commands.proofs.Carried.{Property, each_weaker, each_empty, IsCarried, performed_carried, effect_carried}
 use Rattle.spec_models.specs.Values.{IsName}
 use Rattle.spec_models.specs.Meaning.{IsSortIn}
 use Rattle.spec_proof_texts.specs.ReadBack.{AreScriptNames}
@@ -164,6 +165,18 @@ assertion_prints : (us : Trees) → Holds (Prints (weight_all us)) (assertion us
 unfolding assertion
 assertion_prints us = holds_in_turn (λ (t : Tree). weight t ≤ weight_all us) (Prints (weight_all us)) (only_tree us) _ (only_light us) λ t a. a
 
+push_prints : (size : ℕ) (us : Trees) → Holds (Prints size) (push us)
+unfolding push
+push_prints size us = in_turn (Prints size) (levels_in us) _ λ n. tt
+
+pop_prints : (size : ℕ) (us : Trees) → Holds (Prints size) (pop us)
+unfolding pop
+pop_prints size us = in_turn (Prints size) (levels_in us) _ λ n. tt
+
+assuming_prints : (size place : ℕ) (us : Trees) → Holds (Prints size) (check_assuming place us)
+unfolding check_assuming
+assuming_prints size place us = in_turn (Prints size) (first_list us) _ λ ls. in_turn (Prints size) (no_tree ls.1) _ λ end. tt
+
 echo_prints : (size : ℕ) (us : Trees) → Holds (Prints size) (echo us)
 unfolding echo
 echo_prints size us = in_turn (Prints size) (first_word us) _ λ s. in_turn (Prints size) (passes _) _ λ is_text. in_turn (Prints size) (no_tree s.1) _ λ end. tt
@@ -182,7 +195,12 @@ parts_print declares_const place us h = constant_prints us h
 parts_print declares_fun place us h = function_prints us h
 parts_print defines_fun place us h = definition_prints us h
 parts_print asserts place us h = subst (λ n. Holds (Prints n) (assertion us)) (omega arith) (assertion_prints us)
+parts_print pushes place us h = push_prints (weight_all us + 0) us
+parts_print pops place us h = pop_prints (weight_all us + 0) us
 parts_print checks place us h = alone_prints (weight_all us + 0) (CheckSat place) us tt
+parts_print checks_assuming place us h = assuming_prints (weight_all us + 0) place us
+parts_print resets_assertions place us h = alone_prints (weight_all us + 0) ResetAssertions us tt
+parts_print resets place us h = alone_prints (weight_all us + 0) Reset us tt
 parts_print echoes place us h = echo_prints (weight_all us + 0) us
 parts_print exits place us h = alone_prints (weight_all us + 0) Exit us tt
 
@@ -198,7 +216,7 @@ word_long (x ∷ es) h n v e = go (bytes_eq x.0 n) (bytes_eq-Decides x.0 n).0 e 
     go false same e rest = rest e
 
 verbs_long : All (λ (e : Name × Verb). least e.1 ≤ length e.0) verbs
-verbs_long = All-from_recursion (λ (e : Name × Verb). least e.1 ≤ length e.0) verbs (omega arith, (omega arith, (omega arith, (omega arith, (omega arith, (omega arith, (omega arith, (omega arith, (omega arith, (omega arith, (omega arith, (omega arith, tt))))))))))))
+verbs_long = All-from_recursion (λ (e : Name × Verb). least e.1 ≤ length e.0) verbs (omega arith, (omega arith, (omega arith, (omega arith, (omega arith, (omega arith, (omega arith, (omega arith, (omega arith, (omega arith, (omega arith, (omega arith, (omega arith, (omega arith, (omega arith, (omega arith, tt))))))))))))))))
 
 head_long : (head : Tree) (v : Verb) → verb_of head ≡ Some v → least v ≤ weight head
 head_long (list at ts end) v e = cc
@@ -254,25 +272,29 @@ sorts_are g (more t ts) ss h e =
     subst (All (IsSortIn g)) (answer (Ok (a.first ∷ b.first)) ss b.then) (All-cons (IsSortIn g) a.first b.first (sort_is g t a.first h a.was) (sorts_are g ts b.first h b.was))
 
 -- What is declared after commands of so many bytes.
-pub record IsNamed (size : ℕ) (s : Stack) : Type 0 where
-  pub names : AreScriptNames (signature_of s)
-  pub few : 5 * length (signature_of s) ≤ size
+pub record IsNamed (size : ℕ) (g : Signature) : Type 0 where
+  pub names : AreScriptNames g
+  pub few : 5 * length g ≤ size
 
-more_named : (size extra : ℕ) (s : Stack) → IsNamed size s → IsNamed (size + extra) s
-more_named size extra s h = record { names = h.names; few = omega (arith, h.few) }
+-- and so it is up to each level
+abbrev pub Named : ℕ → Property
+Named size g assertions = IsNamed size g
+
+more_named : (size extra : ℕ) (g : Signature) → IsNamed size g → IsNamed (size + extra) g
+more_named size extra g h = record { names = h.names; few = omega (arith, h.few) }
+
+pub each_more_named : (size extra : ℕ) (s : Stack) → AtEachLevel (Named size) s → AtEachLevel (Named (size + extra)) s
+each_more_named size extra s h = each_weaker (Named size) (Named (size + extra)) (λ g assertions k. more_named size extra g k) s h
 
 -- a declaration more
-one_more : (size extra : ℕ) (s : Stack) (d : Declaration) → 5 ≤ extra → AreScriptNames (signature_of s ++ d ∷ []) → IsNamed size s → IsNamed (size + extra) (begun (with_declaration s d))
-one_more size extra s d some names h = record {
-  names = subst AreScriptNames (sym (signature_last s d)) names;
-  few = omega (arith, h.few, some, ap length (signature_last s d), length-append (signature_of s) (d ∷ []));
-}
+one_more : (size extra : ℕ) (g : Signature) (d : Declaration) → 5 ≤ extra → AreScriptNames (g ++ d ∷ []) → IsNamed size g → IsNamed (size + extra) (g ++ d ∷ [])
+one_more size extra g d some names h = record { names = names; few = omega (arith, h.few, some, length-append g (d ∷ [])) }
 
 -- definitions more
-several_more : (size extra : ℕ) (s : Stack) (ds : List Definition) → 5 * length ds ≤ extra → AreScriptNames (signatures.with_definitions (signature_of s) ds) → IsNamed size s → IsNamed (size + extra) (with_definitions s ds)
-several_more size extra s ds few names h = record {
-  names = subst AreScriptNames (sym (signature_with s ds)) names;
-  few = omega (arith, h.few, few, ap length (signature_with s ds), length-append (signature_of s) (map definition ds), length-map ds definition);
+several_more : (size extra : ℕ) (g : Signature) (ds : List Definition) → 5 * length ds ≤ extra → AreScriptNames (signatures.with_definitions g ds) → IsNamed size g → IsNamed (size + extra) (signatures.with_definitions g ds)
+several_more size extra g ds few names h = record {
+  names = names;
+  few = omega (arith, h.few, few, length-append g (map definition ds), length-map ds definition);
 }
 
 -- the name that a command declares
@@ -326,94 +348,51 @@ definitions_both g q ds e =
     let d : Definition = record { name = a.first; parameters = b.first; result = c.first; body = q.body; term = r.term } in
     with_own w g (bound_parameters 0 b.first) q.body r d ds refl read (function_name script g (is_function g) q.name a.first refl a.was (not_taken script (is_function g) q.name a.first a.was)) (answer (Ok (r.made ++ d ∷ [])) ds k.then)
 
-module _ (limit at size extra : ℕ) where
-  option_named : (s : Stack) (k : Option Key) (b : Option Bool) (d : Taken) → option_set at s k b ≡ Ok d → IsNamed size s → IsNamed size d.stack
-  option_named s (Some k) (Some b) d e h = subst (λ (x : Taken). IsNamed size x.stack) (answer (option_set at s (Some k) (Some b)) d e) (record { names = h.names; few = h.few })
-  option_named s (Some k) None d e h = absurd (answer (refused at BadShape) d e)
-  option_named s None b d e h = subst (λ (x : Taken). IsNamed size x.stack) (answer (option_set at s None b) d e) h
+module _ (limit size extra : ℕ) where
+  -- each command adds such names
+  command_named : (parts : ℕ) → parts ≤ extra → (c : Command) → Prints parts c → IsCarried limit (Named size) (Named (size + extra)) c
+  command_named parts le (DeclareSort x) p = λ g assertions n e h.
+      one_more size extra g (of_sort n (Declared n)) (omega (arith, p.1, le)) (sort_named_new g n (Declared n) (declared_sort g n (name_of (is_sort g) x n p.0 e) (not_taken script (is_sort g) x n e)) h.names) h
+  command_named parts le (DefineSort x t) p = λ g assertions n sort e f h.
+      one_more size extra g (of_sort n sort) (omega (arith, p, le)) (sort_named_new g n sort (sort_in_more g (of_sort n sort ∷ []) sort (sort_is g t sort h.names f)) h.names) h
+  command_named parts le (DeclareFun x ts t) p = λ g assertions f e is_parameters is_result h.
+      one_more size extra g (of_function (declared f)) (omega (arith, p.1, le))
+      (symbol_named g f (function_name script g (is_function g) x f.name refl e (not_taken script (is_function g) x f.name e)) (unknown g f.name (not_taken script (is_function g) x f.name e)) (record { name = name_of (is_function g) x f.name p.0 e; parameters = sorts_are g ts f.parameters h.names is_parameters; result = sort_is g t f.result h.names is_result }) h.names) h
+  command_named parts le (DefineFun q) p = λ g assertions ds e h.
+      several_more size extra g ds (omega (arith, (definitions_both g q ds e).1, p, le)) ((definitions_both g q ds e).0 h.names) h
+  command_named parts le (Assert t) p = λ g assertions r read sorted room h.
+      several_more size extra g r.made (omega (arith, text_few script g [] t r read, p, le)) (text_named script g [] t r refl read h.names) h
+  command_named parts le c p = tt
 
-  performed_named : (parts : ℕ) → parts ≤ extra → (s : Stack) (c : Command) (d : Taken) → Prints parts c → performed limit at s c ≡ Ok d → IsNamed size s → IsNamed (size + extra) d.stack
-  performed_named parts le s (SetLogic x) d p e h =
-      let a = went _ _ d e in
-      let b = went _ _ d a.then in
-      let c = went _ _ d b.then in
-      subst (λ (x : Taken). IsNamed (size + extra) x.stack) (answer (Ok (did (begun s))) d c.then) (record { names = h.names; few = omega (arith, h.few) })
-  performed_named parts le s (SetOption k v) d p e h = more_named size extra d.stack (option_named s (key_named k) (truth_in v) d e h)
-  performed_named parts le s SetInfo d p e h = subst (λ (x : Taken). IsNamed (size + extra) x.stack) (answer (Ok (did s)) d e) (more_named size extra s h)
-  performed_named parts le s (DeclareSort x) d p e h =
-      let g = signature_of s in
-      let a = went (new_name script (is_sort g) x) _ d e in
-      let n = a.first in
-      subst (λ (x : Taken). IsNamed (size + extra) x.stack) (roomy_ok limit at [] (begun (with_declaration s (of_sort n (Declared n)))) d a.then).1
-      (one_more size extra s (of_sort n (Declared n)) (omega (arith, p.1, le)) (sort_named_new g n (Declared n) (declared_sort g n (name_of (is_sort g) x n p.0 a.was) (not_taken script (is_sort g) x n a.was)) h.names) h)
-  performed_named parts le s (DefineSort x t) d p e h =
-      let g = signature_of s in
-      let a = went (new_name script (is_sort g) x) _ d e in
-      let b = went (sort_in g t) _ d a.then in
-      subst (λ (x : Taken). IsNamed (size + extra) x.stack) (roomy_ok limit at [] (begun (with_declaration s (of_sort a.first b.first))) d b.then).1
-      (one_more size extra s (of_sort a.first b.first) (omega (arith, p, le)) (sort_named_new g a.first b.first (sort_in_more g (of_sort a.first b.first ∷ []) b.first (sort_is g t b.first h.names b.was)) h.names) h)
-  performed_named parts le s (DeclareFun x ts t) d p e h =
-      let g = signature_of s in
-      let a = went (new_name script (is_function g) x) _ d e in
-      let b = went (sorts_in g ts) _ d a.then in
-      let c = went (sort_in g t) _ d b.then in
-      let f : Symbol = record { name = a.first; parameters = b.first; result = c.first } in
-      subst (λ (x : Taken). IsNamed (size + extra) x.stack) (roomy_ok limit at [] (begun (with_declaration s (of_function (declared f)))) d c.then).1
-      (one_more size extra s (of_function (declared f)) (omega (arith, p.1, le))
-      (symbol_named g f (function_name script g (is_function g) x a.first refl a.was (not_taken script (is_function g) x a.first a.was)) (unknown g a.first (not_taken script (is_function g) x a.first a.was)) (record { name = name_of (is_function g) x a.first p.0 a.was; parameters = sorts_are g ts b.first h.names b.was; result = sort_is g t c.first h.names c.was }) h.names) h)
-  performed_named parts le s (DefineFun q) d p e h =
-      let g = signature_of s in
-      let a = went (definitions_in script g q) _ d e in
-      let k = several_more size extra s a.first (omega (arith, (definitions_both g q a.first a.was).1, p, le)) ((definitions_both g q a.first a.was).0 h.names) h in
-      subst (λ (x : Taken). IsNamed (size + extra) x.stack) (roomy_ok limit at (terms_defined a.first) (begun (with_definitions s a.first)) d a.then).1 (record { names = k.names; few = k.few })
-  performed_named parts le s (Assert t) d p e h =
-      let g = signature_of s in
-      let a = went (reading_of_sort script g [] Truth t) _ d e in
-      let r : Reading = a.first in
-      let x = went (reading script g [] t) _ r a.was in
-      let y = went (require (same_sort Truth (sort_of x.first.term)) (offset_of t) WrongSort) _ r x.then in
-      let read = subst (λ (z : Reading). reading script g [] t ≡ Ok z) (answer (Ok x.first) r y.then) x.was in
-      let k = several_more size extra s r.made (omega (arith, text_few script g [] t r read, p, le)) (text_named script g [] t r refl read h.names) h in
-      subst (λ (x : Taken). IsNamed (size + extra) x.stack) (roomy_ok limit at (r.term ∷ []) (begun (with_assertion (with_definitions s r.made) t r.term)) d a.then).1 (record { names = k.names; few = k.few })
-  performed_named parts le s (CheckSat place) d p e h = subst (λ (x : Taken). IsNamed (size + extra) x.stack) (answer (Ok _) d e) (record { names = h.names; few = omega (arith, h.few) })
-  performed_named parts le s (Echo text) d p e h = subst (λ (x : Taken). IsNamed (size + extra) x.stack) (answer (Ok _) d e) (more_named size extra s h)
-  performed_named parts le s Exit d p e h = subst (λ (x : Taken). IsNamed (size + extra) x.stack) (answer (Ok _) d e) (more_named size extra s h)
+-- nothing is declared at first
+none_named : (size : ℕ) → IsNamed size []
+none_named size = record { names = nothing_named; few = omega arith }
+
+pub empty_named : AtEachLevel (Named 0) empty_stack
+empty_named = each_empty (Named 0) (none_named 0)
 
 module _ (limit : ℕ) where
-  pub step_named : (size : ℕ) (s : Stack) (t : Tree) (d : Taken) → HasWords t → step limit s t ≡ Ok d → IsNamed size s → IsNamed (size + weight t) d.stack
+  pub step_named : (size : ℕ) (s : Stack) (t : Tree) (d : Taken) → HasWords t → step limit s t ≡ Ok d → AtEachLevel (Named size) s → AtEachLevel (Named (size + weight t)) d.stack
   unfolding step
   step_named size s t d words e h =
       let a = went (command_of t) _ d e in
       let p = command_prints t a.first words a.was in
-      performed_named limit (offset_of t) size (weight t) p.0 p.1 s a.first d p.2 a.then h
+      performed_carried limit (Named size) (Named (size + weight t)) (λ g assertions k. more_named size (weight t) g k) (none_named (size + weight t)) (offset_of t) s a.first d (command_named limit size (weight t) p.0 p.1 a.first p.2) a.then h
 
   -- and so is what is at a check
-  this_named : (size : ℕ) (s : Stack) (assumptions : List Assertion) (k : ℕ) (rest : ℕ → Option Check) (c : Check) → IsNamed size s → this_or (record { stack = s; assumptions = assumptions }) k rest ≡ Some c → ((n : ℕ) → rest n ≡ Some c → IsNamed size c.stack) → IsNamed size c.stack
-  this_named size s assumptions zero rest c h e later = later zero e
-  this_named size s assumptions (suc zero) rest c h e later = let same : record { stack = s; assumptions = assumptions } ≡ c = cc in subst (λ (x : Check). IsNamed size x.stack) same h
-  this_named size s assumptions (suc (suc k)) rest c h e later = later (suc k) e
-
-  effect_named : (size : ℕ) (x : Effect) (s : Stack) (k : ℕ) (rest : Stack → ℕ → Option Check) (c : Check) → IsNamed size s → after_effect x s k rest ≡ Some c → ((n : ℕ) → rest s n ≡ Some c → IsNamed size c.stack) → IsNamed size c.stack
-  effect_named size (check place assumptions) s k rest c h e later = this_named size s assumptions k (rest s) c h e later
-  effect_named size leave s k rest c h e later = cc
-  effect_named size done s k rest c h e later = later k e
-  effect_named size unsupported s k rest c h e later = later k e
-  effect_named size (say text) s k rest c h e later = later k e
-
-  pub current_named : (size : ℕ) (s : Stack) (k : ℕ) (ts : Trees) (c : Check) → HaveWords ts → current_at limit s k ts ≡ Some c → IsNamed size s → IsNamed (size + weight_all ts) c.stack
+  pub current_named : (size : ℕ) (s : Stack) (k : ℕ) (ts : Trees) (c : Check) → HaveWords ts → current_at limit s k ts ≡ Some c → AtEachLevel (Named size) s → AtEachLevel (Named (size + weight_all ts)) c.stack
   unfolding current_at
   current_named size s k none c words e h = cc
   current_named size s k (more t ts) c words e h =
-      subst (λ n. IsNamed n c.stack) (omega arith)
+      subst (λ n. AtEachLevel (Named n) c.stack) (omega arith)
       (go (step limit s t) (λ d f. step_named size s t d words.0 f h) e (λ next n later named. current_named (size + weight t) next n ts c words.1 later named))
     where
       total : ℕ
       total = size + weight t + weight_all ts
 
-      go : (o : Answer Taken) → ((d : Taken) → o ≡ Ok d → IsNamed (size + weight t) d.stack) → after_command s k o (λ next n. current_at limit next n ts) ≡ Some c
-          → ((next : Stack) (n : ℕ) → current_at limit next n ts ≡ Some c → IsNamed (size + weight t) next → IsNamed total c.stack) → IsNamed total c.stack
-      go (Ok d) kept e later = let now = kept d refl in effect_named total d.effect d.stack k _ c (more_named (size + weight t) (weight_all ts) d.stack now) e (λ n x. later d.stack n x now)
-      go (Err f) kept e later = later s k e (more_named size (weight t) s h)
-
-pub empty_named : IsNamed 0 empty_stack
-empty_named = record { names = nothing_named; few = omega arith }
+      go : (o : Answer Taken) → ((d : Taken) → o ≡ Ok d → AtEachLevel (Named (size + weight t)) d.stack) → after_command s k o (λ next n. current_at limit next n ts) ≡ Some c
+          → ((next : Stack) (n : ℕ) → current_at limit next n ts ≡ Some c → AtEachLevel (Named (size + weight t)) next → AtEachLevel (Named total) c.stack) → AtEachLevel (Named total) c.stack
+      go (Ok d) kept e later =
+          let now = kept d refl in
+          effect_carried (AtEachLevel (Named total)) d.effect d.stack k _ c (each_more_named (size + weight t) (weight_all ts) d.stack now) e (λ n x. later d.stack n x now)
+      go (Err f) kept e later = later s k e (each_more_named size (weight t) s h)

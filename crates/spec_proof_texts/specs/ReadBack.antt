@@ -8,6 +8,8 @@ use Rattle.spec_sorts.specs.Terms.{Sort, Declared, Symbol, Head, Apply, Term}
 use Rattle.spec_sorts.specs.Theory.{is_of_theory}
 use Rattle.spec_sorts.specs.Signatures.{declared, Signature, known_as, sort_as, symbols_in}
 use Rattle.spec_reading.specs.Names.{is_kept_name}
+use Rattle.spec_commands.specs.Stack.{Stack}
+use Rattle.spec_commands.specs.Kept.{AtEachLevel}
 use Rattle.spec_checking.specs.Commands.{Known}
 use Rattle.spec_models.specs.Values.{IsName}
 use Rattle.spec_models.specs.Meaning.{IsSortIn, IsSymbolIn}
@@ -56,6 +58,10 @@ pub record AreScriptNames (g : Signature) : Type 0 where
   pub symbols : (f : Symbol) → Contains (symbols_in g) f → IsSymbolIn g f
   -- and so can each sort that has a name
   pub sorts : (n : Name) (s : Sort) → sort_as g n ≡ Some s → IsSortIn g s
+
+-- the names of a stack are such names, up to each level
+abbrev pub HaveScriptNames : Stack → Type 0
+HaveScriptNames s = AtEachLevel (λ g assertions. AreScriptNames g) s
 
 -- how many of the lines are definitions
 abbrev pub definitions_in : List Line → ℕ

@@ -4,6 +4,8 @@ use Rattle.std.specs.Prelude.{All}
 use Rattle.spec_sorts.specs.Terms.{Term, Terms, app, nil, cons}
 use Rattle.spec_sorts.specs.Signatures.{Declaration, of_sort, of_function, declared, defined, Signature}
 use Rattle.spec_arithmetic.specs.Numbers.{IsLinear}
+use Rattle.spec_commands.specs.Stack.{Stack}
+use Rattle.spec_commands.specs.Kept.{AtEachLevel}
 use Rattle.spec_proof_texts.specs.Printable.{HasText}
 
 unfoldable mutual
@@ -29,3 +31,7 @@ IsReadableDeclaration (of_function (defined d)) = IsReadableWhole d.term
 -- each definition of a signature stands for such a term
 abbrev pub AreReadable : Signature → Type 0
 AreReadable s = All IsReadableDeclaration s
+
+-- the definitions of a stack do so, up to each level
+abbrev pub HaveReadableDefinitions : Stack → Type 0
+HaveReadableDefinitions s = AtEachLevel (λ g assertions. AreReadable g) s

@@ -24,7 +24,7 @@ ghost use Rattle.spec_proof_texts.specs.Lines.{Line, line_tree, proof_text};
 ghost use Rattle.spec_proof_texts.specs.Meaning.{AreGiven, AreRightLines};
 ghost use Rattle.spec_proof_texts.specs.Plans.{Plan, lines_of, IsPlan};
 ghost use Rattle.spec_proof_texts.specs.Printable.{IsPrintable, ArePrintable, AllConcludeOver, IsReadable};
-ghost use Rattle.spec_proof_texts.specs.ReadBack.{IsWritableLine, AreScriptNames, known_before};
+ghost use Rattle.spec_proof_texts.specs.ReadBack.{IsWritableLine, AreScriptNames, HaveScriptNames, known_before};
 ghost use Rattle.spec_proof_texts.specs.ReadBack.{definitions_in, numbers_in, numerals_in};
 
 /// States that the lines of an inference that is derived from terms and has the empty clause are a proof from these
@@ -87,13 +87,13 @@ pub fn right_lines_are_good()
         × AreGood (Some limit) (known_before g asserted) commands }
 {}
 
-/// States that the commands of a script leave names that can be printed. None is there at first, and a command that
-/// is in a text leaves such names where those before it can be printed.
+/// States that the commands of a script leave names that can be printed, up to each level. None is there at first, and a
+/// command that is in a text leaves such names where those before it can be printed.
 pub fn commands_leave_script_names()
-    ensures first { AreScriptNames (signature_of empty_stack) }
+    ensures first { HaveScriptNames empty_stack }
     ensures next { (limit : ℕ) (s : Stack) (text : List ℕ) (from : ℕ) (t : Tree) (rest : List (ℕ × Lexeme)) (d : Taken)
-        → lexemes_from text from ≡ spelled t ++ rest → step limit s t ≡ Ok d → AreScriptNames (signature_of s)
-        → AreScriptNames (signature_of d.stack) }
+        → lexemes_from text from ≡ spelled t ++ rest → step limit s t ≡ Ok d → HaveScriptNames s
+        → HaveScriptNames d.stack }
 {}
 
 /// States that the names at a check of a script can be printed, and that they are no more than a fifth of the bytes that

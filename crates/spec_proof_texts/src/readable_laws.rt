@@ -19,7 +19,7 @@ ghost use Rattle.spec_derivations.specs.Lemmas.{IsMadeOf};
 ghost use Rattle.spec_derivations.specs.Spent.{IsAtomOf};
 ghost use Rattle.spec_proof_texts.specs.Decimals.{is_decimal};
 ghost use Rattle.spec_proof_texts.specs.Printable.{IsReadable};
-ghost use Rattle.spec_proof_texts.specs.Readable.{HasDecimals, IsReadableWhole, AreReadable};
+ghost use Rattle.spec_proof_texts.specs.Readable.{HasDecimals, IsReadableWhole, AreReadable, HaveReadableDefinitions};
 
 /// States that each literal that is not too wide to be read has a value that is a decimal, whatever its bytes are.
 pub fn read_numbers_are_decimals()
@@ -53,12 +53,12 @@ pub fn readings_are_readable()
     read_numbers_are_decimals();
 }
 
-/// States that commands leave definitions that are readable whole. There is none at first. A command that is taken
-/// leaves such where those before it are.
+/// States that commands leave definitions that are readable whole, up to each level. There is none at first. A command
+/// that is taken leaves such where those before it are.
 pub fn commands_leave_readable_definitions()
-    ensures first { AreReadable (signature_of empty_stack) }
-    ensures next { (limit : ℕ) (s : Stack) (t : Tree) (d : Taken) → step limit s t ≡ Ok d
-        → AreReadable (signature_of s) → AreReadable (signature_of d.stack) }
+    ensures first { HaveReadableDefinitions empty_stack }
+    ensures next { (limit : ℕ) (s : Stack) (t : Tree) (d : Taken) → step limit s t ≡ Ok d → HaveReadableDefinitions s
+        → HaveReadableDefinitions d.stack }
 {
     read_numbers_are_decimals();
 }

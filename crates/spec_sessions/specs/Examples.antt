@@ -86,7 +86,7 @@ refusals = lines (
     codes "(set-option :print-success false)" ∷
     codes "(assert (! (+ 1 2) :named n))" ∷
     codes "(assert n)" ∷
-    codes "(push 1)" ∷
+    codes "(get-model)" ∷
     codes "(set-logic QF_BV)" ∷
     codes "(set-logic ALL)" ∷
     codes "(set-logic ALL)" ∷

@@ -15,7 +15,7 @@ use Rattle.spec_models.specs.Models.{model_text}
 use Rattle.spec_models.specs.Meaning.{DefineAll}
 use Rattle.spec_checking.specs.Good.{IsGood}
 use Rattle.spec_checking.specs.Accepted.{IsAccepted}
-use Rattle.spec_proof_texts.specs.ReadBack.{AreScriptNames, numerals_in}
+use Rattle.spec_proof_texts.specs.ReadBack.{HaveScriptNames, numerals_in}
 use Rattle.spec_sessions.specs.Evidence.{Limits, Found, model, proof, spent, overflowed, out_of_pivots, Checked}
 use Rattle.spec_sessions.specs.Evidence.{IsModelOf, Justifies}
 
@@ -25,8 +25,8 @@ pub record IsKeptCheck (limit : ℕ) (c : Check) : Type 0 where
   pub stack : IsSoundStack limit c.stack
   -- what it assumes was read, too
   pub assumptions : All (IsAsserted limit (signature_of c.stack)) c.assumptions
-  -- its names can be printed
-  pub names : AreScriptNames (signature_of c.stack)
+  -- its names can be printed, up to each level
+  pub names : HaveScriptNames c.stack
 
 -- What a model means, by what makes an interpretation a model, under a signature.
 pub record ModelMeans (IsModel : Interpretation → Type 0) (g : Signature) (i : Interpretation) : Type 0 where

@@ -30,9 +30,7 @@ pub fn what_is_shown_is_so()
         → Justifies limits c.check c.found → AnswerSays limits text k c }
 {
     spec_commands::texts_have_one_check_of_a_number();
-    spec_commands::commands_keep_stacks();
     spec_commands::assertions_have_their_texts_value();
-    spec_commands::assertions_are_formulas();
     spec_commands::what_is_asked_has_its_texts_value();
     spec_rules::laws::rules_are_sound();
     spec_models::laws::model_texts_say_their_interpretation();

@@ -1,7 +1,6 @@
 -- That what is shown is so.
-use Rattle.std.proofs.Common.{◌≡◌, ◌≤◌, ◌^◌, ℕ, List, [], ◌∷◌, ◌++◌, All, None, get_or, refl, sym, ap, ◌∙◌, subst, arith}
-use Rattle.std.proofs.lemmas.List.{append_assoc, append-nil}
-use Rattle.std.proofs.lemmas.List.Elements.{All-nil, All-map, All-append, Contains-get_or}
+use Rattle.std.proofs.Common.{◌≡◌, ◌≤◌, ◌^◌, ℕ, List, [], ◌++◌, All, None, get_or, refl, sym, ap, ◌∙◌, subst, arith}
+use Rattle.std.proofs.lemmas.List.Elements.{All-nil, All-map, Contains-get_or}
 use Rattle.spec_sorts.specs.Values.{is_true, Interpretation}
 use Rattle.spec_sorts.specs.WellSorted.{IsFormulaOver}
 use Rattle.spec_sorts.specs.TermValues.{value_at}
@@ -9,9 +8,11 @@ use Rattle.spec_sorts.specs.Signatures.{Signature, symbols_in}
 use Rattle.spec_sorts.specs.Meaning.{value_under}
 use Rattle.spec_reading.specs.WellSorted.{AreWellSorted}
 use Rattle.spec_text.specs.Readings.{is_long}
-use Rattle.spec_commands.specs.Stack.{Assertion, Stack, terms_asserted, signature_of, joined, assertions_of}
-use Rattle.spec_commands.specs.Kept.{IsAsserted, IsSoundStack}
+use Rattle.spec_commands.specs.Stack.{Assertion, terms_asserted, signature_of}
 use Rattle.spec_commands.specs.Checks.{Check, asked, IsCurrent, MakesTrue}
+use Rattle.spec_commands.proofs.Carried.{Property, here}
+use Rattle.spec_commands.proofs.Asked.{asked_sound}
+use Rattle.spec_commands.proofs.Kept.{sound_here, sound_values, sound_formulas}
 use Rattle.spec_checking.specs.Commands.{known_at}
 use Rattle.spec_checking.specs.Good.{IsGood}
 use Rattle.spec_checking.proofs.Good.{no_fault}
@@ -26,13 +27,8 @@ use Rattle.spec_proof_texts.specs.Meaning.{AreRightLines}
 use Rattle.spec_proof_texts.specs.ReadBack.{AreScriptNames, numbers_in}
 use Rattle.spec_sessions.specs.Evidence.{Limits, Found, model, proof, spent, overflowed, out_of_pivots, IsModelOf, Justifies}
 use Rattle.spec_sessions.specs.Refutations.{IsProofOf, lines_in}
-use Rattle.spec_sessions.specs.Meaning.{IsKeptCheck, ModelMeans, MeansAt, HasFewNumerals, ProofMeans, FindingMeans}
+use Rattle.spec_sessions.specs.Meaning.{ModelMeans, MeansAt, HasFewNumerals, ProofMeans, FindingMeans}
 use Rattle.spec_sessions.proofs.laws.what_is_shown_is_so.Goals as goal
-
--- the assertions of one level more
-joined_more : (ls : List (List Assertion)) (l : List Assertion) → joined (ls ++ l ∷ []) ≡ joined ls ++ l
-joined_more [] l = append-nil l
-joined_more (m ∷ ls) l = ap (λ x. m ++ x) (joined_more ls l) ∙ sym (append_assoc m (joined ls) l)
 
 -- the text of each expression has its term's value
 abbrev HaveValues : Check → Type 0
@@ -46,18 +42,11 @@ AreFormulas c = All (λ (a : Assertion). IsFormulaOver (symbols_in (signature_of
 each_symbol : (s : Signature) → AreScriptNames s → All (IsSymbolIn s) (symbols_in s)
 each_symbol s names = λ n d lt. names.symbols (get_or (symbols_in s) n d) (Contains-get_or (symbols_in s) n d lt)
 
+-- the names alone
+abbrev OfScripts : Property
+OfScripts g assertions = AreScriptNames g
+
 module _ (c : goal.After-printed_proofs_are_accepted) where
-  -- the stack with what a check assumes as one level more
-  abbrev assuming : Check → Stack
-  assuming x = record x.stack { levels = x.stack.levels ++ x.assumptions ∷ [] }
-
-  kept_assuming : (limit : ℕ) (x : Check) → IsKeptCheck limit x → IsSoundStack limit (assuming x)
-  kept_assuming limit x h = record {
-    names = h.stack.names;
-    sorts = h.stack.sorts;
-    assertions = subst (All (IsAsserted limit (signature_of x.stack))) (sym (joined_more x.stack.levels x.assumptions)) (All-append (IsAsserted limit (signature_of x.stack)) (assertions_of x.stack) x.assumptions h.stack.assertions h.assumptions);
-  }
-
   module _ (x : Check) (values : HaveValues x) (formulas : AreFormulas x) (sorts : AreWellSorted (signature_of x.stack)) (names : AreScriptNames (signature_of x.stack)) where
     abbrev g : Signature
     g = signature_of x.stack
@@ -152,16 +141,14 @@ module _ (c : goal.After-printed_proofs_are_accepted) where
 
 pub returns-clause-at : goal.returns-clause-at
 returns-clause-at c = λ limits x f kept shown.
-    let big = kept_assuming c limits.terms x kept in
-    let asks : assertions_of (assuming c x) ≡ asked x = joined_more x.stack.levels x.assumptions in
-    let values : HaveValues x = λ i. subst (All (λ (a : Assertion). value_under i (signature_of x.stack) a.text ≡ value_at i [] a.term)) asks (c.commands_keep_stacks.ensures.value limits.terms (assuming c x) i big) in
-    let formulas : AreFormulas x = subst (All (λ (a : Assertion). IsFormulaOver (symbols_in (signature_of x.stack)) a.term)) asks (c.assertions_are_formulas.ensures.formula limits.terms (assuming c x) big) in
-    means_at c x values formulas kept.stack.sorts kept.names limits f shown
+    let all = asked_sound limits.terms x kept.stack kept.assumptions in
+    let values : HaveValues x = λ i. sound_values limits.terms (signature_of x.stack) (asked x) i all in
+    means_at c x values (sound_formulas limits.terms (signature_of x.stack) (asked x) all) all.sorts (here OfScripts x.stack kept.names) limits f shown
 
 pub returns-clause-text : goal.returns-clause-text
 returns-clause-text c = λ limits text k x current shown.
     let asked_so = c.what_is_asked_has_its_texts_value.ensures in
-    let kept = c.assertions_have_their_texts_value.ensures.kept limits.terms text k x.check current in
+    let kept = sound_here limits.terms x.check.stack (c.assertions_have_their_texts_value.ensures.kept limits.terms text k x.check current) in
     let names = c.checks_have_script_names.ensures.names limits.terms text k x.check current in
     record {
       current = current;
