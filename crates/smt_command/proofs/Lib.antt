@@ -1,3 +1,4 @@
 -- The lemmas of this crate.
 pub mod CommandTrees
 pub mod NamedTrees
+pub mod Levels

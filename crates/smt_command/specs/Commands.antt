@@ -5,14 +5,16 @@ use Rattle.spec_text.specs.declared.Fault.TheVariants.{BadShape}
 use Rattle.spec_text.specs.Faults.{Located}
 use Rattle.spec_text.specs.Places.{IsPlaceOf}
 use Rattle.spec_text.specs.Trees.{Tree, Trees, atom, list, none, more, offset_of}
-use Rattle.spec_text.specs.Shapes.{◌>>=◌, only_tree}
+use Rattle.spec_text.specs.Shapes.{◌>>=◌, passes, first_word, no_tree, only_tree}
 use Rattle.spec_text.specs.Answers.{Answer, refused}
+use Rattle.spec_sorts.specs.Numerals.{number_after}
 use Rattle.spec_reading.specs.Definitions.{Parts}
 use Rattle.spec_commands.specs.Commands.{Command, SetLogic, SetOption, SetInfo, DeclareSort, DefineSort, DeclareFun}
-use Rattle.spec_commands.specs.Commands.{DefineFun, Assert, CheckSat, Echo, Exit, Verb, sets_logic, sets_option}
-use Rattle.spec_commands.specs.Commands.{sets_info, declares_sort, defines_sort, declares_const, declares_fun}
-use Rattle.spec_commands.specs.Commands.{defines_fun, asserts, checks, echoes, exits, first_name, command_as}
-use Rattle.spec_commands.specs.Commands.{command_of, verb_of}
+use Rattle.spec_commands.specs.Commands.{DefineFun, Assert, Push, Pop, CheckSat, ResetAssertions, Reset, Echo, Exit}
+use Rattle.spec_commands.specs.Commands.{Verb, sets_logic, sets_option, sets_info, declares_sort, defines_sort}
+use Rattle.spec_commands.specs.Commands.{declares_const, declares_fun, defines_fun, asserts, pushes, pops, checks}
+use Rattle.spec_commands.specs.Commands.{resets_assertions, resets, echoes, exits, is_numeral, number_of_levels}
+use Rattle.spec_commands.specs.Commands.{first_name, command_as, command_of, verb_of}
 use Rattle.smt_lexer.specs.declared.Refused.{Refused}
 use Rattle.smt_lexer.specs.declared.Refused.TheVariants as refusals
 use Rattle.smt_sexpr.specs.declared.sexpr.Sexpr.{Sexpr}
@@ -45,7 +47,11 @@ command_view (code.DeclareConst w sort) = DeclareFun (word_view w) none (tree_me
 command_view (code.DeclareFun w parameters sort) = DeclareFun (word_view w) (trees_meant parameters) (tree_meant sort)
 command_view (code.DefineFun parts) = DefineFun (parts_view parts)
 command_view (code.Assert term) = Assert (tree_meant term)
+command_view (code.Push n) = Push n
+command_view (code.Pop n) = Pop n
 command_view (code.CheckSat at) = CheckSat at
+command_view code.ResetAssertions = ResetAssertions
+command_view code.Reset = Reset
 command_view (code.Echo text) = Echo text.now
 command_view code.Exit = Exit
 
@@ -60,7 +66,11 @@ verb_meant words.DeclareConst = declares_const
 verb_meant words.DeclareFun = declares_fun
 verb_meant words.DefineFun = defines_fun
 verb_meant words.Assert = asserts
+verb_meant words.Push = pushes
+verb_meant words.Pop = pops
 verb_meant words.CheckSat = checks
+verb_meant words.ResetAssertions = resets_assertions
+verb_meant words.Reset = resets
 verb_meant words.Echo = echoes
 verb_meant words.Exit = exits
 
@@ -75,6 +85,14 @@ named_parts ts = do
 abbrev pub is_named : Tree → Bool
 is_named (atom at k n) = false
 is_named (list at ts end) = is_some (named_parts ts)
+
+-- a numeral alone, as a number of levels
+unfoldable pub levels_written : Trees → Option ℕ
+levels_written ts = do
+  n ← first_word ts
+  is_number ← passes (is_numeral n.0.kind)
+  end ← no_tree n.1
+  Some (number_of_levels (number_after 0 n.0.bytes))
 
 -- the command of a list at an offset
 abbrev pub command_in_list : ℕ → Trees → Answer Command

@@ -1,7 +1,8 @@
 //! A command of a script by its parts, and the words of commands.
 
-ghost use Rattle.std.specs.Prelude.{◌≡◌, option_map};
-ghost use Rattle.spec_commands.specs.Commands.{verb_named, verb_of};
+ghost use Rattle.std.specs.Prelude.{◌≡◌, drop, option_map, take};
+ghost use Rattle.spec_sorts.specs.Theory.{look_up};
+ghost use Rattle.spec_commands.specs.Commands.{verbs, verb_named, verb_of};
 ghost use Rattle.smt_sexpr.specs.Items.{tree_meant};
 ghost use Rattle.smt_command.specs.Commands.{verb_meant};
 
@@ -30,8 +31,16 @@ pub enum Command<'a> {
     DefineFun(FunctionText<'a>),
     /// The term is asserted.
     Assert(Trees<'a>),
+    /// So many levels are opened. A numeral above 2^64 - 1 counts as 2^64 - 1.
+    Push(u64),
+    /// So many levels are closed. A numeral above 2^64 - 1 counts as 2^64 - 1.
+    Pop(u64),
     /// What is asserted is to be checked. The number is the offset of the word `check-sat`, in bytes.
     CheckSat(u64),
+    /// What is declared, defined and asserted is taken back.
+    ResetAssertions,
+    /// All is taken back, the options and the logic too.
+    Reset,
     /// A text is to be written: what is between its quotes, where two quotes stand for one.
     Echo(&'a [u8]),
     /// The script ends.
@@ -72,8 +81,16 @@ pub(crate) enum Verb {
     DefineFun,
     /// `assert`.
     Assert,
+    /// `push`.
+    Push,
+    /// `pop`.
+    Pop,
     /// `check-sat`.
     CheckSat,
+    /// `reset-assertions`.
+    ResetAssertions,
+    /// `reset`.
+    Reset,
     /// `echo`.
     Echo,
     /// `exit`.
@@ -87,6 +104,16 @@ fn verb_named(kind: Kind, name: &[u8]) -> Option<Verb>
     if !is_reserved(kind) {
         return None;
     }
+    if let Some(verb) = declaring_named(name) {
+        return Some(verb);
+    }
+    other_named(name)
+}
+
+/// Finds the word of a command that sets, declares or defines.
+fn declaring_named(name: &[u8]) -> Option<Verb>
+    ensures { option_map verb_meant result ≡ look_up (take 8 verbs) name.now }
+{
     if same_bytes(b"set-logic", name) {
         return Some(Verb::SetLogic);
     }
@@ -111,11 +138,30 @@ fn verb_named(kind: Kind, name: &[u8]) -> Option<Verb>
     if same_bytes(b"define-fun", name) {
         return Some(Verb::DefineFun);
     }
+    None
+}
+
+/// Finds the word of any other command.
+fn other_named(name: &[u8]) -> Option<Verb>
+    ensures { option_map verb_meant result ≡ look_up (drop 8 verbs) name.now }
+{
     if same_bytes(b"assert", name) {
         return Some(Verb::Assert);
     }
+    if same_bytes(b"push", name) {
+        return Some(Verb::Push);
+    }
+    if same_bytes(b"pop", name) {
+        return Some(Verb::Pop);
+    }
     if same_bytes(b"check-sat", name) {
         return Some(Verb::CheckSat);
+    }
+    if same_bytes(b"reset-assertions", name) {
+        return Some(Verb::ResetAssertions);
+    }
+    if same_bytes(b"reset", name) {
+        return Some(Verb::Reset);
     }
     if same_bytes(b"echo", name) {
         return Some(Verb::Echo);

@@ -1,11 +1,12 @@
 //! The shape of each command, by the trees after its word.
 
-ghost use Rattle.std.specs.Prelude.{◌≡◌, option_map};
+ghost use Rattle.std.specs.Prelude.{◌≡◌, ◌*◌, ◌+◌, ◌-◌, option_map};
 ghost use Rattle.spec_sorts.specs.Forms.{is_name, are_named};
-ghost use Rattle.spec_commands.specs.Commands.{is_numeral, is_string, one_at_most, first_name, first_tree, set_logic, set_option, set_info, declare_sort, define_sort, declare_const, declare_fun, define_fun, assertion, echo, alone, command_by};
+ghost use Rattle.spec_sorts.specs.Numerals.{number_after};
+ghost use Rattle.spec_commands.specs.Commands.{is_numeral, is_string, one_at_most, first_name, first_tree, set_logic, set_option, set_info, declare_sort, define_sort, declare_const, declare_fun, define_fun, assertion, number_of_levels, levels_in, push, pop, echo, alone, command_by};
 ghost use Rattle.smt_sexpr.specs.Items.{trees_meant, tree_meant, two};
 ghost use Rattle.smt_sexpr.specs.Views.{word_rest};
-ghost use Rattle.smt_command.specs.Commands.{command_view, verb_meant, named_parts, is_named};
+ghost use Rattle.smt_command.specs.Commands.{command_view, verb_meant, named_parts, is_named, levels_written};
 
 use crate::commands::{Command, FunctionText, Verb};
 use smt_sexpr::{
@@ -208,6 +209,66 @@ fn assertion(trees: Trees<'_>) -> Option<Command<'_>>
     Some(Command::Assert(term))
 }
 
+/// Gives the number that one digit more writes, or 2^64 - 1 where it is above that.
+fn with_digit(number: u64, digit: u8) -> u64
+    ensures { result ≡ number_of_levels (number * 10 + (digit - 48)) }
+{
+    let tens = number.saturating_mul(10);
+    tens.saturating_add(u64::from(digit.saturating_sub(48)))
+}
+
+/// Gives the number that digits write, or 2^64 - 1 where it is above that.
+fn number_of(digits: &[u8]) -> u64
+    ensures { result ≡ number_of_levels (number_after 0 digits.now) }
+{
+    let mut number = 0;
+    let mut rest = digits;
+    'digits: while let Some((digit, after)) = rest.split_first() {
+        number = with_digit(number, *digit);
+        rest = after;
+    }
+    number
+}
+
+/// Takes a numeral alone as a number of levels.
+#[tactic(auto, unfolding(crate::specs::Commands::levels_written))]
+fn levels_written(trees: Trees<'_>) -> Option<u64>
+    ensures { result ≡ levels_written (trees_meant trees.entry) }
+{
+    let (number, rest) = word_first(trees)?;
+    passes(is_numeral(number.kind))?;
+    want_end(rest)?;
+    Some(number_of(number.bytes))
+}
+
+/// Takes a number of levels: a numeral, or nothing, which counts as 1.
+fn levels_in(trees: Trees<'_>) -> Option<u64>
+    ensures { result ≡ levels_in (trees_meant trees.entry) }
+{
+    match split(trees) {
+        None => Some(1),
+        Some(_) => levels_written(trees),
+    }
+}
+
+/// Reads `push`, after its word.
+#[tactic(auto, unfolding(spec_commands::specs::Commands::push))]
+fn push(trees: Trees<'_>) -> Option<Command<'_>>
+    ensures { option_map command_view result ≡ push (trees_meant trees.entry) }
+{
+    let levels = levels_in(trees)?;
+    Some(Command::Push(levels))
+}
+
+/// Reads `pop`, after its word.
+#[tactic(auto, unfolding(spec_commands::specs::Commands::pop))]
+fn pop(trees: Trees<'_>) -> Option<Command<'_>>
+    ensures { option_map command_view result ≡ pop (trees_meant trees.entry) }
+{
+    let levels = levels_in(trees)?;
+    Some(Command::Pop(levels))
+}
+
 /// Reads `echo`, after its word.
 #[tactic(auto, unfolding(spec_commands::specs::Commands::echo))]
 fn echo(trees: Trees<'_>) -> Option<Command<'_>>
@@ -241,7 +302,11 @@ pub(crate) fn by_verb(verb: Verb, at: u64, trees: Trees<'_>) -> Option<Command<'
         Verb::DeclareFun => declare_fun(trees),
         Verb::DefineFun => define_fun(trees),
         Verb::Assert => assertion(trees),
+        Verb::Push => push(trees),
+        Verb::Pop => pop(trees),
         Verb::CheckSat => alone(Command::CheckSat(at), trees),
+        Verb::ResetAssertions => alone(Command::ResetAssertions, trees),
+        Verb::Reset => alone(Command::Reset, trees),
         Verb::Echo => echo(trees),
         Verb::Exit => alone(Command::Exit, trees),
     }
