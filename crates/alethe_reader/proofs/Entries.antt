@@ -108,10 +108,10 @@ known_made h new k ds is grows represents asserted names clauses =
 pub known_first : (limit : ℕ) (t : TableView) (x : CodeStack) (s : Stack) (new : ProofState) → IsStack limit (over_table t x) s → HaveSameMembers x.assertions.ids new.asserted.keys
     → new.table ≡ t → new.scope ≡ x.scope → new.names ≡ [] → new.clauses.items ≡ [] → IsKnown new (known_on s)
 known_first limit t x s new is same table scope names clauses =
-    let asked : clause_at t x.assertions.ids ≡ (known_on s).asserted = is.terms ∙ ap terms_asserted (sym (append-nil (assertions_of s))) in
+    let asked : clause_at t x.assertions.ids ≡ (known_on s).asserted = is.states.terms ∙ ap terms_asserted (sym (append-nil (assertions_of s))) in
     record {
-      scope = rw (table, scope) is.scope;
-      inside = rw table (ids_there t x.assertions.ids new.asserted.keys same is.inside);
+      scope = rw (table, scope) is.states.scope;
+      inside = rw table (ids_there t x.assertions.ids new.asserted.keys same is.states.inside);
       asked = rw table (terms_there t x.assertions.ids new.asserted.keys (known_on s).asserted same asked);
       asserted = rw table (terms_back t x.assertions.ids new.asserted.keys (known_on s).asserted same asked);
       paired = ap length names ∙ sym (ap length clauses);

@@ -1,5 +1,5 @@
 -- Which commands ask for a check.
-use Rattle.std.proofs.Common.{◌≡◌, ℕ, Bool, List, [], ◌∷◌, Option, Some, None, sym, ap, ◌∙◌}
+use Rattle.std.proofs.Common.{◌≡◌, ℕ, ◌-◌, Bool, List, [], ◌∷◌, Option, Some, None, sym, ap, ◌∙◌}
 use Rattle.std.specs.Prelude.{Result, Ok, Err}
 use Rattle.spec_text.specs.declared.Fault.TheVariants.{BadShape}
 use Rattle.spec_text.specs.Faults.{Located}
@@ -7,8 +7,8 @@ use Rattle.spec_text.specs.Answers.{Answer}
 use Rattle.spec_text.proofs.AnswerLaws.{answer, in_turn}
 use Rattle.spec_sorts.specs.Terms.{Declared, Term}
 use Rattle.spec_sorts.specs.Signatures.{of_sort, of_function, declared}
-use Rattle.spec_commands.specs.Commands.{Command, SetLogic, SetOption, SetInfo, DeclareSort, DefineSort, DeclareFun, DefineFun, Assert, CheckSat, Echo, Exit}
-use Rattle.spec_commands.specs.Stack.{Assertion, Stack, Key, done, unsupported, check, say, leave, Taken, did, begun, with_declaration, with_definitions, with_assertion, key_named, truth_in, with_option, option_set, roomy, terms_defined, performed}
+use Rattle.spec_commands.specs.Commands.{Command, SetLogic, SetOption, SetInfo, DeclareSort, DefineSort, DeclareFun, DefineFun, Assert, Push, Pop, CheckSat, CheckSatAssuming, ResetAssertions, Reset, Echo, Exit}
+use Rattle.spec_commands.specs.Stack.{Assertion, Stack, Key, done, unsupported, check, say, leave, Taken, did, empty_stack, begun, with_declaration, with_definitions, with_assertion, with_levels, up_to_level, levels_open, emptied, key_named, truth_in, with_option, option_set, roomy, terms_defined, performed}
 use Rattle.term_reader.specs.declared.faults.ReadError.{ReadError}
 use Rattle.assertion_stack.specs.declared.stack.Effect.{Effect as CodeEffect}
 use Rattle.assertion_stack.specs.declared.stack.Effect.TheVariants as effects
@@ -17,6 +17,7 @@ use Rattle.assertion_stack.specs.Stacks.{OverTable, Performs, KeepsAtCheck}
 -- the command asks for a check
 abbrev pub IsCheck : Command → Type 0
 IsCheck (CheckSat place) = Unit {0}
+IsCheck (CheckSatAssuming place ts) = Unit {0}
 IsCheck c = ⊥
 
 -- what is answered asks for no check
@@ -70,7 +71,12 @@ module _ (limit at : ℕ) (s : Stack) where
       roomy_none [] (begun (with_declaration s (of_function (declared (record { name = n; parameters = ps; result = r }))))))))
   other_none (DefineFun p) other = in_turn GivesNone fault_none _ _ (λ ds _. roomy_none (terms_defined ds) (begun (with_definitions s ds)))
   other_none (Assert t) other = in_turn GivesNone fault_none _ _ (λ r _. roomy_none (r.term ∷ []) (begun (with_assertion (with_definitions s r.made) t r.term)))
+  other_none (Push n) other = in_turn GivesNone fault_none _ _ (λ u _. done_none (begun (with_levels n s)))
+  other_none (Pop n) other = in_turn GivesNone fault_none _ _ (λ u _. done_none (begun (up_to_level (levels_open s.levels - n) s)))
   other_none (CheckSat place) other = absurd (other tt)
+  other_none (CheckSatAssuming place ts) other = absurd (other tt)
+  other_none ResetAssertions other = done_none (emptied s)
+  other_none Reset other = done_none empty_stack
   other_none (Echo text) other = say_none text s
   other_none Exit other = leave_none s
 

@@ -1,11 +1,13 @@
 -- The lemmas of this crate.
 pub mod Known
 pub mod SortLists
-pub mod Levels
+pub mod Lasts
 pub mod PrintedTrees
 pub mod Growing
 pub mod Naming
+pub mod Cuts
 pub mod Stacks
+pub mod Leveled
 pub mod Declared
 pub mod Back
 pub mod Steps

@@ -2,7 +2,7 @@
 use Rattle.std.proofs.Common.{◌≡◌, ℕ, ◌+◌, Bool, true, false, not, ◌&&◌, List, [], ◌∷◌, ◌++◌, length, Some, refl, sym, ap, ◌∙◌, subst, arith, length-append}
 use Rattle.std.specs.Prelude.{Ok, Err, nat_le, nat_lt}
 use Rattle.std.proofs.lemmas.Bool.Decides.{nat_tests}
-use Rattle.std.proofs.lemmas.List.{map-append, length-map}
+use Rattle.std.proofs.lemmas.List.{append-nil, map-append, length-map}
 use Rattle.std.proofs.lemmas.List.Elements.{All-push, All-nil}
 use Rattle.spec_text.specs.declared.Fault.TheVariants.{Reserved, UnknownLogic, WrongMode, Full}
 use Rattle.spec_text.specs.Bytes.{Name, among}
@@ -12,7 +12,7 @@ use Rattle.spec_text.specs.Answers.{Answer, ◌>>=◌, refused, require}
 use Rattle.spec_text.specs.Trees.{Tree, Trees}
 use Rattle.spec_text.specs.Printed.{printed}
 use Rattle.spec_sorts.specs.Terms.{Sort, Truth, Declared, Term}
-use Rattle.spec_sorts.specs.Signatures.{Definition, Declaration, of_sort, of_function, declared, symbols_in, sort_as}
+use Rattle.spec_sorts.specs.Signatures.{Definition, Declaration, of_sort, of_function, declared, Signature, symbols_in, sort_as}
 use Rattle.spec_sorts.specs.Signatures as signatures
 use Rattle.spec_sorts.specs.Subterms.{has_room}
 use Rattle.spec_sorts.proofs.Signatures.{symbols_with}
@@ -21,86 +21,99 @@ use Rattle.spec_reading.specs.Sorts.{sort_in, sorts_in}
 use Rattle.spec_reading.specs.Reading.{Reading, reading_of_sort}
 use Rattle.spec_reading.specs.Definitions.{Parts, definitions_in}
 use Rattle.spec_commands.specs.Commands.{SetLogic, DeclareSort, DefineSort, DeclareFun, DefineFun, Assert}
-use Rattle.spec_commands.specs.Stack.{Assertion, Stack, Key, did, empty_stack, signature_of, assertions_of, terms_asserted, begun, with_declaration, with_definitions, with_assertion, logics, with_option, roomy, terms_defined, performed}
+use Rattle.spec_commands.specs.Stack.{Assertion, Stack, Key, did, empty_stack, signature_of, assertions_of, terms_asserted, begun, with_declaration, with_definitions, with_assertion, logics, with_option, roomy, terms_defined, performed, levels_open}
 use Rattle.spec_commands.proofs.Kept.{signature_last, signature_with}
+use Rattle.spec_commands.proofs.Levels.{open_last, up_to_defined, up_to_asserted, leveled_empty, leveled_defined, leveled_asserted}
 use Rattle.term_core.specs.declared.ids.TermId.{TermId}
 use Rattle.term_core.specs.Tables.{TableView, term_at, IsIn, AreIn, clause_at}
-use Rattle.term_core.proofs.TermsExtend.{AreIn-kept, clause_at-kept}
+use Rattle.term_core.proofs.TermsExtend.{AreIn-kept, clause_at-kept, Extends-self}
 use Rattle.term_reader.specs.Building.{KeepsTable, MeansTerm}
-use Rattle.term_reader.specs.Scopes.{ScopeView, ScopeMeans}
+use Rattle.term_reader.specs.Scopes.{ScopeView, IsScope, ScopeMeans}
 use Rattle.term_reader.proofs.OverTable.{meaning_kept}
 use Rattle.term_reader.specs.Names.{located_of}
 use Rattle.term_reader.specs.declared.faults.ReadError.{ReadError}
 use Rattle.term_reader.specs.declared.faults.ReadError.TheVariants as errors
 use Rattle.sort_check.specs.Reads as parser
-use Rattle.sort_check.specs.Reads.{within, roomy_reading, roomy_definitions, Store, EndsTerm, EndsDefinition}
+use Rattle.sort_check.specs.Reads.{within, roomy_reading, roomy_definitions, Store, store, StoreGrows, EndsTerm, EndsDefinition}
 use Rattle.assertion_stack.specs.declared.options.Options.{Options as CodeOptions}
 use Rattle.assertion_stack.specs.declared.stack.Stack.{Stack as CodeStack}
-use Rattle.assertion_stack.specs.Assertions.{no_assertions, starts_of, texts_printed}
+use Rattle.assertion_stack.specs.Assertions.{AssertionsView, no_assertions, texts_printed}
 use Rattle.assertion_stack.specs.Views.{Fails}
-use Rattle.assertion_stack.specs.Stacks.{options_meant, OverTable, over_table, IsStack, with_asserted}
-use Rattle.assertion_stack.proofs.Levels.{rest_with, sorts_with, starts_last, terms_last, texts_last}
+use Rattle.assertion_stack.specs.Levels.{Contents, States, AreMarked}
+use Rattle.assertion_stack.specs.Stacks.{options_meant, OverTable, over_table, contents, IsStack, with_asserted}
+use Rattle.assertion_stack.proofs.Lasts.{rest_with, sorts_with, terms_last, texts_last}
+use Rattle.assertion_stack.proofs.Cuts.{itself, AreEven, HasMore, table_grows, grows, marks_grown, marks_same, none_marked}
+
+-- what is stated, in a table that has terms more
+states_grown : (old new : TableView) (v : ScopeView) (a : AssertionsView) (g : Signature) (asserted : List Assertion) → KeepsTable old new → States (record { table = old; scope = v; assertions = a }) g asserted → States (record { table = new; scope = v; assertions = a }) g asserted
+states_grown old new v a g asserted k h = record {
+  scope = meaning_kept old new k v g h.scope;
+  symbols = ap (λ d. d.symbols) k.declared ∙ h.symbols;
+  sorts = λ n e. ap (λ d. among d.sorts n) k.declared ∙ h.sorts n e;
+  inside = AreIn-kept old new k.extends a.ids h.inside;
+  terms = clause_at-kept old new k.extends a.ids h.inside ∙ h.terms;
+  written = h.written;
+}
 
 -- a stack in a table that has terms more
 pub stack_grown : (limit : ℕ) (old new : TableView) (x : CodeStack) (s : Stack) → IsStack limit (over_table old x) s → KeepsTable old new → IsStack limit (over_table new x) s
-stack_grown limit old new x s h k = record {
-  limit_is = h.limit_is;
-  scope = meaning_kept old new k x.scope (signature_of s) h.scope;
-  symbols = ap (λ d. d.symbols) k.declared ∙ h.symbols;
-  sorts = λ n e. ap (λ d. among d.sorts n) k.declared ∙ h.sorts n e;
-  inside = AreIn-kept old new k.extends x.assertions.ids h.inside;
-  terms = clause_at-kept old new k.extends x.assertions.ids h.inside ∙ h.terms;
-  written = h.written;
-  starts = h.starts;
-  options = h.options;
-  started = h.started;
-}
+stack_grown limit old new x s h k =
+    let c : Contents = contents (over_table old x) in record {
+      limit_is = h.limit_is;
+      states = states_grown old new x.scope x.assertions (signature_of s) (assertions_of s) k h.states;
+      marked = marks_grown x.marks c s h.marked (record c { table = new }) s (table_grows c new k.extends) h.marked.leveled refl (λ n lt. refl);
+      options = h.options;
+      started = h.started;
+    }
 
--- the first stack
-pub first_stack : (limit : ℕ) (t : TableView) (x : CodeStack) → x.limit ≡ limit → ScopeMeans t x.scope [] → t.sorts ≡ [] → t.symbols ≡ [] → x.assertions ≡ no_assertions → options_meant x.options ≡ empty_stack.options → x.started ≡ false → IsStack limit (over_table t x) empty_stack
-first_stack limit t x l scope sorts symbols assertions options started = record {
-  limit_is = l;
+-- nothing is stated
+pub none_stated : (c : Contents) → ScopeMeans c.table c.scope [] → c.table.sorts ≡ [] → c.table.symbols ≡ [] → c.assertions ≡ no_assertions → States c [] []
+none_stated c scope sorts symbols assertions = record {
   scope = scope;
   symbols = symbols;
   sorts = λ n e. ap (λ ns. among ns n) sorts;
-  inside = subst (λ a. AreIn t a.ids) (sym assertions) (All-nil (IsIn t));
-  terms = ap (λ a. clause_at t a.ids) assertions;
+  inside = subst (λ a. AreIn c.table a.ids) (sym assertions) (All-nil (IsIn c.table));
+  terms = ap (λ a. clause_at c.table a.ids) assertions;
   written = ap (λ a. a.texts) assertions;
-  starts = ap (λ a. a.starts) assertions;
-  options = options;
-  started = started;
 }
+
+-- the first stack
+pub first_stack : (limit : ℕ) (t : TableView) (x : CodeStack) → x.limit ≡ limit → ScopeMeans t x.scope [] → t.sorts ≡ [] → t.symbols ≡ [] → x.assertions ≡ no_assertions → x.marks ≡ [] → options_meant x.options ≡ empty_stack.options → x.started ≡ false → IsStack limit (over_table t x) empty_stack
+first_stack limit t x l scope sorts symbols assertions marks options started =
+    let c : Contents = contents (over_table t x) in record {
+      limit_is = l;
+      states = none_stated c scope sorts symbols assertions;
+      marked = subst (λ ms. AreMarked ms c empty_stack) (sym marks) (none_marked c empty_stack leveled_empty refl);
+      options = options;
+      started = started;
+    }
 
 module _ (limit : ℕ) (t : TableView) (x : CodeStack) (s : Stack) (h : IsStack limit (over_table t x) s) where
   -- the start is over
   pub begun_stack : IsStack limit (over_table t (record x { started = true })) (begun s)
-  begun_stack = record {
-    limit_is = h.limit_is;
-    scope = h.scope;
-    symbols = h.symbols;
-    sorts = h.sorts;
-    inside = h.inside;
-    terms = h.terms;
-    written = h.written;
-    starts = h.starts;
-    options = h.options;
-    started = refl;
-  }
+  begun_stack = record { limit_is = h.limit_is; states = h.states; marked = marks_same x.marks (contents (over_table t x)) s h.marked s.options true; options = h.options; started = refl }
 
   -- an option is set
   pub option_stack : (k : Key) (b : Bool) (o : CodeOptions) → options_meant o ≡ with_option k b (options_meant x.options) → IsStack limit (over_table t (record x { options = o })) (record s { options = with_option k b s.options })
   option_stack k b o e = record {
     limit_is = h.limit_is;
-    scope = h.scope;
-    symbols = h.symbols;
-    sorts = h.sorts;
-    inside = h.inside;
-    terms = h.terms;
-    written = h.written;
-    starts = h.starts;
+    states = h.states;
+    marked = marks_same x.marks (contents (over_table t x)) s h.marked (with_option k b s.options) s.started;
     options = e ∙ ap (with_option k b) h.options;
     started = h.started;
   }
+
+-- a text for each asserted term
+texts_even : (c : Contents) (g : Signature) (asserted : List Assertion) → States c g asserted → length c.assertions.texts ≡ length c.assertions.ids
+texts_even c g asserted h =
+    ap length h.written ∙ length-map asserted (λ (a : Assertion). printed a.text) ∙ sym (ap length h.terms ∙ length-map asserted (λ (a : Assertion). a.term)) ∙ length-map c.assertions.ids (term_at c.table)
+
+pub one_for_each : (limit : ℕ) (x : OverTable) (s : Stack) → IsStack limit x s → length x.stack.assertions.texts ≡ length x.stack.assertions.ids
+one_for_each limit x s h = texts_even (contents x) (signature_of s) (assertions_of s) h.states
+
+-- what is stated has as many of each
+pub even_stated : (limit : ℕ) (x : OverTable) (s : Stack) → IsStack limit x s → IsScope x.stack.scope.sort_names x.stack.scope.sorts x.stack.scope.names x.stack.scope.functions → AreEven (contents x)
+even_stated limit x s h long = record { scope = long; texts = one_for_each limit x s h }
 
 -- setting a logic, by its tests
 module _ (limit at : ℕ) (s : Stack) (w : Word) where
@@ -262,41 +275,72 @@ module _ (limit at : ℕ) (s : Stack) (d : Parts) where
     define_fails new errors.Memory e = tt
 
 -- a stack with names and terms that were read
-module _ (limit : ℕ) (old new : TableView) (x : CodeStack) (s : Stack) (v : ScopeView) (ds : List Definition) (h : IsStack limit (over_table old x) s) (k : KeepsTable old new) (represents : ScopeMeans new v (signatures.with_definitions (signature_of s) ds)) where
+module _ (limit : ℕ) (old new : TableView) (x : CodeStack) (s : Stack) (v : ScopeView) (ds : List Definition) (h : IsStack limit (over_table old x) s) (grown : StoreGrows (store old x.scope) (store new v)) (represents : ScopeMeans new v (signatures.with_definitions (signature_of s) ds)) where
+  named_stated : States (contents (over_table new (record x { scope = v }))) (signature_of (with_definitions s ds)) (assertions_of (with_definitions s ds))
+  named_stated =
+      let k = grown.keeps in
+      let g = h.states in record {
+        scope = subst (ScopeMeans new v) (sym (signature_with s ds)) represents;
+        symbols = ap (λ d. d.symbols) k.declared ∙ g.symbols ∙ sym (symbols_with (signature_of s) ds) ∙ ap symbols_in (sym (signature_with s ds));
+        sorts = λ n e. ap (λ d. among d.sorts n) k.declared ∙ g.sorts n (sym (sorts_with (signature_of s) ds n) ∙ ap (λ y. sort_as y n) (sym (signature_with s ds)) ∙ e);
+        inside = AreIn-kept old new k.extends x.assertions.ids g.inside;
+        terms = clause_at-kept old new k.extends x.assertions.ids g.inside ∙ g.terms ∙ ap (λ (y : Stack). terms_asserted (assertions_of y)) (sym (rest_with s ds));
+        written = g.written ∙ ap (λ (y : Stack). texts_printed (assertions_of y)) (sym (rest_with s ds));
+      }
+
   -- definitions more
-  pub named : IsStack limit (over_table new (record x { scope = v })) (with_definitions s ds)
-  named = record {
-    limit_is = h.limit_is;
-    scope = subst (ScopeMeans new v) (sym (signature_with s ds)) represents;
-    symbols = ap (λ d. d.symbols) k.declared ∙ h.symbols ∙ sym (symbols_with (signature_of s) ds) ∙ ap symbols_in (sym (signature_with s ds));
-    sorts = λ n e. ap (λ d. among d.sorts n) k.declared ∙ h.sorts n (sym (sorts_with (signature_of s) ds n) ∙ ap (λ g. sort_as g n) (sym (signature_with s ds)) ∙ e);
-    inside = AreIn-kept old new k.extends x.assertions.ids h.inside;
-    terms = clause_at-kept old new k.extends x.assertions.ids h.inside ∙ h.terms ∙ ap (λ (y : Stack). terms_asserted (assertions_of y)) (sym (rest_with s ds));
-    written = h.written ∙ ap (λ (y : Stack). texts_printed (assertions_of y)) (sym (rest_with s ds));
-    starts = h.starts ∙ ap (λ (y : Stack). starts_of y.levels) (sym (rest_with s ds));
-    options = h.options ∙ ap (λ (y : Stack). y.options) (sym (rest_with s ds));
-    started = h.started ∙ ap (λ (y : Stack). y.started) (sym (rest_with s ds));
-  }
+  pub named : IsScope x.scope.sort_names x.scope.sorts x.scope.names x.scope.functions → IsStack limit (over_table new (record x { scope = v })) (with_definitions s ds)
+  named long =
+      let c : Contents = contents (over_table old x) in
+      let d : Contents = contents (over_table new (record x { scope = v })) in
+      let w = grown.widens in
+      let more : HasMore c d = record {
+        table = grown.keeps.extends;
+        sort_names = ([], w.sort_names ∙ sym (append-nil x.scope.sort_names));
+        sorts = ([], w.sorts ∙ sym (append-nil x.scope.sorts));
+        names = (w.more_names, w.names);
+        functions = (w.more_functions, w.functions);
+        ids = itself x.assertions.ids;
+        texts = itself x.assertions.texts;
+      } in record {
+        limit_is = h.limit_is;
+        states = named_stated;
+        marked =
+            marks_grown x.marks c s h.marked d (with_definitions s ds) (grows c d (even_stated limit (over_table old x) s h long) more) (leveled_defined s ds h.marked.leveled)
+            (ap (λ (y : Stack). levels_open y.levels) (rest_with s ds)) (λ k lt. up_to_defined k s ds lt);
+        options = h.options ∙ ap (λ (y : Stack). y.options) (sym (rest_with s ds));
+        started = h.started ∙ ap (λ (y : Stack). y.started) (sym (rest_with s ds));
+      }
 
 -- and an assertion more
-pub one_asserted : (limit : ℕ) (t : TableView) (x : CodeStack) (s : Stack) (tree : Tree) (u : Term) (id : TermId) → IsStack limit (over_table t x) s → MeansTerm t u id
+pub one_asserted : (limit : ℕ) (t : TableView) (x : CodeStack) (s : Stack) (tree : Tree) (u : Term) (id : TermId) → IsStack limit (over_table t x) s → IsScope x.scope.sort_names x.scope.sorts x.scope.names x.scope.functions → MeansTerm t u id
     → IsStack limit (over_table t (with_asserted x id (printed tree))) (begun (with_assertion s tree u))
-one_asserted limit t x s tree u id h m =
-    let a : Assertion = record { text = tree; term = u } in record {
+one_asserted limit t x s tree u id h long m =
+    let a : Assertion = record { text = tree; term = u } in
+    let c : Contents = contents (over_table t x) in
+    let d : Contents = contents (over_table t (with_asserted x id (printed tree))) in
+    let more : HasMore c d = record {
+      table = Extends-self t;
+      sort_names = itself x.scope.sort_names;
+      sorts = itself x.scope.sorts;
+      names = itself x.scope.names;
+      functions = itself x.scope.functions;
+      ids = (id ∷ [], refl);
+      texts = (printed tree ∷ [], refl);
+    } in
+    let next : Stack = with_assertion s tree u in
+    let marked : AreMarked x.marks d next =
+    marks_grown x.marks c s h.marked d next (grows c d (even_stated limit (over_table t x) s h long) more) (leveled_asserted s tree u h.marked.leveled) (open_last s.levels a) (λ k lt. up_to_asserted k s tree u lt) in record {
       limit_is = h.limit_is;
-      scope = h.scope;
-      symbols = h.symbols;
-      sorts = h.sorts;
-      inside = All-push (IsIn t) x.assertions.ids id h.inside m.0;
-      terms = map-append (term_at t) x.assertions.ids (id ∷ []) ∙ (λ i. h.terms i ++ m.1 i ∷ []) ∙ sym (terms_last s.levels a);
-      written = ap (λ ts. ts ++ printed tree ∷ []) h.written ∙ sym (texts_last s.levels a);
-      starts = h.starts ∙ sym (starts_last s.levels a);
+      states = record {
+        scope = h.states.scope;
+        symbols = h.states.symbols;
+        sorts = h.states.sorts;
+        inside = All-push (IsIn t) x.assertions.ids id h.states.inside m.0;
+        terms = map-append (term_at t) x.assertions.ids (id ∷ []) ∙ (λ i. h.states.terms i ++ m.1 i ∷ []) ∙ sym (terms_last s.levels a);
+        written = ap (λ ts. ts ++ printed tree ∷ []) h.states.written ∙ sym (texts_last s.levels a);
+      };
+      marked = marks_same x.marks d next marked s.options true;
       options = h.options;
       started = refl;
     }
-
--- a text for each asserted term
-pub one_for_each : (limit : ℕ) (x : OverTable) (s : Stack) → IsStack limit x s → length x.stack.assertions.texts ≡ length x.stack.assertions.ids
-one_for_each limit x s h =
-    ap length h.written ∙ length-map (assertions_of s) (λ (a : Assertion). printed a.text) ∙ sym (ap length h.terms ∙ length-map (assertions_of s) (λ (a : Assertion). a.term))
-    ∙ length-map x.stack.assertions.ids (term_at x.table)

@@ -1,6 +1,6 @@
 -- The command of an s-expression, performed.
 use Rattle.std.proofs.Common.{◌≡◌, ◌≤◌, ◌<◌, ℕ, length, sym, ap, ◌∙◌}
-use Rattle.std.specs.Prelude.{Result, Ok, Err, OnOk}
+use Rattle.std.specs.Prelude.{Ok, Err}
 use Rattle.spec_text.specs.declared.Fault.{Fault}
 use Rattle.spec_text.specs.declared.Place.{Place}
 use Rattle.spec_text.specs.Faults.{Located}
@@ -44,8 +44,3 @@ pub placed_fault : (limit : ℕ) (s : Stack) (x : Sexpr) (n : ℕ) (f : Fault) (
 placed_fault limit s x n f p e law_within all placed =
     let within = at_offset (λ m. (start_of x ≤ m) × (m < length (text_of x))) (tree_of x) n all (law_within limit s (tree_of x) (record { offset = n; fault = f }) e) in
     e ∙ (λ i. Err (record { offset = sym (placed within.0 within.1) i; fault = f }))
-
--- what holds anyway holds where all went well
-pub anyway : {A E : Type 0} (r : Result A E) (P : Type 0) → P → OnOk r P
-anyway (Ok a) P h = h
-anyway (Err e) P h = tt

@@ -3,4 +3,5 @@
 pub mod Views
 pub mod Assertions
 pub mod Printing
+pub mod Levels
 pub mod Stacks

@@ -1,27 +1,25 @@
 -- The stack of the definitions that a stack of the code represents in a table, and what commands make of it.
-use Rattle.std.specs.Prelude.{◌≡◌, ℕ, true, false, List, [], ◌∷◌, ◌++◌, None, Result, Ok, Err}
+use Rattle.std.specs.Prelude.{◌≡◌, ℕ, true, List, [], ◌∷◌, ◌++◌, take, Result, Ok, Err}
 use Rattle.spec_text.specs.Places.{IsPlaceOf}
 use Rattle.spec_text.specs.Answers.{Answer}
-use Rattle.spec_text.specs.Bytes.{Name, among}
-use Rattle.spec_sorts.specs.Signatures.{symbols_in, sort_as}
+use Rattle.spec_text.specs.Bytes.{Name}
 use Rattle.spec_commands.specs.Stack.{Options, Stack, Effect, done, unsupported, check, say, leave, Taken, signature_of}
-use Rattle.spec_commands.specs.Stack.{assertions_of, terms_asserted}
+use Rattle.spec_commands.specs.Stack.{assertions_of}
 use Rattle.smt_lexer.specs.declared.Refused.{Refused}
 use Rattle.smt_lexer.specs.declared.Refused.TheVariants as refusals
 use Rattle.smt_sexpr.specs.declared.sexpr.Sexpr.{Sexpr}
 use Rattle.smt_sexpr.specs.Items.{text_of}
 use Rattle.term_core.specs.declared.ids.TermId.{TermId}
 use Rattle.term_core.specs.declared.sorts.Sort.{Sort as TableSort}
-use Rattle.term_core.specs.Tables.{TableView, AreIn, clause_at}
+use Rattle.term_core.specs.Tables.{TableView}
 use Rattle.term_reader.specs.declared.scope.Function.{Function}
 use Rattle.term_reader.specs.declared.faults.ReadError.{ReadError}
-use Rattle.term_reader.specs.Scopes.{ScopeMeans}
 use Rattle.assertion_stack.specs.declared.options.Options.{Options as CodeOptions}
 use Rattle.assertion_stack.specs.declared.stack.Stack.{Stack as CodeStack}
 use Rattle.assertion_stack.specs.declared.stack.Effect.{Effect as CodeEffect}
 use Rattle.assertion_stack.specs.declared.stack.Effect.TheVariants as effects
-use Rattle.assertion_stack.specs.Assertions.{starts_of, texts_printed}
 use Rattle.assertion_stack.specs.Views.{Fails}
+use Rattle.assertion_stack.specs.Levels.{Contents, States, mark_at, cut_to, AreMarked}
 
 -- the options in the words of the definitions
 abbrev pub options_meant : CodeOptions → Options
@@ -51,24 +49,18 @@ pub record OverTable : Type 0 where
 abbrev pub over_table : TableView → CodeStack → OverTable
 over_table t x = record { table = t; stack = x }
 
+-- what is stated: the table, the names, and the assertions
+abbrev pub contents : OverTable → Contents
+contents x = record { table = x.table; scope = x.stack.scope; assertions = x.stack.assertions }
+
 -- The stack of the definitions, under a limit, for which a stack of the code is in a table.
 pub record IsStack (limit : ℕ) (x : OverTable) (s : Stack) : Type 0 where
   -- the limit
   pub limit_is : x.stack.limit ≡ limit
-  -- names stand for what is declared and defined
-  pub scope : ScopeMeans x.table x.stack.scope (signature_of s)
-  -- the table's symbols are those that are declared
-  pub symbols : x.table.symbols ≡ symbols_in (signature_of s)
-  -- each of its sorts has its name
-  pub sorts : (n : Name) → sort_as (signature_of s) n ≡ None → among x.table.sorts n ≡ false
-  -- the asserted terms are in the table
-  pub inside : AreIn x.table x.stack.assertions.ids
-  -- they are those of the assertions
-  pub terms : clause_at x.table x.stack.assertions.ids ≡ terms_asserted (assertions_of s)
-  -- the texts are those of the assertions, as they are printed
-  pub written : x.stack.assertions.texts ≡ texts_printed (assertions_of s)
-  -- levels begin at the same places
-  pub starts : x.stack.assertions.starts ≡ starts_of s.levels
+  -- names and assertions are those that are stated
+  pub states : States (contents x) (signature_of s) (assertions_of s)
+  -- each open level has its mark
+  pub marked : AreMarked x.stack.marks (contents x) s
   -- the options
   pub options : options_meant x.stack.options ≡ s.options
   -- whether a command has begun it
@@ -98,6 +90,14 @@ with_asserted x id text = record x {
   assertions = record x.assertions { ids = x.assertions.ids ++ id ∷ []; texts = x.assertions.texts ++ text ∷ [] };
   started = true;
 }
+
+-- what there was up to a level, 0 for the first one, where there is one above it
+abbrev pub closed_to : ℕ → OverTable → OverTable
+closed_to k x = back (cut_to (mark_at x.stack.marks k) (contents x))
+  where
+    back : Contents → OverTable
+    back c = over_table c.table
+        (record x.stack { scope = c.scope; assertions = c.assertions; marks = take k x.stack.marks })
 
 -- what a command answers and leaves, or its fault, unless memory ran out
 abbrev pub Performs : ℕ → Answer Taken → OverTable → Result CodeEffect ReadError → Type 0

@@ -85,14 +85,17 @@ impl Stack {
             tree,
             room,
         ) {
-            Ok(id) => match add_written(self, alloc, id, tree) {
-                Ok(()) => Ok(Effect::Done),
-                Err(_) => {
-                    self.scope.back(sorts, functions);
-                    table.cut(terms);
-                    Err(ReadError::Memory)
+            Ok(id) => {
+                self.scope.each_name_means_something();
+                match add_written(self, alloc, id, tree) {
+                    Ok(()) => Ok(Effect::Done),
+                    Err(_) => {
+                        self.scope.back(sorts, functions);
+                        table.cut(terms);
+                        Err(ReadError::Memory)
+                    }
                 }
-            },
+            }
             Err(stop) => Err(stop),
         }
     }
@@ -120,6 +123,7 @@ impl Stack {
         ensures kept { OnOk result (KeepsTable table.old table.new) }
         ensures same { OnErr result ((self.new ≡ self.old) × (table.new ≡ table.old)) }
     {
+        self.scope.each_name_means_something();
         let room = room(self, at);
         let parts = sort_check::FunctionParts {
             name: parts.name,

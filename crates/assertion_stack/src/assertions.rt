@@ -1,6 +1,6 @@
-//! The asserted terms, in their order, with their texts and the levels that they belong to.
+//! The asserted terms, in their order, with their texts.
 
-ghost use Rattle.std.specs.Prelude.{◌≡◌, ◌++◌, [], ◌∷◌, length, OnErr, OnOk};
+ghost use Rattle.std.specs.Prelude.{◌≡◌, ◌++◌, [], ◌∷◌, length, take, OnErr, OnOk};
 ghost use Rattle.assertion_stack.specs.Assertions.{no_assertions};
 
 use no_memory::NoMemory;
@@ -11,13 +11,11 @@ use world_io::Bytes;
 
 /// Holds the asserted terms by their numbers, oldest first, with the text of each.
 ///
-/// The first level begins with the first assertion. Each level above it begins at a place of its own.
 /// Source: SMT-LIB 2.6, section 4.1.4.
 #[derive(Drop)]
 pub struct Assertions {
     ids: Vec<TermId>,
     texts: Vec<Bytes>,
-    starts: Vec<u64>,
 }
 
 impl Model for Assertions {
@@ -28,19 +26,17 @@ impl Model for Assertions {
     ghost view = { λ a. record {
       ids = a.ids.items;
       texts = a.texts.items;
-      starts = a.starts.items;
     } };
 }
 
 impl Assertions {
-    /// Makes the one level without assertions. It takes no memory.
+    /// Makes the list without assertions. It takes no memory.
     pub fn new(alloc: Global) -> Assertions
         ensures { result ≡ no_assertions }
     {
         Assertions {
             ids: Vec::new(alloc),
             texts: Vec::new(alloc),
-            starts: Vec::new(alloc),
         }
     }
 
@@ -58,14 +54,14 @@ impl Assertions {
         self.texts.as_slice()
     }
 
-    /// Counts the levels above the first.
-    pub fn levels(&self) -> u64
-        ensures { result ≡ length self.now.starts }
+    /// Counts the asserted terms.
+    pub fn len(&self) -> usize
+        ensures { result ≡ length self.now.ids }
     {
-        self.starts.len() as u64
+        self.ids.len()
     }
 
-    /// Puts a term and its text last, at the last level.
+    /// Puts a term and its text last.
     ///
     /// `NoMemory` comes where a place finds no memory; then all is as it was.
     pub fn add(&mut self, id: TermId, text: Bytes) -> Result<(), NoMemory>
@@ -80,5 +76,13 @@ impl Assertions {
         self.texts.push(text)?;
         self.ids.push_reserved(id);
         Ok(())
+    }
+
+    /// Takes away all terms after the first `len` with their texts, none where there are no more. It takes no memory.
+    pub fn cut(&mut self, len: usize)
+        ensures { self.new ≡ record { ids = take len self.old.ids; texts = take len self.old.texts } }
+    {
+        self.ids.truncate(len);
+        self.texts.truncate(len);
     }
 }

@@ -1,7 +1,7 @@
-//! What a script of the whole language has stated: its names, assertions and options, command by command.
+//! What a script of the whole language has stated: its names, assertions, levels and options, command by command.
 //!
-//! The terms are in a table outside the stack. A command that is refused changes neither. Levels of assertions
-//! are kept, of which no command opens one yet.
+//! The terms are in a table of their own. A command that is refused changes neither. What is declared, defined
+//! and asserted at a level goes when `pop` closes it, from the table too.
 #![tactic(auto)]
 
 mod asserting;
@@ -9,6 +9,8 @@ mod assertions;
 mod declaring;
 mod faults;
 pub mod laws;
+mod leveling;
+mod marks;
 mod names;
 mod options;
 mod printing;
@@ -16,5 +18,7 @@ mod settings;
 mod stack;
 
 pub use assertions::Assertions;
+pub use leveling::LEVEL_LIMIT;
+pub use marks::{Mark, Marks};
 pub use options::Options;
 pub use stack::{Effect, Stack, TERM_LIMIT};

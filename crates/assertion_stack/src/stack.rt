@@ -4,11 +4,12 @@ ghost use Rattle.std.specs.Prelude.{◌≡◌, ℕ, [], length, OnErr, OnOk};
 ghost use Rattle.spec_commands.specs.Stack.{Stack as ScriptStack, empty_stack, performed, step};
 ghost use Rattle.smt_command.specs.Commands.{command_view};
 ghost use Rattle.smt_sexpr.specs.Items.{tree_of};
-ghost use Rattle.term_core.specs.Tables.{TableView, Extends};
+ghost use Rattle.term_core.specs.Tables.{TableView};
 ghost use Rattle.assertion_stack.specs.Stacks.{over_table, HasStack, IsStack, Performs, Steps, KeepsAtCheck};
 
 use crate::assertions::Assertions;
 use crate::faults::place_in;
+use crate::marks::Marks;
 use crate::options::Options;
 use crate::settings::{begin_check, set_logic, set_option};
 use smt_command::{Command, command};
@@ -22,7 +23,8 @@ use world_io::Bytes;
 /// The most names that a script may have, and the most different subterms that the terms of one command may have. It is own.
 pub const TERM_LIMIT: u64 = 1 << 24;
 
-/// What a script has stated: its names, its assertions, and its options. The terms are in a table outside it.
+/// What a script has stated: its names, its assertions, its levels, and its options. The terms are in a table of their
+/// own.
 ///
 /// Contracts see it as a `Stack` of the definitions, by the relation `IsStack`. While the table grows by terms alone, it
 /// stays the same stack (`stacks_hold_in_grown_tables`). Source: SMT-LIB 2.6, section 4.1.4.
@@ -34,6 +36,8 @@ pub struct Stack {
     pub scope: Scope,
     /// The assertions.
     pub assertions: Assertions,
+    /// How much there was of table, names and assertions when each level was opened.
+    pub marks: Marks,
     /// The options.
     pub options: Options,
     /// Whether a command has set the logic, or come without one.
@@ -69,6 +73,7 @@ impl Stack {
             limit,
             scope: Scope::new(alloc),
             assertions: Assertions::new(alloc),
+            marks: Marks::new(alloc),
             options: Options::new(),
             started: false,
         }
@@ -98,11 +103,11 @@ impl Stack {
         self.assertions.texts()
     }
 
-    /// Counts the levels above the first. No command opens one yet.
+    /// Counts the levels that are open above the first one.
     pub fn levels(&self) -> u64
-        ensures { result ≡ length self.now.assertions.starts }
+        ensures { result ≡ length self.now.marks }
     {
-        self.assertions.levels()
+        self.marks.len()
     }
 
     /// Takes the command that an s-expression is, and says what it is answered. The table has the terms of the stack.
@@ -110,12 +115,13 @@ impl Stack {
     /// - `Fault` has the command's first fault, with its place in the text. It is its head (`UnknownCommand`), then its own
     ///   shape (`BadShape` at its parenthesis), then its parts in reading order. These are for a new name `Reserved` and
     ///   `Twice`; for a sort `UnknownSort`, `Reserved` and `BadShape`; for a term those of `term_reader::term`. Then come
-    ///   `WrongMode` of `set-logic` and `BadShape` of an option's value at the parenthesis, and `UnknownLogic` at the name
-    ///   of a logic. `Full` at the parenthesis comes last.
+    ///   `WrongMode` of `set-logic`, `PopTooFar` of `pop` and `BadShape` of an option's value at the parenthesis, and
+    ///   `UnknownLogic` at the name of a logic. `Full` at the parenthesis comes last.
     /// - `Memory` may come at any allocation, and says nothing of the command.
     ///
-    /// After each of these stack and table are as they were. A check changes no more than that it ends the start. Its time
-    /// goes with no assertion that was made before. Source: SMT-LIB 2.6, sections 3.9 and 4.2.
+    /// After each of these stack and table are as they were. A check changes no more than that it ends the start. Numbers of
+    /// sorts, symbols and terms that `pop`, `reset-assertions` or `reset` takes away are given again. The time goes with no
+    /// assertion that was made before, but where it is taken away. Source: SMT-LIB 2.6, sections 3.9 and 4.2.
     pub fn command<'a>(
         &mut self,
         alloc: Global,
@@ -126,7 +132,6 @@ impl Stack {
         ensures steps { (limit : ℕ) (s : ScriptStack) → IsStack limit (over_table table.old self.old) s
             → Steps limit (step limit s (tree_of sexpr.now)) sexpr.now (over_table table.new self.new) result }
         ensures check { KeepsAtCheck result (over_table table.old self.old) (over_table table.new self.new) }
-        ensures kept { OnOk result (Extends table.old table.new) }
         ensures same { OnErr result ((self.new ≡ self.old) × (table.new ≡ table.old)) }
     {
         spec_commands::faults_are_in_their_command();
@@ -158,7 +163,6 @@ fn perform<'a>(
     ensures performs { (limit : ℕ) (s : ScriptStack) → IsStack limit (over_table table.old stack.old) s
         → Performs limit (performed limit at s (command_view command.entry)) (over_table table.new stack.new) result }
     ensures check { KeepsAtCheck result (over_table table.old stack.old) (over_table table.new stack.new) }
-    ensures kept { OnOk result (Extends table.old table.new) }
     ensures same { OnErr result ((stack.new ≡ stack.old) × (table.new ≡ table.old)) }
 {
     match command {
@@ -173,7 +177,11 @@ fn perform<'a>(
         }
         Command::DefineFun(parts) => stack.define(alloc, table, at, parts),
         Command::Assert(tree) => stack.assert(alloc, table, at, tree),
+        Command::Push(n) => stack.push(table, at, n),
+        Command::Pop(n) => stack.pop(table, at, n),
         Command::CheckSat(place) => Ok(begin_check(stack, place)),
+        Command::ResetAssertions => Ok(stack.reset_assertions(alloc, table)),
+        Command::Reset => Ok(stack.reset(alloc, table)),
         Command::Echo(text) => Ok(Effect::Say(text)),
         Command::Exit => Ok(Effect::Exit),
     }

@@ -16,10 +16,10 @@ returns-then-not-has_room-clause-performs c limit s h free =
     let v = c.args.stack.now.scope in
     let n = length v.sort_names + length v.names in
     let full : nat_lt n limit ≡ false = ap (nat_lt n) (sym h.limit_is) ∙ sym c.if-not-has_room.ensures in
-    rw c.refused.ensures (no_room limit c.args.at s (of_function (declared (symbol_of c.args.table.now.sorts c.args.name.now c.args.parameters.now c.args.gives))) n h.scope.count full)
+    rw c.refused.ensures (no_room limit c.args.at s (of_function (declared (symbol_of c.args.table.now.sorts c.args.name.now c.args.parameters.now c.args.gives))) n h.states.scope.count full)
 
 pub add_symbol-requires-clause-new : goal.add_symbol-requires-clause-new
-add_symbol-requires-clause-new c = let r = c.requires.new in ap (λ fs. symbol_named fs c.args.name.now) r.2.symbols ∙ no_symbol_named (signature_of r.1) c.args.name.now r.3
+add_symbol-requires-clause-new c = let r = c.requires.new in ap (λ fs. symbol_named fs c.args.name.now) r.2.states.symbols ∙ no_symbol_named (signature_of r.1) c.args.name.now r.3
 
 pub returns-in-Ok-clause-performs : goal.returns-in-Ok-clause-performs
 returns-in-Ok-clause-performs c limit s h free =
@@ -30,9 +30,9 @@ returns-in-Ok-clause-performs c limit s h free =
     let fits : nat_lt n limit ≡ true = ap (nat_lt n) (sym h.limit_is) ∙ sym c.if-not-has_room.ensures in
     let next = begun (with_declaration s (of_function (declared f))) in (
       did next,
-      has_place limit c.args.at s (of_function (declared f)) n h.scope.count fits,
+      has_place limit c.args.at s (of_function (declared f)) n h.states.scope.count fits,
       refl,
-      subst (λ y. IsStack limit y next) (λ i. over_table (sym c.in-Ok.ensures.declared i) (sym c.in-Ok.ensures.named i)) (symbol_stack limit t x s f h c.each_name_means_something.ensures.functions free),
+      subst (λ y. IsStack limit y next) (λ i. over_table (sym c.in-Ok.ensures.declared i) (sym c.in-Ok.ensures.named i)) (symbol_stack limit t x s h (record { each_sort = c.each_name_means_something.ensures.sorts; each_function = c.each_name_means_something.ensures.functions }) f free),
     )
 
 pub returns-in-Ok-clause-kept : goal.returns-in-Ok-clause-kept

@@ -10,7 +10,7 @@ use Rattle.assertion_stack.proofs.stack.Stack.assert.Goals as goal
 
 pub returns-in-Ok-add_written-clause-performs : goal.returns-in-Ok-add_written-clause-performs
 returns-in-Ok-add_written-clause-performs c limit s h =
-    let r = c.in-Ok.ensures.ends (signature_of s) h.scope in
+    let r = c.in-Ok.ensures.ends (signature_of s) h.states.scope in
     let x = c.args.self.now in
     let t = c.term.new.table in
     let y = record x { scope = c.term.new.scope } in
@@ -22,10 +22,10 @@ returns-in-Ok-add_written-clause-performs c limit s h =
       assert_done limit c.args.at s tree (room_meant c.room-room.result) (setting_meant c.in_script.result) room c.in_script.ensures r.reading r.read,
       refl,
       subst (λ z. IsStack limit (over_table t z) next) (sym added)
-          (one_asserted limit t y (with_definitions s r.reading.made) tree r.reading.term c.in-Ok.id (named limit c.args.table.now t x s c.term.new.scope r.reading.made h c.in-Ok.ensures.grows.keeps r.represents) r.term),
+          (one_asserted limit t y (with_definitions s r.reading.made) tree r.reading.term c.in-Ok.id (named limit c.args.table.now t x s c.term.new.scope r.reading.made h c.in-Ok.ensures.grows r.represents (record { each_sort = c.each_name_means_something.ensures.sorts; each_function = c.each_name_means_something.ensures.functions })) (record { each_sort = c.each_name_means_something-in-Ok.ensures.sorts; each_function = c.each_name_means_something-in-Ok.ensures.functions }) r.term),
     )
 
 pub returns-in-Err-clause-performs : goal.returns-in-Err-clause-performs
 returns-in-Err-clause-performs c limit s h =
     let room : room_meant c.room-room.result ≡ record { limit = Some limit; at = c.args.at } = ap room_meant c.room-room.ensures ∙ ap (λ l. record { limit = Some l; at = c.args.at }) h.limit_is in
-    assert_fails limit c.args.at s (tree_meant c.args.tree) (room_meant c.room-room.result) (setting_meant c.in_script.result) room c.in_script.ensures (store c.term.new.table c.term.new.scope) c.in-Err.stop (c.in-Err.ensures.ends (signature_of s) h.scope)
+    assert_fails limit c.args.at s (tree_meant c.args.tree) (room_meant c.room-room.result) (setting_meant c.in_script.result) room c.in_script.ensures (store c.term.new.table c.term.new.scope) c.in-Err.stop (c.in-Err.ensures.ends (signature_of s) h.states.scope)

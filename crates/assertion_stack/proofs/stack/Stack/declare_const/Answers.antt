@@ -16,23 +16,23 @@ use Rattle.assertion_stack.proofs.Stacks.{function_refused, result_refused, func
 use Rattle.assertion_stack.proofs.stack.Stack.declare_const.Goals as goal
 
 pub returns-in-Err-clause-performs : goal.returns-in-Err-clause-performs
-returns-in-Err-clause-performs c limit s h = function_refused limit c.args.at s (word_view c.args.word) none (tree_meant c.args.sort) (located_of c.in-Err.fault) (sym (c.in-Err.ensures c.args.table.now (signature_of s) h.scope))
+returns-in-Err-clause-performs c limit s h = function_refused limit c.args.at s (word_view c.args.word) none (tree_meant c.args.sort) (located_of c.in-Err.fault) (sym (c.in-Err.ensures c.args.table.now (signature_of s) h.states.scope))
 
 pub declare_over-requires-clause-new : goal.declare_over-requires-clause-new
 declare_over-requires-clause-new c =
     let r = c.requires in
     let g = signature_of r.1 in
     let name = c.in-Ok.name.now in
-    (r.0, r.1, r.2, unknown g name (not_taken script (is_function g) (word_view c.args.word) name (sym (c.in-Ok.ensures c.args.table.now g r.2.scope))))
+    (r.0, r.1, r.2, unknown g name (not_taken script (is_function g) (word_view c.args.word) name (sym (c.in-Ok.ensures c.args.table.now g r.2.states.scope))))
 
 pub returns-in-Ok-sort_in-clause-performs : goal.returns-in-Ok-sort_in-clause-performs
 returns-in-Ok-sort_in-clause-performs c limit s h =
     let t = c.args.table.now in
     let g = signature_of s in
     let name = c.in-Ok.name.now in
-    let named : new_name script (is_function g) (word_view c.args.word) ≡ Ok name = sym (c.in-Ok.ensures t g h.scope) in
+    let named : new_name script (is_function g) (word_view c.args.word) ≡ Ok name = sym (c.in-Ok.ensures t g h.states.scope) in
     let free : known_as g name ≡ None = unknown g name (not_taken script (is_function g) (word_view c.args.word) name named) in
-    let sort = c.in-Ok-sort_in.ensures t g h.scope in
+    let sort = c.in-Ok-sort_in.ensures t g h.states.scope in
     subst (λ a. Performs limit a (over_table c.declare_over.new.table c.declare_over.new.stack) c.declare_over.result)
     (sym (function_declared limit c.args.at s (word_view c.args.word) none (tree_meant c.args.sort) name [] (sort_meant t.sorts c.in-Ok-sort_in.gives) named (none_left g) sort.1))
     (c.declare_over.ensures.performs limit s h free)
@@ -41,7 +41,7 @@ pub returns-in-Err-sort_in-clause-performs : goal.returns-in-Err-sort_in-clause-
 returns-in-Err-sort_in-clause-performs c limit s h =
     let t = c.args.table.now in
     let g = signature_of s in
-    result_refused limit c.args.at s (word_view c.args.word) none (tree_meant c.args.sort) c.in-Ok.name.now [] (located_of c.in-Err-sort_in.fault) (sym (c.in-Ok.ensures t g h.scope)) (none_left g) (c.in-Err-sort_in.ensures t g h.scope)
+    result_refused limit c.args.at s (word_view c.args.word) none (tree_meant c.args.sort) c.in-Ok.name.now [] (located_of c.in-Err-sort_in.fault) (sym (c.in-Ok.ensures t g h.states.scope)) (none_left g) (c.in-Err-sort_in.ensures t g h.states.scope)
 
 pub declare_over-requires-clause-sorts : goal.declare_over-requires-clause-sorts
-declare_over-requires-clause-sorts c = let r = c.requires in (λ k d lt. absurd (omega (arith, lt)), (c.in-Ok-sort_in.ensures c.args.table.now (signature_of r.1) r.2.scope).0)
+declare_over-requires-clause-sorts c = let r = c.requires in (λ k d lt. absurd (omega (arith, lt)), (c.in-Ok-sort_in.ensures c.args.table.now (signature_of r.1) r.2.states.scope).0)

@@ -1,5 +1,5 @@
 -- Assertions and names that come last.
-use Rattle.std.proofs.Common.{◌≡◌, ◌+◌, List, [], ◌∷◌, ◌++◌, length, map, Some, refl, ap, ◌∙◌, if◌then◌else◌}
+use Rattle.std.proofs.Common.{◌≡◌, List, [], ◌∷◌, ◌++◌, Some, refl, ap, ◌∙◌, if◌then◌else◌}
 use Rattle.std.proofs.lemmas.List.{map-append}
 use Rattle.std.specs.Str.{bytes_eq}
 use Rattle.spec_text.specs.Bytes.{Name}
@@ -8,7 +8,7 @@ use Rattle.spec_sorts.specs.Signatures.{Definition, of_sort, of_function, Signat
 use Rattle.spec_sorts.specs.Signatures as signatures
 use Rattle.spec_commands.specs.Stack.{Assertion, Stack, joined, terms_asserted, with_last, with_declaration, with_definitions}
 use Rattle.spec_commands.proofs.Kept.{joined_last}
-use Rattle.assertion_stack.specs.Assertions.{starts_of, texts_printed}
+use Rattle.assertion_stack.specs.Assertions.{texts_printed}
 
 -- definitions more change nothing but the names
 pub rest_with : (s : Stack) (ds : List Definition) → with_definitions s ds ≡ record s { names = (with_definitions s ds).names }
@@ -21,13 +21,6 @@ sorts_with [] [] n = refl
 sorts_with [] (d ∷ ds) n = sorts_with [] ds n
 sorts_with (of_sort m r ∷ s) ds n = ap (λ o. if bytes_eq m n then Some r else o) (sorts_with s ds n)
 sorts_with (of_function k ∷ s) ds n = sorts_with s ds n
-
--- an assertion more opens no level
-pub starts_last : (ls : List (List Assertion)) (a : Assertion) → starts_of (with_last ls a) ≡ starts_of ls
-starts_last [] a = refl
-starts_last (l ∷ []) a = refl
-starts_last (l ∷ m ∷ []) a = refl
-starts_last (l ∷ m ∷ n ∷ ls) a = ap (λ x. length l ∷ map (λ k. length l + k) x) (starts_last (m ∷ n ∷ ls) a)
 
 -- the terms with one more
 pub terms_last : (ls : List (List Assertion)) (a : Assertion) → terms_asserted (joined (with_last ls a)) ≡ terms_asserted (joined ls) ++ a.term ∷ []
