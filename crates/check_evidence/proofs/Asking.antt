@@ -6,8 +6,10 @@ use Rattle.spec_sorts.specs.Terms.{Term}
 use Rattle.spec_sorts.specs.Signatures.{symbols_in}
 use Rattle.spec_sorts.specs.WellSorted.{IsFormulaOver}
 use Rattle.spec_commands.specs.Stack.{Assertion, Stack, signature_of, assertions_of, terms_asserted}
+use Rattle.spec_commands.proofs.Carried.{here}
 use Rattle.spec_arithmetic.specs.Numbers.{IsLinear}
-use Rattle.spec_proof_texts.specs.Readable.{HasDecimals, IsReadableWhole}
+use Rattle.spec_proof_texts.specs.ReadBack.{AreScriptNames, HaveScriptNames}
+use Rattle.spec_proof_texts.specs.Readable.{HasDecimals, IsReadableWhole, AreReadable, HaveReadableDefinitions}
 use Rattle.spec_proof_texts.proofs.Search.{argument_readable}
 use Rattle.spec_derivations.specs.Problems.{known_terms, subterms_in}
 use Rattle.spec_derivations.specs.Examples.{asserting, speaking}
@@ -20,6 +22,14 @@ use Rattle.assertion_stack.specs.Stacks.{over_table, IsStack}
 use Rattle.search_loop.specs.Answered.{AreAnswered}
 use Rattle.solve_core.proofs.SearchAgreed.{shared_subterm}
 
+-- what can be read back up to each level can at the last one
+pub readable_here : (s : Stack) → HaveReadableDefinitions s → AreReadable (signature_of s)
+readable_here s h = here (λ g assertions. AreReadable g) s h
+
+-- and so can names be printed
+pub names_here : (s : Stack) → HaveScriptNames s → AreScriptNames (signature_of s)
+names_here s h = here (λ g assertions. AreScriptNames g) s h
+
 -- the terms of assertions can be read where each of these can
 pub asserted_readable : (xs : List Assertion) → All (λ (a : Assertion). IsReadableWhole a.term) xs → All IsReadableWhole (terms_asserted xs)
 asserted_readable xs each = All-map IsReadableWhole (λ (a : Assertion). a.term) xs each
@@ -29,15 +39,15 @@ module _ (limit : ℕ) (t : TableView) (x : CodeStack) (s : Stack) (h : IsStack 
   pub formulas_asked : All (λ (a : Assertion). IsFormulaOver (symbols_in (signature_of s)) a.term) (assertions_of s) → AreFormulasIn t x.assertions.ids
   formulas_asked each =
       let ids = x.assertions.ids in
-      let over = subst (λ fs. All (IsFormulaOver fs) (terms_asserted (assertions_of s))) (sym h.symbols)
+      let over = subst (λ fs. All (IsFormulaOver fs) (terms_asserted (assertions_of s))) (sym h.states.symbols)
       (All-map (IsFormulaOver (symbols_in (signature_of s))) (λ (a : Assertion). a.term) (assertions_of s) each) in
-      let here : All (IsFormulaOver t.symbols) (clause_at t ids) = subst (All (IsFormulaOver t.symbols)) (sym h.terms) over in
-      λ k d lt. (h.inside k d lt, subst (IsFormulaOver t.symbols) (get_or-map (term_at t) ids k d (term_at t d) lt) (here k (term_at t d) (omega (arith, length-map ids (term_at t), lt))))
+      let here : All (IsFormulaOver t.symbols) (clause_at t ids) = subst (All (IsFormulaOver t.symbols)) (sym h.states.terms) over in
+      λ k d lt. (h.states.inside k d lt, subst (IsFormulaOver t.symbols) (get_or-map (term_at t) ids k d (term_at t d) lt) (here k (term_at t d) (omega (arith, length-map ids (term_at t), lt))))
 
   -- for which the search answers, where they can be read
   pub answered_asked : All (λ (a : Assertion). IsReadableWhole a.term) (assertions_of s) → AreAnswered (clause_at t x.assertions.ids)
   answered_asked each =
-      subst AreAnswered (sym h.terms) (All-weaker IsReadableWhole IsLinear (λ u r. r.0) (terms_asserted (assertions_of s)) (asserted_readable (assertions_of s) each))
+      subst AreAnswered (sym h.states.terms) (All-weaker IsReadableWhole IsLinear (λ u r. r.0) (terms_asserted (assertions_of s)) (asserted_readable (assertions_of s) each))
 
 -- subterms of terms that can be read can be read
 subterm_readable : (ts : List Term) → All IsReadableWhole ts → (u : Term) → Contains (subterms_in (asserting ts)) u → IsReadableWhole u

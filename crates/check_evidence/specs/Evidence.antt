@@ -2,9 +2,9 @@
 use Rattle.std.specs.Prelude.{◌≡◌, ℕ, [], map, Result, Ok, Err}
 use Rattle.no_memory.specs.declared.NoMemory.{NoMemory}
 use Rattle.spec_sorts.specs.Values.{Interpretation, Interprets}
-use Rattle.spec_commands.specs.Stack.{Stack, signature_of, terms_asserted, assertions_of}
-use Rattle.spec_proof_texts.specs.Readable.{AreReadable}
+use Rattle.spec_commands.specs.Stack.{Stack, terms_asserted, assertions_of}
 use Rattle.spec_commands.specs.Checks.{Check}
+use Rattle.spec_proof_texts.specs.Readable.{HaveReadableDefinitions}
 use Rattle.spec_derivations.specs.Derivations.{Derivation}
 use Rattle.spec_proof_texts.specs.Lines.{proof_text}
 use Rattle.spec_proof_texts.specs.Plans.{Plan, IsPlan, lines_of}
@@ -49,10 +49,10 @@ checked_on s f = record { check = check_on s; found = f }
 pub record IsHeld (terms : ℕ) (x : OverTable) (s : Stack) : Type 0 where
   -- it is the stack
   pub stack : IsStack terms x s
-  -- commands left it, and its names can be printed
+  -- commands left it, and its names can be printed, up to each level
   pub kept : IsKeptCheck terms (check_on s)
-  -- its definitions stand for terms that can be read back
-  pub readable : AreReadable (signature_of s)
+  -- its definitions stand for terms that can be read back, up to each level
+  pub readable : HaveReadableDefinitions s
 
 -- it represents some stack
 abbrev pub HoldsSome : ℕ → OverTable → Type 0

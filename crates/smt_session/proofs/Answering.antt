@@ -16,7 +16,7 @@ use Rattle.assertion_stack.specs.Stacks.{OverTable}
 use Rattle.check_evidence.specs.Evidence.{limits_meant, check_on, checked_on, IsHeld}
 use Rattle.smt_session.specs.declared.responses.Response.{Response as CodeResponse}
 use Rattle.smt_session.specs.declared.responses.Response.TheVariants as responses
-use Rattle.smt_session.specs.Sessions.{SessionView, stated, IsResponse, IsResponseOf, IsAskedOf, LearnsBy, KeepsBudget, AnswersCommand, HasLists, ResponseMeans, IsAnswered}
+use Rattle.smt_session.specs.Sessions.{SessionView, stated, IsResponse, IsResponseOf, IsAskedOf, LearnsBy, KeepsBudget, KeepsStated, AnswersCommand, HasLists, RefusedKeeps, ResponseMeans, IsAnswered}
 
 -- what a response says of the lists of a budget
 keeps_lists : (text : List ℕ) (r : CodeResponse) (a : Answered) (old new : SessionView) → IsResponse new.table text new.budget r a.response → LearnsBy (limits_meant old.limits) new.table a.response a.stack new.budget → KeepsBudget (Ok r) old.budget new.budget → HasLists a.response a.stack old new
@@ -27,6 +27,17 @@ keeps_lists text responses.Ended a old new is learned keeps = subst (λ x. HasLi
 keeps_lists text (responses.Rejected x) a old new is learned keeps = subst (λ y. HasLists y a.stack old new) (sym is.0) keeps
 keeps_lists text (responses.Answered e) a old new (c, evidence, is) learned keeps =
     subst (λ y. HasLists y a.stack old new) (sym is) (subst (λ y. LearnsBy (limits_meant old.limits) new.table y a.stack new.budget) is learned)
+
+-- nor does a command that is refused change anything else
+keeps_session : (text : List ℕ) (r : CodeResponse) (a : Answered) (old new : SessionView) → IsResponse new.table text new.budget r a.response → (new.limits ≡ old.limits) × (new.mode ≡ old.mode) → KeepsBudget (Ok r) old.budget new.budget → KeepsStated (Ok r) (stated old) (stated new) → RefusedKeeps a.response old new
+keeps_session text responses.Success a old new is same budget kept = subst (λ x. RefusedKeeps x old new) (sym is) tt
+keeps_session text responses.Unsupported a old new is same budget kept = subst (λ x. RefusedKeeps x old new) (sym is) tt
+keeps_session text (responses.Echoed s) a old new is same budget kept = subst (λ x. RefusedKeeps x old new) (sym is) tt
+keeps_session text responses.Ended a old new is same budget kept = subst (λ x. RefusedKeeps x old new) (sym is) tt
+keeps_session text (responses.Answered e) a old new (c, evidence, is) same budget kept = subst (λ x. RefusedKeeps x old new) (sym is) tt
+keeps_session text (responses.Rejected x) a old new is same budget kept =
+    let whole : new ≡ old = λ i. record { table = (kept i).table; stack = (kept i).stack; limits = same.0 i; mode = same.1 i; budget = budget i } in
+    subst (λ y. RefusedKeeps y old new) (sym is.0) whole
 
 -- the law on what was found
 abbrev pub MeansSo : Type 0
@@ -53,13 +64,14 @@ means_so law limits s t a answers asked kept = by_step (step limits.terms s t) a
     by_step (Err f) (is, same) = subst ResponseMeans (sym is) tt
 
 -- a command that was taken is answered
-pub is_answered : MeansSo → (s : Stack) (x : Sexpr) (r : CodeResponse) (old new : SessionView) (taken : AnswersCommand (limits_meant old.limits) s x r (stated new) new.budget) → new.limits ≡ old.limits → KeepsBudget (Ok r) old.budget new.budget → IsAnswered s x old new taken.a
-is_answered law s x r old new taken same kept = record {
+pub is_answered : MeansSo → (s : Stack) (x : Sexpr) (r : CodeResponse) (old new : SessionView) (taken : AnswersCommand (limits_meant old.limits) s x r (stated new) new.budget) → (new.limits ≡ old.limits) × (new.mode ≡ old.mode) → KeepsBudget (Ok r) old.budget new.budget → KeepsStated (Ok r) (stated old) (stated new) → IsAnswered s x old new taken.a
+is_answered law s x r old new taken same budget kept = record {
   answers = taken.answers;
-  represents = subst (λ (l : CodeLimits). IsHeld l.terms (stated new) taken.a.stack) (sym same) taken.held;
+  represents = subst (λ (l : CodeLimits). IsHeld l.terms (stated new) taken.a.stack) (sym same.0) taken.held;
   asked = taken.asked;
   means = means_so law (limits_meant old.limits) s (tree_of x) taken.a taken.answers taken.asked taken.held.kept;
-  lists = keeps_lists (text_of x) r taken.a old new taken.is taken.learned kept;
+  lists = keeps_lists (text_of x) r taken.a old new taken.is taken.learned budget;
+  refused = keeps_session (text_of x) r taken.a old new taken.is same budget kept;
 }
 
 -- what was found at a check of a stack
@@ -71,6 +83,6 @@ pub is_response : (limits : Limits) (s : Stack) (x : Sexpr) (r : CodeResponse) (
 is_response limits s x r z budget taken = record {
   is = taken.is;
   asked = taken.asked;
-  symbols = sym taken.held.stack.symbols;
+  symbols = sym taken.held.stack.states.symbols;
   option = sym (ap (λ o. o.print_success) taken.held.stack.options);
 }

@@ -6,7 +6,7 @@ use Rattle.spec_text.specs.Lexemes.{Lexeme, lexemes_from}
 use Rattle.spec_text.specs.Trees.{Tree, spelled}
 use Rattle.spec_commands.specs.Stack.{Stack, Effect, Taken, empty_stack, signature_of, step}
 use Rattle.spec_commands.specs.Kept.{IsAsserted, IsSoundStack}
-use Rattle.spec_proof_texts.specs.ReadBack.{AreScriptNames}
+use Rattle.spec_proof_texts.specs.ReadBack.{HaveScriptNames}
 use Rattle.spec_sessions.specs.Evidence.{Limits}
 use Rattle.spec_sessions.specs.Responses.{Response, rejected, Answered, Responds, AnswersBy, Answers}
 use Rattle.spec_sessions.specs.Meaning.{IsKeptCheck}
@@ -19,13 +19,13 @@ use Rattle.term_core.specs.Tables.{TableView}
 use Rattle.sat_budget.specs.Budgets.{BudgetView}
 use Rattle.assertion_stack.specs.declared.stack.Stack.{Stack as CodeStack}
 use Rattle.assertion_stack.specs.Stacks.{OverTable, over_table, IsStack, Steps}
-use Rattle.spec_proof_texts.specs.Readable.{AreReadable}
+use Rattle.spec_proof_texts.specs.Readable.{HaveReadableDefinitions}
 use Rattle.check_evidence.specs.Evidence.{check_on, IsHeld}
 use Rattle.smt_session.specs.declared.responses.Response.{Response as CodeResponse}
-use Rattle.smt_session.specs.Sessions.{KeepsBudget, Rejects, TakesScriptCommand}
+use Rattle.smt_session.specs.Sessions.{KeepsBudget, KeepsStated, Rejects, TakesScriptCommand}
 
 -- nothing is stated at first
-pub first_held : (limit : ℕ) (t : TableView) (x : CodeStack) → t ≡ record { sorts = []; symbols = []; terms = [] } → ((u : TableView) → u.sorts ≡ [] → u.symbols ≡ [] → IsStack limit (over_table u x) empty_stack) → IsSoundStack limit empty_stack → AreScriptNames (signature_of empty_stack) → AreReadable (signature_of empty_stack) → IsHeld limit (over_table t x) empty_stack
+pub first_held : (limit : ℕ) (t : TableView) (x : CodeStack) → t ≡ record { sorts = []; symbols = []; terms = [] } → ((u : TableView) → u.sorts ≡ [] → u.symbols ≡ [] → IsStack limit (over_table u x) empty_stack) → IsSoundStack limit empty_stack → HaveScriptNames empty_stack → HaveReadableDefinitions empty_stack → IsHeld limit (over_table t x) empty_stack
 first_held limit t x e represents kept names readable = record {
   stack = represents t (ap (λ (u : TableView). u.sorts) e) (ap (λ (u : TableView). u.symbols) e);
   kept = record { stack = kept; assumptions = All-nil (IsAsserted limit (signature_of empty_stack)); names = names };
@@ -37,7 +37,7 @@ abbrev pub NextIsKept : Type 0
 NextIsKept = (limit : ℕ) (s : Stack) (t : Tree) (d : Taken) → step limit s t ≡ Ok d → IsSoundStack limit s → IsSoundStack limit d.stack
 
 abbrev pub NextHasNames : Type 0
-NextHasNames = (limit : ℕ) (s : Stack) (text : List ℕ) (from : ℕ) (t : Tree) (rest : List (ℕ × Lexeme)) (d : Taken) → lexemes_from text from ≡ spelled t ++ rest → step limit s t ≡ Ok d → AreScriptNames (signature_of s) → AreScriptNames (signature_of d.stack)
+NextHasNames = (limit : ℕ) (s : Stack) (text : List ℕ) (from : ℕ) (t : Tree) (rest : List (ℕ × Lexeme)) (d : Taken) → lexemes_from text from ≡ spelled t ++ rest → step limit s t ≡ Ok d → HaveScriptNames s → HaveScriptNames d.stack
 
 -- after a command that was taken there is a check that commands left
 pub kept_on : NextIsKept → NextHasNames → (limit : ℕ) (s : Stack) (x : Sexpr) (d : Taken) → step limit s (tree_of x) ≡ Ok d → IsKeptCheck limit (check_on s) → IsKeptCheck limit (check_on d.stack)
@@ -75,3 +75,9 @@ pub refused_keeps : (stop : Refused) (budget : BudgetView) (result : Result Code
 refused_keeps (refusals.Fault r) budget result is = subst (λ y. KeepsBudget y budget budget) (sym is) refl
 refused_keeps refusals.Memory budget (Ok r) is = cc
 refused_keeps refusals.Memory budget (Err e) is = refl
+
+-- nor, where it is refused, table and stack
+pub refused_states : (stop : Refused) (old new : OverTable) (result : Result CodeResponse NoMemory) → new ≡ old → Rejects stop result → KeepsStated result old new
+refused_states (refusals.Fault r) old new result same is = subst (λ y. KeepsStated y old new) (sym is) same
+refused_states refusals.Memory old new (Ok r) same is = cc
+refused_states refusals.Memory old new (Err e) same is = tt

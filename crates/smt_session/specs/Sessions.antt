@@ -77,6 +77,11 @@ abbrev pub KeepsBudget : Result CodeResponse NoMemory → BudgetView → BudgetV
 KeepsBudget (Ok (responses.Answered e)) old new = Unit {0}
 KeepsBudget _ old new = new ≡ old
 
+-- a command that is refused changes neither table nor stack
+abbrev pub KeepsStated : Result CodeResponse NoMemory → OverTable → OverTable → Type 0
+KeepsStated (Ok (responses.Rejected r)) old new = new ≡ old
+KeepsStated _ old new = Unit {0}
+
 -- A command is answered after a stack, and the script represents the stack after it.
 pub record AnswersCommand (limits : Limits) (s : Stack) (c : Sexpr) (response : CodeResponse) (x : OverTable)
     (budget : BudgetView) : Type 0 where
@@ -136,6 +141,11 @@ abbrev pub HasLists : Response → Stack → SessionView → SessionView → Typ
 HasLists (answered c) s old new = HasLearned (limits_meant old.limits) new.table s c.found new.budget
 HasLists _ s old new = new.budget ≡ old.budget
 
+-- a command that is refused changes nothing of a session
+abbrev pub RefusedKeeps : Response → SessionView → SessionView → Type 0
+RefusedKeeps (rejected f) old new = new ≡ old
+RefusedKeeps _ old new = Unit {0}
+
 -- what the answer of a check means, where the response is one
 abbrev pub ResponseMeans : Response → Type 0
 ResponseMeans (answered c) = MeansAt c.check c.found
@@ -153,6 +163,8 @@ pub record IsAnswered (s : Stack) (x : Sexpr) (old new : SessionView) (a : Answe
   pub means : ResponseMeans a.response
   -- the lists of its budget
   pub lists : HasLists a.response a.stack old new
+  -- where it is refused, the whole session is as it was
+  pub refused : RefusedKeeps a.response old new
 
 -- what is written for the response to a command
 abbrev pub written_for : SessionView → Sexpr → Answered → List ℕ

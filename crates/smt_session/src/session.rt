@@ -6,7 +6,7 @@ ghost use Rattle.spec_commands.specs.Stack.{Stack as ScriptStack, empty_stack};
 ghost use Rattle.assertion_stack.specs.Stacks.{over_table};
 ghost use Rattle.search_loop.specs.Rounds.{HasLimits};
 ghost use Rattle.check_evidence.specs.Evidence.{limits_meant, IsHeld, HoldsSome};
-ghost use Rattle.smt_session.specs.Sessions.{IsSession, TakesScriptCommand, KeepsBudget, Rejects, Stepped};
+ghost use Rattle.smt_session.specs.Sessions.{IsSession, TakesScriptCommand, KeepsBudget, KeepsStated, Rejects, Stepped};
 
 use crate::mode::Mode;
 use crate::responses::{Response, after_of, send_response};
@@ -30,7 +30,7 @@ use world_io::{Failed, Sink};
 pub enum After {
     /// It was taken; the session goes on.
     Went,
-    /// It was refused, and changed nothing; the session goes on.
+    /// It was refused, and changed nothing: the whole session is the same as before it, and goes on.
     Refused,
     /// It ended the script.
     Ended,
@@ -123,9 +123,10 @@ impl Session {
     /// Takes the command that an s-expression is, and writes what it is answered.
     ///
     /// It takes its memory first, then changes the session, then writes, and passes on what was written: then nothing waits
-    /// in a buffer. `Memory` comes where memory ran out: the session is the same as before the command, and nothing was written.
-    /// `Sink` comes only where the sink's count of faults rose in this call, and there was no room for the response: the
-    /// session is as after the command, and a prefix of its response was written.
+    /// in a buffer. A command that is refused changes nothing: the whole session is the same as before it, with its table,
+    /// its stack and its budget. `Memory` comes where memory ran out: the session is the same as before the command, too,
+    /// and nothing was written. `Sink` comes only where the sink's count of faults rose in this call, and there was no room
+    /// for the response: the session is as after the command, and a prefix of its response was written.
     /// Source: SMT-LIB 2.6, sections 3.9 and 4.2.
     pub fn step<K: Sink>(&mut self, command: &Sexpr<'_>, out: &mut K) -> Result<After, Halt>
         ensures same { (self.new.limits ≡ self.old.limits) × (self.new.mode ≡ self.old.mode) }
@@ -150,7 +151,8 @@ impl Session {
     }
 }
 
-/// Takes a command: all that it changes, but nothing is written. Where memory runs out nothing is changed.
+/// Takes a command: all that it changes, but nothing is written. Where it is refused, or memory runs out, nothing is
+/// changed.
 fn take<'a>(
     alloc: Global,
     table: &mut TermTable,
@@ -165,6 +167,7 @@ fn take<'a>(
     ensures table { OnErr result (table.new ≡ table.old) }
     ensures stack { OnErr result (stack.new ≡ stack.old) }
     ensures budget { KeepsBudget result budget.old budget.new }
+    ensures refused { KeepsStated result (over_table table.old stack.old) (over_table table.new stack.new) }
     ensures limits { HasLimits limits.now budget.old → HasLimits limits.now budget.new }
 {
     commands_keep_stacks();

@@ -7,7 +7,7 @@ use Rattle.assertion_stack.proofs.Back.{table_back}
 use Rattle.search_loop.specs.Answered.{AreAnswered}
 use Rattle.solve_core.specs.Decisions.{HasDecision}
 use Rattle.check_evidence.specs.Evidence.{limits_meant, IsHeld}
-use Rattle.check_evidence.proofs.Asking.{formulas_asked, answered_asked}
+use Rattle.check_evidence.proofs.Asking.{readable_here, formulas_asked, answered_asked}
 use Rattle.check_evidence.proofs.evidence.check.Goals as goal
 
 pub decide-requires-clause-roots : goal.decide-requires-clause-roots
@@ -26,20 +26,20 @@ decide-requires-clause-answered c =
     let h = c.requires.held.1 in
     let limit = c.args.limits.now.terms in
     subst (λ ids. AreAnswered (clause_at t ids)) (sym c.as_slice.ensures)
-    (answered_asked limit t c.args.stack.now s h.stack (c.assertions_are_readable.ensures limit s h.kept.stack h.readable))
+    (answered_asked limit t c.args.stack.now s h.stack (c.assertions_are_readable.ensures limit s h.kept.stack (readable_here s h.readable)))
 
 pub returns-in-Ok-clause-checks : goal.returns-in-Ok-clause-checks
 returns-in-Ok-clause-checks c = λ s h.
     let t = c.args.table.now in
     let l = c.args.limits.now in
     let d = c.in_ok-outcome.ensures in
-    let terms = ap (clause_at t) c.as_slice.ensures ∙ h.stack.terms in
+    let terms = ap (clause_at t) c.as_slice.ensures ∙ h.stack.states.terms in
     let decided = subst (λ us. HasDecision c.decide.new.table us l c.in_ok-outcome.outcome) terms d.decided in
     record {
       outcome = c.in_ok-outcome.outcome;
       decided = decided;
       budget_is = rw c.in-Ok.learned-is c.in-Ok.ensures.budget;
-      shown = rw c.in-Ok.evidence-is (c.in-Ok.ensures.shown (limits_meant l) s h.kept h.readable (sym h.stack.symbols ∙ sym (ap (λ v. v.symbols) d.declared)) decided);
+      shown = rw c.in-Ok.evidence-is (c.in-Ok.ensures.shown (limits_meant l) s h.kept (readable_here s h.readable) (sym h.stack.states.symbols ∙ sym (ap (λ v. v.symbols) d.declared)) decided);
       held = record {
         stack = c.stacks_hold_in_grown_tables.ensures l.terms t c.decide.new.table c.args.stack.now s h.stack (record { extends = d.grown; declared = d.declared });
         kept = h.kept;

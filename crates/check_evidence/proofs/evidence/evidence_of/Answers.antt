@@ -14,7 +14,7 @@ use Rattle.proof_log.specs.Logs.{inference_of, derivation_in}
 use Rattle.spec_proof_texts.specs.Readable.{IsReadableWhole}
 use Rattle.search_loop.specs.Rounds.{HasLogged, HasEvidence}
 use Rattle.check_evidence.specs.Evidence.{check_on}
-use Rattle.check_evidence.proofs.Asking.{asserted_readable, known_readable}
+use Rattle.check_evidence.proofs.Asking.{names_here, asserted_readable, known_readable}
 use Rattle.check_evidence.proofs.Printed.{printed_readable}
 use Rattle.check_evidence.proofs.Showing.{model_shown, reason_shown}
 use Rattle.check_evidence.proofs.evidence.evidence_of.Goals as goal
@@ -52,7 +52,7 @@ returns-in_ok-plan-in-Unsat-clause-shown c = λ limits s kept readable symbols h
       number = n;
       derived = subst (λ us. IsDerivedFrom us d n) (append-nil asked ∙ sym (ap terms_asserted (append-nil (assertions_of s)))) shown.1;
       empty = shown.0;
-      printable = c.terms_are_printable.ensures (signature_of s) o.log n kept.names (λ f i. subst (λ fs. Contains fs f) (sym symbols) i) j.log_right
+      printable = c.terms_are_printable.ensures (signature_of s) o.log n (names_here s kept.names) (λ f i. subst (λ fs. Contains fs f) (sym symbols) i) j.log_right
           (omega (arith, shown.1.there, length-map o.log (inference_of t)))
           (λ u q. let r = printed u q in c.linear_terms_with_decimals_are_readable.ensures u r.0 r.1);
       plan = p;

@@ -5,7 +5,7 @@ use Rattle.spec_sessions.specs.Responses.{success, not_supported, answered, echo
 use Rattle.smt_sexpr.specs.Items.{tree_of}
 use Rattle.assertion_stack.specs.Stacks.{OverTable, over_table}
 use Rattle.check_evidence.specs.Evidence.{limits_meant, checked_on, IsHeld, IsEvidence}
-use Rattle.smt_session.proofs.Taking.{kept_on, taken_as, back, refused_as, refused_keeps}
+use Rattle.smt_session.proofs.Taking.{kept_on, taken_as, back, refused_as, refused_keeps, refused_states}
 use Rattle.smt_session.proofs.session.take.Goals as goal
 
 pub returns-in-Ok-Done-clause-takes : goal.returns-in-Ok-Done-clause-takes
@@ -76,6 +76,13 @@ returns-in-Err-clause-takes c = λ s h.
 
 pub returns-in-Err-clause-budget : goal.returns-in-Err-clause-budget
 returns-in-Err-clause-budget c = refused_keeps c.in-Err.stop c.args.budget.now c.rejected.result c.rejected.ensures
+
+pub returns-in-Err-clause-refused : goal.returns-in-Err-clause-refused
+returns-in-Err-clause-refused c =
+    let same = c.in-Err.ensures.same in
+    let old = over_table c.args.table.now c.args.stack.now in
+    let new = over_table c.command.new.table c.command.new.self in
+    refused_states c.in-Err.stop old new c.rejected.result (λ i. over_table (same.1 i) (same.0 i)) c.rejected.ensures
 
 pub returns-in-Err-check-clause-stack : goal.returns-in-Err-check-clause-stack
 returns-in-Err-check-clause-stack c =

@@ -17,7 +17,7 @@ returns-clause-stepped g c = λ s h.
     let new : SessionView = record { table = c.take.new.table; stack = c.take.new.stack; limits = i.limits; mode = i.mode; budget = c.take.new.budget } in
     let held : IsHeld i.limits.terms (over_table i.table i.stack) s = rw (← c.self.view_is) at h in
     let k = c.in_ok-response.ensures.takes s held in
-    let so = is_answered c.what_is_shown_is_so.ensures.at s x r old new k refl c.in_ok-response.ensures.budget in
+    let so = is_answered c.what_is_shown_is_so.ensures.at s x r old new k (refl, refl) c.in_ok-response.ensures.budget c.in_ok-response.ensures.refused in
     let of = is_response (limits_meant i.limits) s x r (over_table c.take.new.table c.take.new.stack) c.take.new.budget k in
     let w = c.in-Err.ensures (text_of x) c.take.new.budget k.a of in (
       k.a,
@@ -34,7 +34,7 @@ returns-in-Ok-clause-stepped g c = λ s h.
     let new : SessionView = record { table = c.take.new.table; stack = c.take.new.stack; limits = i.limits; mode = i.mode; budget = c.take.new.budget } in
     let held : IsHeld i.limits.terms (over_table i.table i.stack) s = rw (← c.self.view_is) at h in
     let k = c.in_ok-response.ensures.takes s held in
-    let so = is_answered c.what_is_shown_is_so.ensures.at s x r old new k refl c.in_ok-response.ensures.budget in
+    let so = is_answered c.what_is_shown_is_so.ensures.at s x r old new k (refl, refl) c.in_ok-response.ensures.budget c.in_ok-response.ensures.refused in
     let of = is_response (limits_meant i.limits) s x r (over_table c.take.new.table c.take.new.stack) c.take.new.budget k in
     let w = c.in-Ok.ensures (text_of x) c.take.new.budget k.a of in (
       k.a,
