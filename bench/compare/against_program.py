@@ -23,6 +23,9 @@ numbers                scripts over linear real arithmetic, Bool, declared sorts
                        some scripts are solved, too, and put to z3 and cvc5
 mixed                  the same of scripts in which functions take and give numbers; some are damaged, and some proofs
                        are changed, too
+levels                 scripts with `push`, `pop`, `reset-assertions` and `reset`, by `certify`, each proof given back to
+                       `check`; each check is also asked alone, as a script of its own, and has to have the same answer
+resets                 scripts in one text with `reset` between them, which have to be answered as each is alone
 
 With --only these kinds alone are run. Whether there is a model is known from truth tables, or else by trying values up
 to a bound (bench/compare/models.py). Where that is too much, and where there are numbers, the model, the proof or the
@@ -50,6 +53,7 @@ from forms import SCRIPTS, a_form
 from function_scripts import a_function_script
 from judging import predict_check
 from layout import damaged, laid_out, tree_of_item
+from level_scripts import MAKERS, a_level_script, several_scripts, single_checks
 from mixed_scripts import a_mixed_script
 from number_scripts import a_number_script
 from others import answers_in, answers_of, are_at_odds, solvers
@@ -312,6 +316,33 @@ def mixed(comparison):
         comparison.solve(damaged(laid_out(script, NAMES)))
 
 
+def levels(comparison):
+    script = a_level_script()
+    comparison.count(script)
+    for number, proof in comparison.certify(script):
+        comparison.accept(script, number, proof)
+    output = comparison.run(["solve"], script)[0]
+    own = answers_in(output)
+    alone = [answer for single in single_checks(script) for answer in answers_in(comparison.run(["solve"], single)[0])]
+    if are_at_odds(own, alone):
+        comparison.tell(f"in levels {own!r}, and alone {alone!r}", script)
+    if b"(error " not in output and random.random() < SOLVED_SHARE:
+        comparison.ask_others(script)
+
+
+def resets(comparison):
+    texts = several_scripts(MAKERS)
+    joined = b"(reset)\n".join(texts)
+    word = random.choice(["solve", "certify"])
+    outputs, line = [], 0
+    for text in texts:
+        outputs.append(comparison.run([word], b"\n" * line + text)[0])
+        line += text.count(b"\n") + 1
+    output, _, errors = comparison.run([word], joined)
+    if output != b"success\n".join(outputs) or errors:
+        comparison.tell(f"{word} of all answers {output!r}, and of each {outputs!r}", joined)
+
+
 KINDS = {
     "solve well-formed": solve_well_formed,
     "solve ill-formed": solve_ill_formed,
@@ -325,6 +356,8 @@ KINDS = {
     "few conflicts": few_conflicts,
     "numbers": numbers,
     "mixed": mixed,
+    "levels": levels,
+    "resets": resets,
 }
 
 

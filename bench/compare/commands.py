@@ -5,6 +5,8 @@ from reading import Fault, error_line, read_one
 from terms import BOOL
 
 LOGICS = (b"QF_UFLRA", b"QF_UF", b"QF_LRA", b"QF_RDL", b"ALL")
+MOST_LEVELS = 1_000_000
+GREATEST_NUMBER = 2**64 - 1
 OPTIONS = (b":print-success", b":produce-models", b":produce-proofs", b":produce-assertions")
 
 
@@ -110,6 +112,49 @@ def assert_term(state, parts, start):
     return "success"
 
 
+def levels_of(parts, start):
+    """Returns the number of levels that `push` or `pop` has: 1 where none is written, and at most 2^64 - 1."""
+    if len(parts) == 1:
+        return 1
+    if len(parts) != 2 or parts[1][0] != "num":
+        raise Fault(start, b"BadShape")
+    return min(int(parts[1][1]), GREATEST_NUMBER)
+
+
+def push(state, parts, start):
+    """Performs `push`."""
+    count = levels_of(parts, start)
+    if len(state.levels) + count > MOST_LEVELS:
+        raise Fault(start, b"Full")
+    state.open_levels(count)
+    return "success"
+
+
+def pop(state, parts, start):
+    """Performs `pop`."""
+    count = levels_of(parts, start)
+    if count > len(state.levels):
+        raise Fault(start, b"PopTooFar")
+    state.close_levels(count)
+    return "success"
+
+
+def reset_assertions(state, parts, start):
+    """Performs `reset-assertions`."""
+    if len(parts) != 1:
+        raise Fault(start, b"BadShape")
+    state.forget_assertions()
+    return "success"
+
+
+def reset(state, parts, start):
+    """Performs `reset`."""
+    if len(parts) != 1:
+        raise Fault(start, b"BadShape")
+    state.forget_all()
+    return "success"
+
+
 def check_sat(_state, parts, start):
     """Performs `check-sat`."""
     if len(parts) != 1:
@@ -131,7 +176,15 @@ def leave(_state, parts, start):
     return "exit"
 
 
-SETTINGS = {b"set-option": set_option, b"set-info": set_info, b"echo": echo, b"exit": leave}
+# Commands that leave the start as it is, and those that end it.
+SETTINGS = {
+    b"set-option": set_option,
+    b"set-info": set_info,
+    b"reset-assertions": reset_assertions,
+    b"reset": reset,
+    b"echo": echo,
+    b"exit": leave,
+}
 STATEMENTS = {
     b"set-logic": set_logic,
     b"declare-sort": declare_sort,
@@ -140,6 +193,8 @@ STATEMENTS = {
     b"declare-fun": declare,
     b"define-fun": define_fun,
     b"assert": assert_term,
+    b"push": push,
+    b"pop": pop,
     b"check-sat": check_sat,
 }
 

@@ -258,17 +258,37 @@ def free_names(item):
 
 
 class State:
-    """What a script has stated: sorts and functions by name, assertions, options, and whether it has begun."""
+    """What a script has stated: sorts and functions by name, assertions, levels, options, and whether it has begun."""
 
     def __init__(self, limit):
         self.limit = limit
         self.terms = Terms()
+        self.may_name = True
+        self.forget_all()
+
+    def forget_all(self):
+        """Takes back all that was stated, as `reset` does."""
+        self.forget_assertions()
+        self.options = {b":print-success": True}
+        self.has_begun = False
+
+    def forget_assertions(self):
+        """Takes back names, assertions and levels, as `reset-assertions` does."""
         self.sorts = {}
         self.functions = {}
         self.assertions = []
-        self.options = {b":print-success": True}
-        self.has_begun = False
-        self.may_name = True
+        self.levels = []
+
+    def open_levels(self, count):
+        """Opens so many levels: of each what was there before it is kept."""
+        self.levels += [(dict(self.sorts), dict(self.functions), list(self.assertions))] * count
+
+    def close_levels(self, count):
+        """Closes so many levels: what was there before the lowest of them is there again."""
+        if count:
+            sorts, functions, assertions = self.levels[-count]
+            self.sorts, self.functions, self.assertions = dict(sorts), dict(functions), list(assertions)
+            del self.levels[-count:]
 
     def sort(self, item):
         """Returns the sort of an item."""

@@ -175,6 +175,8 @@ class Maker:
                 b"(set-option :x y)",
                 b'(echo "a")',
                 b"(push 1)",
+                b"(pop 1)",
+                b"(get-model)",
                 b"(assert p q)",
             ]
         )

@@ -5,7 +5,7 @@ BOOL, REAL = (b"Bool",), (b"Real",)
 
 
 class Terms:
-    """Terms as they are read, each by a number, with its sort; equal terms have equal numbers."""
+    """Terms as they are read, each by a number, with its sort; equal terms of one sort have equal numbers."""
 
     def __init__(self):
         self.numbers = {}
@@ -15,11 +15,11 @@ class Terms:
     def make(self, head, given=(), sort=BOOL):
         """Returns the number of the term of a head before terms."""
         node = (head, tuple(given))
-        if node not in self.numbers:
-            self.numbers[node] = len(self.nodes)
+        if (node, sort) not in self.numbers:
+            self.numbers[node, sort] = len(self.nodes)
             self.nodes.append(node)
             self.sorts.append(sort)
-        return self.numbers[node]
+        return self.numbers[node, sort]
 
     def negation(self, term):
         """Returns the number of the negated term."""
