@@ -2,7 +2,7 @@
 (set-logic QF_BV)
 (declare-const p Bool)
 (set-logic QF_UF)
-(push 1)
+(pop 1)
 (declare-sort U 1)
 (assert (and p q))
 (declare-const x V)
