@@ -8,7 +8,7 @@ code blocks it takes the names (letters, digits, `_`, `'`, `-`, with `::` and `.
 (.rt, .antt, .edit, crates.txt, .py, .sh, .smt2, .alethe) and in the names of files and folders. A line tells of each that is nowhere.
 Of each link it checks that the file is there, and that it has the heading. NEWS.md tells of earlier versions, so its names are not looked for.
 
-Then it prints how many words docs/*.md have, and lines README.md. docs/ may have 37,000 words, and it warns above 36,000.
+Then it prints how many words docs/*.md have, and lines README.md. docs/ may have 37,000 words, and it warns above 37,000.
 The status is 1 where something is missing or too long, else 0. ROOT is the top of a checkout, this one if left out.
 """
 import glob
@@ -17,7 +17,7 @@ import re
 import sys
 
 ROOT = sys.argv[1] if len(sys.argv) > 1 else os.path.dirname(os.path.dirname(os.path.dirname(os.path.abspath(__file__))))
-WARNED, MOST = 36_000, 37_000  # words of docs/
+WARNED, MOST = 37_000, 37_000  # words of docs/
 SOURCES = (".rt", ".antt", ".edit", ".py", ".sh", ".smt2", ".alethe", ".c", ".txt", ".certify", ".solve")
 PAGES = [p for g in ("README.md", "NEWS.md", "docs/*.md", "bench/README.md", "examples/README.md", "examples/**/README.md") for p in sorted(glob.glob(os.path.join(ROOT, g), recursive=True))]
 NAME = re.compile(r"^[A-Za-z_][\w'!-]*(?:(?:::|\.)[A-Za-z_][\w'!-]*)*$")

@@ -170,6 +170,25 @@ def faults(n):
     return [*constants(1), *[(line, (len(line) - 3, "UnknownSymbol"))] * (n // 1000), CHECK]
 
 
+def levels_in_turn(n):
+    """Constants with an assertion of each, and then levels one after the other, each with a constant and an assertion."""
+    before = [*constants(n), *taken(f"(assert (or p{i} (not p{i})))" for i in range(n))]
+    level = taken(["(push 1)", "(declare-fun q () Bool)", "(assert q)", "(pop 1)"])
+    return [*before, *level * n, READ]
+
+
+def levels_nested(n):
+    """Levels in each other, each with a constant and an assertion, which are all closed one by one; and a check."""
+    opened = [["(push)", f"(declare-fun p{i} () Bool)", f"(assert p{i})"] for i in range(n)]
+    return [*taken(line for lines in opened for line in lines), *taken(["(pop)"] * n), CHECK]
+
+
+def levels_at_once(n):
+    """n levels opened by one command and closed by one, ten times, and a check."""
+    return [*taken([f"(push {n})", f"(pop {n})"] * 10), CHECK]
+
+
+
 class Family(NamedTuple):
     """A script by a number."""
 
@@ -206,6 +225,9 @@ FAMILIES = {
     "names of one term": Family(names_of_one),
     "attributes": Family(attributes),
     "faults": Family(faults),
+    "levels in turn": Family(levels_in_turn),
+    "levels nested": Family(levels_nested),
+    "levels at once": Family(levels_at_once),
 }
 
 
