@@ -10,10 +10,12 @@ use Rattle.spec_text.specs.Answers.{Answer, refused}
 use Rattle.spec_sorts.specs.Numerals.{number_after}
 use Rattle.spec_reading.specs.Definitions.{Parts}
 use Rattle.spec_commands.specs.Commands.{Command, SetLogic, SetOption, SetInfo, DeclareSort, DefineSort, DeclareFun}
-use Rattle.spec_commands.specs.Commands.{DefineFun, Assert, Push, Pop, CheckSat, ResetAssertions, Reset, Echo, Exit}
+use Rattle.spec_commands.specs.Commands.{DefineFun, Assert, Push, Pop, CheckSat, CheckSatAssuming, ResetAssertions}
+use Rattle.spec_commands.specs.Commands.{Reset, Echo, Exit}
 use Rattle.spec_commands.specs.Commands.{Verb, sets_logic, sets_option, sets_info, declares_sort, defines_sort}
 use Rattle.spec_commands.specs.Commands.{declares_const, declares_fun, defines_fun, asserts, pushes, pops, checks}
-use Rattle.spec_commands.specs.Commands.{resets_assertions, resets, echoes, exits, is_numeral, number_of_levels}
+use Rattle.spec_commands.specs.Commands.{checks_assuming, resets_assertions, resets, echoes, exits, is_numeral}
+use Rattle.spec_commands.specs.Commands.{number_of_levels}
 use Rattle.spec_commands.specs.Commands.{first_name, command_as, command_of, verb_of}
 use Rattle.smt_lexer.specs.declared.Refused.{Refused}
 use Rattle.smt_lexer.specs.declared.Refused.TheVariants as refusals
@@ -50,6 +52,7 @@ command_view (code.Assert term) = Assert (tree_meant term)
 command_view (code.Push n) = Push n
 command_view (code.Pop n) = Pop n
 command_view (code.CheckSat at) = CheckSat at
+command_view (code.CheckSatAssuming at literals) = CheckSatAssuming at (trees_meant literals)
 command_view code.ResetAssertions = ResetAssertions
 command_view code.Reset = Reset
 command_view (code.Echo text) = Echo text.now
@@ -69,6 +72,7 @@ verb_meant words.Assert = asserts
 verb_meant words.Push = pushes
 verb_meant words.Pop = pops
 verb_meant words.CheckSat = checks
+verb_meant words.CheckSatAssuming = checks_assuming
 verb_meant words.ResetAssertions = resets_assertions
 verb_meant words.Reset = resets
 verb_meant words.Echo = echoes

@@ -37,6 +37,9 @@ pub enum Command<'a> {
     Pop(u64),
     /// What is asserted is to be checked. The number is the offset of the word `check-sat`, in bytes.
     CheckSat(u64),
+    /// The same, with the literals assumed that these trees are, none or more. The number is the offset of the word
+    /// `check-sat-assuming`, in bytes.
+    CheckSatAssuming(u64, Trees<'a>),
     /// What is declared, defined and asserted is taken back.
     ResetAssertions,
     /// All is taken back, the options and the logic too.
@@ -87,6 +90,8 @@ pub(crate) enum Verb {
     Pop,
     /// `check-sat`.
     CheckSat,
+    /// `check-sat-assuming`.
+    CheckSatAssuming,
     /// `reset-assertions`.
     ResetAssertions,
     /// `reset`.
@@ -156,6 +161,9 @@ fn other_named(name: &[u8]) -> Option<Verb>
     }
     if same_bytes(b"check-sat", name) {
         return Some(Verb::CheckSat);
+    }
+    if same_bytes(b"check-sat-assuming", name) {
+        return Some(Verb::CheckSatAssuming);
     }
     if same_bytes(b"reset-assertions", name) {
         return Some(Verb::ResetAssertions);

@@ -3,7 +3,7 @@
 ghost use Rattle.std.specs.Prelude.{◌≡◌, ◌*◌, ◌+◌, ◌-◌, option_map};
 ghost use Rattle.spec_sorts.specs.Forms.{is_name, are_named};
 ghost use Rattle.spec_sorts.specs.Numerals.{number_after};
-ghost use Rattle.spec_commands.specs.Commands.{is_numeral, is_string, one_at_most, first_name, first_tree, set_logic, set_option, set_info, declare_sort, define_sort, declare_const, declare_fun, define_fun, assertion, number_of_levels, levels_in, push, pop, echo, alone, command_by};
+ghost use Rattle.spec_commands.specs.Commands.{is_numeral, is_string, one_at_most, first_name, first_tree, set_logic, set_option, set_info, declare_sort, define_sort, declare_const, declare_fun, define_fun, assertion, number_of_levels, levels_in, push, pop, check_assuming, echo, alone, command_by};
 ghost use Rattle.smt_sexpr.specs.Items.{trees_meant, tree_meant, two};
 ghost use Rattle.smt_sexpr.specs.Views.{word_rest};
 ghost use Rattle.smt_command.specs.Commands.{command_view, verb_meant, named_parts, is_named, levels_written};
@@ -269,6 +269,16 @@ fn pop(trees: Trees<'_>) -> Option<Command<'_>>
     Some(Command::Pop(levels))
 }
 
+/// Reads `check-sat-assuming`, whose word is at an offset, after its word: the list of its literals, none or more.
+#[tactic(auto, unfolding(spec_commands::specs::Commands::check_assuming))]
+fn check_assuming(at: u64, trees: Trees<'_>) -> Option<Command<'_>>
+    ensures { option_map command_view result ≡ check_assuming at (trees_meant trees.entry) }
+{
+    let (literals, rest) = list_first(trees)?;
+    want_end(rest)?;
+    Some(Command::CheckSatAssuming(at, literals))
+}
+
 /// Reads `echo`, after its word.
 #[tactic(auto, unfolding(spec_commands::specs::Commands::echo))]
 fn echo(trees: Trees<'_>) -> Option<Command<'_>>
@@ -305,6 +315,7 @@ pub(crate) fn by_verb(verb: Verb, at: u64, trees: Trees<'_>) -> Option<Command<'
         Verb::Push => push(trees),
         Verb::Pop => pop(trees),
         Verb::CheckSat => alone(Command::CheckSat(at), trees),
+        Verb::CheckSatAssuming => check_assuming(at, trees),
         Verb::ResetAssertions => alone(Command::ResetAssertions, trees),
         Verb::Reset => alone(Command::Reset, trees),
         Verb::Echo => echo(trees),

@@ -13,12 +13,12 @@ use Rattle.spec_text.specs.Answers.{Answer, ◌>>=◌, require}
 use Rattle.spec_sorts.specs.Terms.{Truth, Term}
 use Rattle.spec_sorts.specs.Signatures.{Definition, Signature, with_definitions}
 use Rattle.spec_sorts.specs.Subterms.{has_room}
-use Rattle.spec_sorts.specs.Forms.{annotates, form, a_keyword, named_words}
 use Rattle.spec_sorts.specs.Literals.{Clause}
 use Rattle.spec_reading.specs.Names.{proof}
 use Rattle.spec_reading.specs.Reading.{Reading, Readings, reading_of_sort}
 use Rattle.spec_reading.specs.Definitions as definitions
 use Rattle.spec_reading.specs.Definitions.{definitions_in}
+use Rattle.spec_commands.specs.Labels.{names_given}
 use Rattle.spec_commands.specs.Stack.{terms_defined}
 use Rattle.spec_proofs.specs.declared.Rule.{Rule}
 use Rattle.spec_proofs.specs.declared.ProofKind.{ProofKind}
@@ -40,12 +40,6 @@ entry_names es = map (λ (e : NamedClause). e.name) es
 -- a name that no earlier command has
 unfoldable pub fresh_name : Known → Word → Read Name
 fresh_name k w = if among (entry_names k.entries) w.bytes then wrong w.at TwiceName else Ok w.bytes
-
--- the names that `:named` gives to the term of a list, where that is one with attributes
-abbrev pub names_given : Trees → List Word
-names_given (more head (more t attributes)) =
-    elim (form head (more t attributes)) [ annotates ↦ named_words a_keyword attributes | _ ↦ [] ]
-names_given ts = []
 
 unfoldable mutual
   -- the names that `:named` gives in a text

@@ -1,9 +1,12 @@
 -- Scripts with what their commands answer.
 use Rattle.std.specs.Prelude.{◌≡◌, refl, ℕ, List, [], ◌∷◌, Ok, Err, codes}
 use Rattle.spec_text.specs.Answers.{Answer}
-use Rattle.spec_text.specs.Trees.{Trees, none, more}
+use Rattle.spec_text.specs.declared.Kind.TheVariants.{Simple}
+use Rattle.spec_text.specs.Trees.{Trees, atom, list, none, more}
+use Rattle.spec_sorts.specs.Terms.{Truth, Term, constant, constant_term, negated}
 use Rattle.spec_sorts.specs.Written.{trees_in}
-use Rattle.spec_commands.specs.Stack.{Stack, Taken, Effect, done, unsupported, check, say, leave, empty_stack, step}
+use Rattle.spec_commands.specs.Stack.{Assertion, Stack, Taken, Effect, done, unsupported, check, say, leave}
+use Rattle.spec_commands.specs.Stack.{empty_stack, step}
 use Rattle.spec_commands.specs.OnLiterals.{commands_on_literals}
 use Rattle.spec_commands.specs.Examples.{lines}
 
@@ -20,6 +23,21 @@ answers_after limit s (more t ts) = with_answer s (step limit s t) (λ next. ans
 -- the answers to a script's commands
 abbrev pub answers : List (List ℕ) → List Effect
 answers ls = answers_after 100 empty_stack (trees_in (lines ls))
+
+-- the constant p of sort Bool
+abbrev pub p : Term
+p = constant_term (constant (codes "p") Truth)
+
+-- p, assumed by the text at offset 53
+abbrev pub assumed_p : Assertion
+assumed_p = record { text = atom 53 Simple (codes "p"); term = p }
+
+-- its negation, assumed by the text at offset 45
+abbrev pub negated_p : Assertion
+negated_p = record {
+  text = list 45 (more (atom 46 Simple (codes "not")) (more (atom 50 Simple (codes "p")) none)) 51;
+  term = negated p;
+}
 
 -- an option that is not known is unsupported, whatever its value is
 pub options : answers (
@@ -55,3 +73,11 @@ levels = refl
 pub checks : answers (codes "(check-sat)(assert (= 1 1.0))( check-sat)" ∷ []) ≡ check 1 [] ∷ done ∷ check 31 [] ∷ []
 unfolding commands_on_literals answers_after
 checks = refl
+
+-- and so is one with assumptions, each by its text and its term
+pub checks_assuming : answers (
+    codes "(declare-const p Bool)" ∷
+    codes "(check-sat-assuming ( (not p) p))(check-sat)(check-sat-assuming ())" ∷ []) ≡ done
+    ∷ check 24 (negated_p ∷ assumed_p ∷ []) ∷ check 57 [] ∷ check 68 [] ∷ []
+unfolding commands_on_literals answers_after
+checks_assuming = refl

@@ -62,7 +62,7 @@ pub data Verb : Type 0 where
   -- `reset-assertions`, `reset`, `echo`, `exit`
   resets_assertions resets echoes exits : Verb
 
--- which word is which; `check-sat-assuming` is absent, as that command is not taken yet
+-- which word is which
 abbrev pub verbs : List (Name × Verb)
 verbs =
     (codes "set-logic", sets_logic) ∷
@@ -77,6 +77,7 @@ verbs =
     (codes "push", pushes) ∷
     (codes "pop", pops) ∷
     (codes "check-sat", checks) ∷
+    (codes "check-sat-assuming", checks_assuming) ∷
     (codes "reset-assertions", resets_assertions) ∷
     (codes "reset", resets) ∷
     (codes "echo", echoes) ∷

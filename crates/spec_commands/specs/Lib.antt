@@ -9,4 +9,7 @@ pub mod Examples
 pub mod CheckExamples
 pub mod OrderExamples
 pub mod LevelExamples
+pub mod Labels
+pub mod LabelExamples
 pub mod AnswerExamples
+pub mod AssumingExamples

@@ -216,7 +216,7 @@ word_long (x ∷ es) h n v e = go (bytes_eq x.0 n) (bytes_eq-Decides x.0 n).0 e 
     go false same e rest = rest e
 
 verbs_long : All (λ (e : Name × Verb). least e.1 ≤ length e.0) verbs
-verbs_long = All-from_recursion (λ (e : Name × Verb). least e.1 ≤ length e.0) verbs (omega arith, (omega arith, (omega arith, (omega arith, (omega arith, (omega arith, (omega arith, (omega arith, (omega arith, (omega arith, (omega arith, (omega arith, (omega arith, (omega arith, (omega arith, (omega arith, tt))))))))))))))))
+verbs_long = All-from_recursion (λ (e : Name × Verb). least e.1 ≤ length e.0) verbs (omega arith, (omega arith, (omega arith, (omega arith, (omega arith, (omega arith, (omega arith, (omega arith, (omega arith, (omega arith, (omega arith, (omega arith, (omega arith, (omega arith, (omega arith, (omega arith, (omega arith, tt)))))))))))))))))
 
 head_long : (head : Tree) (v : Verb) → verb_of head ≡ Some v → least v ≤ weight head
 head_long (list at ts end) v e = cc
