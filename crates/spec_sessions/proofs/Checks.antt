@@ -1,12 +1,14 @@
 -- That the checks that are answered are those of the script.
-use Rattle.std.proofs.Common.{◌≡◌, ℕ, suc, List, [], ◌∷◌, ◌++◌, length, ◌+◌, Option, Some, refl, sym, ap, ◌∙◌, subst, arith}
+use Rattle.std.proofs.Common.{◌≡◌, ℕ, suc, Bool, List, [], ◌∷◌, ◌++◌, length, ◌+◌, Option, Some, refl, sym, ap, ◌∙◌, subst, arith}
 use Rattle.std.specs.Prelude.{Ok, Err}
 use Rattle.spec_text.specs.Answers.{Answer}
 use Rattle.spec_text.specs.Trees.{Trees, none, more}
+use Rattle.spec_commands.specs.Commands.{command_of}
 use Rattle.spec_commands.specs.Stack.{Stack, Effect, done, unsupported, check, say, leave, Taken, step}
 use Rattle.spec_commands.specs.Checks.{Check, after_effect, after_command, current_at}
 use Rattle.spec_sessions.specs.Evidence.{Limits, Checked, Justifies}
-use Rattle.spec_sessions.specs.Responses.{Response, Answered, AnswersBy, Responds}
+use Rattle.spec_sessions.specs.States.{State, states_nothing}
+use Rattle.spec_sessions.specs.Responses.{Response, state_after, Answered, AnswersBy, Responds}
 use Rattle.spec_sessions.specs.Transcripts.{Follows, Begins, with_check, checks_in}
 use Rattle.spec_sessions.specs.Meaning.{AnswerSays, AllSay}
 
@@ -22,35 +24,38 @@ module _ (limits : Limits) where
 
   -- so is each check
   abbrev AreAll : Trees → Type 0
-  AreAll ts = (s : Stack) (given : List Answered) → Begins limits s ts given → (before : List Checked) (c : Checked) (after : List Checked) → checks_in given ≡ before ++ c ∷ after → Is s (suc (length before)) ts c
+  AreAll ts = (s : State) (given : List Answered) → Begins limits s ts given → (before : List Checked) (c : Checked) (after : List Checked) → checks_in given ≡ before ++ c ∷ after → Is s.stack (suc (length before)) ts c
 
   module _ (ts : Trees) (rest : AreAll ts) (given : List Answered) where
     -- the check is among what follows
     abbrev Later : Effect → Stack → List Checked → Checked → Type 0
     Later effect s before c = (after_effect effect s (suc (length before)) (λ next n. current_at limits.terms next n ts) ≡ Some c.check) × Justifies limits c.check c.found
 
-    at_found : (place : ℕ) (s : Stack) (x : Checked) → x.check.stack ≡ s → Justifies limits x.check x.found → (before : List Checked) (c : Checked) (after : List Checked) → Begins limits s ts given → x ∷ checks_in given ≡ before ++ c ∷ after → Later (check place x.check.assumptions) s before c
-    at_found place s x same shown [] c after runs e =
+    at_found : (place : ℕ) (n : State) (x : Checked) → x.check.stack ≡ n.stack → Justifies limits x.check x.found → (before : List Checked) (c : Checked) (after : List Checked) → Begins limits n ts given → x ∷ checks_in given ≡ before ++ c ∷ after → Later (check place x.check.assumptions) n.stack before c
+    at_found place n x same shown [] c after runs e =
         let is : x ≡ c = cc in
-        let over : Stack → Option Check = λ n. Some (record { stack = n; assumptions = x.check.assumptions }) in
+        let over : Stack → Option Check = λ m. Some (record { stack = m; assumptions = x.check.assumptions }) in
         (ap over (sym same) ∙ ap (λ (y : Checked). Some y.check) is, subst (λ (y : Checked). Justifies limits y.check y.found) is shown)
-    at_found place s x same shown (b ∷ before) c after runs e = rest s given runs before c after cc
+    at_found place n x same shown (b ∷ before) c after runs e = rest n given runs before c after cc
 
     -- by the effect of a command that was taken
-    at_effect : (effect : Effect) (s : Stack) (r : Response) → Responds limits s effect r → (before : List Checked) (c : Checked) (after : List Checked) → Follows r (Begins limits s ts) given → with_check r (checks_in given) ≡ before ++ c ∷ after → Later effect s before c
-    at_effect done s r is before c after = subst (λ x. Follows x (Begins limits s ts) given → with_check x (checks_in given) ≡ before ++ c ∷ after → Later done s before c) (sym is) (λ follows e. rest s given follows before c after e)
-    at_effect unsupported s r is before c after = subst (λ x. Follows x (Begins limits s ts) given → with_check x (checks_in given) ≡ before ++ c ∷ after → Later unsupported s before c) (sym is) (λ follows e. rest s given follows before c after e)
-    at_effect (check place assumptions) s r (f, shown, is) before c after = subst (λ x. Follows x (Begins limits s ts) given → with_check x (checks_in given) ≡ before ++ c ∷ after → Later (check place assumptions) s before c) (sym is) (λ follows e. at_found place s (record { check = record { stack = s; assumptions = assumptions }; found = f }) refl shown before c after follows e)
-    at_effect (say text) s r is before c after = subst (λ x. Follows x (Begins limits s ts) given → with_check x (checks_in given) ≡ before ++ c ∷ after → Later (say text) s before c) (sym is) (λ follows e. rest s given follows before c after e)
-    at_effect leave s r is before c after = subst (λ x. Follows x (Begins limits s ts) given → with_check x (checks_in given) ≡ before ++ c ∷ after → Later leave s before c) (sym is) (λ nothing e. absurd (no_part before c after (sym (ap checks_in nothing) ∙ e)))
+    at_effect : (effect : Effect) (n : State) (r : Response) → Responds limits n.stack effect r → (before : List Checked) (c : Checked) (after : List Checked) → Follows r (Begins limits n ts) given → with_check r (checks_in given) ≡ before ++ c ∷ after → Later effect n.stack before c
+    at_effect done n r is before c after = subst (λ x. Follows x (Begins limits n ts) given → with_check x (checks_in given) ≡ before ++ c ∷ after → Later done n.stack before c) (sym is) (λ follows e. rest n given follows before c after e)
+    at_effect unsupported n r is before c after = subst (λ x. Follows x (Begins limits n ts) given → with_check x (checks_in given) ≡ before ++ c ∷ after → Later unsupported n.stack before c) (sym is) (λ follows e. rest n given follows before c after e)
+    at_effect (check place assumptions) n r (f, shown, is) before c after =
+        let x : Checked = record { check = record { stack = n.stack; assumptions = assumptions }; found = f } in
+        subst (λ y. Follows y (Begins limits n ts) given → with_check y (checks_in given) ≡ before ++ c ∷ after → Later (check place assumptions) n.stack before c) (sym is) (λ follows e. at_found place n x refl shown before c after follows e)
+    at_effect (say text) n r is before c after = subst (λ x. Follows x (Begins limits n ts) given → with_check x (checks_in given) ≡ before ++ c ∷ after → Later (say text) n.stack before c) (sym is) (λ follows e. rest n given follows before c after e)
+    at_effect leave n r is before c after = subst (λ x. Follows x (Begins limits n ts) given → with_check x (checks_in given) ≡ before ++ c ∷ after → Later leave n.stack before c) (sym is) (λ nothing e. absurd (no_part before c after (sym (ap checks_in nothing) ∙ e)))
 
     -- by what a command comes to
-    at_command : (s : Stack) (o : Answer Taken) (a : Answered) → AnswersBy limits s o a → (before : List Checked) (c : Checked) (after : List Checked) → Follows a.response (Begins limits a.stack ts) given → with_check a.response (checks_in given) ≡ before ++ c ∷ after
-        → (after_command s (suc (length before)) o (λ next n. current_at limits.terms next n ts) ≡ Some c.check) × Justifies limits c.check c.found
-    at_command s (Ok d) a (responds, is) before c after = subst (λ n. Follows a.response (Begins limits n ts) given → with_check a.response (checks_in given) ≡ before ++ c ∷ after → Later d.effect d.stack before c) (sym is) (at_effect d.effect d.stack a.response responds before c after)
-    at_command s (Err f) a (is, same) before c after =
-        subst (λ x. Follows x (Begins limits a.stack ts) given → with_check x (checks_in given) ≡ before ++ c ∷ after → Is s (suc (length before)) ts c) (sym is)
-        (subst (λ n. Begins limits n ts given → checks_in given ≡ before ++ c ∷ after → Is s (suc (length before)) ts c) (sym same) (λ runs e. rest s given runs before c after e))
+    at_command : (s : State) (keeps : Bool) (o : Answer Taken) (a : Answered) → AnswersBy limits s keeps o a → (before : List Checked) (c : Checked) (after : List Checked) → Follows a.response (Begins limits a.state ts) given → with_check a.response (checks_in given) ≡ before ++ c ∷ after
+        → (after_command s.stack (suc (length before)) o (λ next n. current_at limits.terms next n ts) ≡ Some c.check) × Justifies limits c.check c.found
+    at_command s keeps (Ok d) a (responds, is) before c after =
+        subst (λ n. Follows a.response (Begins limits n ts) given → with_check a.response (checks_in given) ≡ before ++ c ∷ after → Later d.effect d.stack before c) (sym is) (at_effect d.effect (state_after keeps s d.stack a.response) a.response responds before c after)
+    at_command s keeps (Err f) a (is, same) before c after =
+        subst (λ x. Follows x (Begins limits a.state ts) given → with_check x (checks_in given) ≡ before ++ c ∷ after → Is s.stack (suc (length before)) ts c) (sym is)
+        (subst (λ n. Begins limits n ts given → checks_in given ≡ before ++ c ∷ after → Is s.stack (suc (length before)) ts c) (sym same) (λ runs e. rest s given runs before c after e))
 
   -- each check that is answered is that of its number
   pub each_is_its_check : (ts : Trees) → AreAll ts
@@ -58,7 +63,7 @@ module _ (limits : Limits) where
   each_is_its_check none s [] runs before c after e = absurd (no_part before c after e)
   each_is_its_check none s (a ∷ given) runs before c after e = absurd runs
   each_is_its_check (more t ts) s [] runs before c after e = absurd (no_part before c after e)
-  each_is_its_check (more t ts) s (a ∷ given) runs before c after e = at_command ts (each_is_its_check ts) given s (step limits.terms s t) a runs.0 before c after runs.1 e
+  each_is_its_check (more t ts) s (a ∷ given) runs before c after e = at_command ts (each_is_its_check ts) given s (states_nothing (command_of t)) (step limits.terms s.stack t) a runs.0 before c after runs.1 e
 
 -- what each of the checks says by its place, all of them say
 pub all_say : (limits : Limits) (text : List ℕ) (cs : List Checked) (k : ℕ) → ((before : List Checked) (c : Checked) (after : List Checked) → cs ≡ before ++ c ∷ after → AnswerSays limits text (suc (k + length before)) c) → AllSay limits text k cs

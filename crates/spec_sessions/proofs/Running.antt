@@ -9,8 +9,8 @@ use Rattle.spec_text.specs.Trees.{Tree, Trees, none, more, spelled, spelled_all}
 use Rattle.spec_text.specs.Faults.{Located, nesting_limit}
 use Rattle.spec_text.specs.Readings.{depth, AreTrees, StopsAt, EndsTrees, kept, is_long, limited, IsReadUpTo}
 use Rattle.spec_text.proofs.Stopping.{stop_of}
-use Rattle.spec_commands.specs.Stack.{Stack, empty_stack}
 use Rattle.spec_sessions.specs.Evidence.{Limits}
+use Rattle.spec_sessions.specs.States.{State, first_state}
 use Rattle.spec_sessions.specs.Responses.{Mode, Response, success, not_supported, answered, echoed, ended, rejected, Answered, Answers, response_text, is_rejected, is_end}
 use Rattle.spec_sessions.specs.Transcripts.{Follows, Runs, Begins, answers_text, closing_by, closing, closing_text, is_fault, IsTranscript, IsBegun}
 
@@ -44,7 +44,7 @@ follows_none ended P e = refl
 follows_none (rejected f) P e = cc
 
 -- after a response nothing need be answered yet
-follows_nothing : (r : Response) (limits : Limits) (s : Stack) (ts : Trees) → Follows r (Begins limits s ts) []
+follows_nothing : (r : Response) (limits : Limits) (s : State) (ts : Trees) → Follows r (Begins limits s ts) []
 unfolding Begins
 follows_nothing success limits s ts = tt
 follows_nothing not_supported limits s ts = tt
@@ -63,51 +63,51 @@ follows_weaker ended P Q given f h = h
 follows_weaker (rejected x) P Q given f h = f h
 
 -- what all commands are answered, the first of them are
-pub begins_all : (limits : Limits) (s : Stack) (ts : Trees) (given : List Answered) → Runs limits s ts given → Begins limits s ts given
+pub begins_all : (limits : Limits) (s : State) (ts : Trees) (given : List Answered) → Runs limits s ts given → Begins limits s ts given
 unfolding Runs Begins
 begins_all limits s none [] h = tt
 begins_all limits s none (a ∷ given) h = cc
 begins_all limits s (more t ts) [] h = tt
-begins_all limits s (more t ts) (a ∷ given) h = (h.0, follows_weaker a.response (Runs limits a.stack ts) (Begins limits a.stack ts) given (begins_all limits a.stack ts given) h.1)
+begins_all limits s (more t ts) (a ∷ given) h = (h.0, follows_weaker a.response (Runs limits a.state ts) (Begins limits a.state ts) given (begins_all limits a.state ts given) h.1)
 
 module _ (limits : Limits) (bytes : List ℕ) where
   -- The commands up to an offset were answered so: what is answered from there on is answered after them.
-  pub record Going (at : ℕ) (stack : Stack) (given : List Answered) : Type 0 where
+  pub record Going (at : ℕ) (state : State) (given : List Answered) : Type 0 where
     pub onward : (us : Trees) (rest : List (ℕ × Lexeme)) → AreTrees 0 (lexemes_from bytes at) us rest
         → (ts : Trees) × AreTrees 0 (lexemes 0 0 bytes) ts rest
-        × ((later : List Answered) → Runs limits stack us later → Runs limits empty_stack ts (given ++ later))
-        × ((later : List Answered) → Begins limits stack us later → Begins limits empty_stack ts (given ++ later))
+        × ((later : List Answered) → Runs limits state us later → Runs limits first_state ts (given ++ later))
+        × ((later : List Answered) → Begins limits state us later → Begins limits first_state ts (given ++ later))
 
-  pub going_begins : (at : ℕ) → at ≡ 0 → Going at empty_stack []
+  pub going_begins : (at : ℕ) → at ≡ 0 → Going at first_state []
   going_begins at e = record { onward = λ us rest a. (us, subst (λ n. AreTrees 0 (lexemes_from bytes n) us rest) e a, λ later h. h, λ later h. h) }
 
-  module _ (from after : ℕ) (t : Tree) (first : lexemes_from bytes from ≡ spelled t ++ lexemes_from bytes after) (flat : depth t ≤ nesting_limit) (stack : Stack) (given : List Answered) (g : Going from stack given) (a : Answered) (answers : Answers limits stack t a) where
+  module _ (from after : ℕ) (t : Tree) (first : lexemes_from bytes from ≡ spelled t ++ lexemes_from bytes after) (flat : depth t ≤ nesting_limit) (state : State) (given : List Answered) (g : Going from state given) (a : Answered) (answers : Answers limits state t a) where
     -- the next command was answered, and the script goes on
-    pub answered_on : is_end a.response ≡ false → Going after a.stack (given ++ a ∷ [])
+    pub answered_on : is_end a.response ≡ false → Going after a.state (given ++ a ∷ [])
     unfolding Runs Begins
     answered_on e = record {
       onward = λ us rest h.
           let o = g.onward (more t us) rest (first_tree (lexemes_from bytes from) (lexemes_from bytes after) t first flat us rest h) in (
             o.0,
             o.1,
-            λ later x. subst (Runs limits empty_stack o.0) (sym (append_assoc given (a ∷ []) later)) (o.2 (a ∷ later) (answers, follows_on a.response (Runs limits a.stack us) later e x)),
-            λ later x. subst (Begins limits empty_stack o.0) (sym (append_assoc given (a ∷ []) later)) (o.3 (a ∷ later) (answers, follows_on a.response (Begins limits a.stack us) later e x)),
+            λ later x. subst (Runs limits first_state o.0) (sym (append_assoc given (a ∷ []) later)) (o.2 (a ∷ later) (answers, follows_on a.response (Runs limits a.state us) later e x)),
+            λ later x. subst (Begins limits first_state o.0) (sym (append_assoc given (a ∷ []) later)) (o.3 (a ∷ later) (answers, follows_on a.response (Begins limits a.state us) later e x)),
           );
     }
 
     -- the next command was answered: so much was answered in all
-    pub answered_begins : (us : Trees) (rest : List (ℕ × Lexeme)) → AreTrees 0 (lexemes_from bytes after) us rest → (ts : Trees) × AreTrees 0 (lexemes 0 0 bytes) ts rest × Begins limits empty_stack ts (given ++ a ∷ [])
+    pub answered_begins : (us : Trees) (rest : List (ℕ × Lexeme)) → AreTrees 0 (lexemes_from bytes after) us rest → (ts : Trees) × AreTrees 0 (lexemes 0 0 bytes) ts rest × Begins limits first_state ts (given ++ a ∷ [])
     unfolding Begins
     answered_begins us rest h =
         let o = g.onward (more t us) rest (first_tree (lexemes_from bytes from) (lexemes_from bytes after) t first flat us rest h) in
-        (o.0, o.1, o.3 (a ∷ []) (answers, follows_nothing a.response limits a.stack us))
+        (o.0, o.1, o.3 (a ∷ []) (answers, follows_nothing a.response limits a.state us))
 
     -- it ended the script
-    pub answered_last : is_end a.response ≡ true → (us : Trees) (rest : List (ℕ × Lexeme)) → AreTrees 0 (lexemes_from bytes after) us rest → (ts : Trees) × AreTrees 0 (lexemes 0 0 bytes) ts rest × Runs limits empty_stack ts (given ++ a ∷ [])
+    pub answered_last : is_end a.response ≡ true → (us : Trees) (rest : List (ℕ × Lexeme)) → AreTrees 0 (lexemes_from bytes after) us rest → (ts : Trees) × AreTrees 0 (lexemes 0 0 bytes) ts rest × Runs limits first_state ts (given ++ a ∷ [])
     unfolding Runs
     answered_last e us rest h =
         let o = g.onward (more t us) rest (first_tree (lexemes_from bytes from) (lexemes_from bytes after) t first flat us rest h) in
-        (o.0, o.1, o.2 (a ∷ []) (answers, follows_none a.response (Runs limits a.stack us) e))
+        (o.0, o.1, o.2 (a ∷ []) (answers, follows_none a.response (Runs limits a.state us) e))
 
 or_last : (x y : Bool) → (x || (y || false)) ≡ (x || y)
 or_last true y = refl
@@ -155,7 +155,7 @@ module _ (limits : Limits) (mode : Mode) (text bytes : List ℕ) (whole : bytes 
   told_kept : (given : List Answered) → Told given ≡ answers_text mode (kept text) given
   told_kept given = ap (λ b. answers_text mode b given) whole
 
-  module _ (at : ℕ) (stack : Stack) (given : List Answered) (g : Going limits bytes at stack given) where
+  module _ (at : ℕ) (state : State) (given : List Answered) (g : Going limits bytes at state given) where
     -- so much was begun
     pub begun_here : EachIsRead bytes at → IsBegun limits mode text (Told given)
     unfolding Begins
@@ -167,17 +167,17 @@ module _ (limits : Limits) (mode : Mode) (text bytes : List ℕ) (whole : bytes 
           end = limited (is_long text) stop.0;
           read = read_whole o.0 r.1 stop.0 o.1 stop.1;
           answers = given;
-          begins = subst (Begins limits empty_stack o.0) (append-nil given) (o.3 [] tt);
+          begins = subst (Begins limits first_state o.0) (append-nil given) (o.3 [] tt);
           written = inl (told_kept given);
         }
 
     module _ (going_on : list_any (λ (x : Answered). is_end x.response) given ≡ false) (stop : Option Located) (stops : EndsTrees (length bytes) (lexemes_from bytes at) stop) where
       -- all of the text was run
-      all_run : (ts : Trees) × IsReadUpTo text ts (limited (is_long text) stop) × Runs limits empty_stack ts given
+      all_run : (ts : Trees) × IsReadUpTo text ts (limited (is_long text) stop) × Runs limits first_state ts given
       unfolding Runs
       all_run =
           let o = g.onward none (lexemes_from bytes at) (nothing_first (lexemes_from bytes at)) in
-          (o.0, read_whole o.0 (lexemes_from bytes at) stop o.1 stops, subst (Runs limits empty_stack o.0) (append-nil given) (o.2 [] refl))
+          (o.0, read_whole o.0 (lexemes_from bytes at) stop o.1 stops, subst (Runs limits first_state o.0) (append-nil given) (o.2 [] refl))
 
       line_kept : Told given ++ closing_text bytes (limited (is_long text) stop) ≡ answers_text mode (kept text) given ++ closing_text (kept text) (closing given (limited (is_long text) stop))
       line_kept = ap (λ b. answers_text mode b given ++ closing_text b (limited (is_long text) stop)) whole ∙ ap (λ b. answers_text mode (kept text) given ++ closing_text (kept text) (closing_by b (limited (is_long text) stop))) (sym going_on)
@@ -199,13 +199,13 @@ module _ (limits : Limits) (mode : Mode) (text bytes : List ℕ) (whole : bytes 
       pub line_begun : IsBegun limits mode text (Told given ++ closing_text bytes (limited (is_long text) stop))
       line_begun =
           let o = all_run in
-          record { commands = o.0; end = limited (is_long text) stop; read = o.1; answers = given; begins = begins_all limits empty_stack o.0 given o.2; written = inr (o.2, line_kept) }
+          record { commands = o.0; end = limited (is_long text) stop; read = o.1; answers = given; begins = begins_all limits first_state o.0 given o.2; written = inr (o.2, line_kept) }
 
-  module _ (from after : ℕ) (t : Tree) (first : lexemes_from bytes from ≡ spelled t ++ lexemes_from bytes after) (flat : depth t ≤ nesting_limit) (stack : Stack) (given : List Answered) (g : Going limits bytes from stack given) (a : Answered) (answers : Answers limits stack t a) (r : EachIsRead bytes after) where
+  module _ (from after : ℕ) (t : Tree) (first : lexemes_from bytes from ≡ spelled t ++ lexemes_from bytes after) (flat : depth t ≤ nesting_limit) (state : State) (given : List Answered) (g : Going limits bytes from state given) (a : Answered) (answers : Answers limits state t a) (r : EachIsRead bytes after) where
     -- one response more was begun
     pub begun_next : IsBegun limits mode text (Told given ++ response_text mode bytes a)
     begun_next =
-        let o = answered_begins limits bytes from after t first flat stack given g a answers r.0 r.1 r.2 in
+        let o = answered_begins limits bytes from after t first flat state given g a answers r.0 r.1 r.2 in
         let stop = stop_of (length bytes) r.1 r.3 in
         record {
           commands = o.0;
@@ -219,7 +219,7 @@ module _ (limits : Limits) (mode : Mode) (text bytes : List ℕ) (whole : bytes 
     -- the script ended
     pub script_ends : list_any (λ (x : Answered). is_end x.response) given ≡ false → is_end a.response ≡ true → is_rejected a.response ≡ false → IsTranscript limits mode text (Told given ++ response_text mode bytes a) (list_any (λ (x : Answered). is_rejected x.response) given)
     script_ends going_on last taken =
-        let o = answered_last limits bytes from after t first flat stack given g a answers last r.0 r.1 r.2 in
+        let o = answered_last limits bytes from after t first flat state given g a answers last r.0 r.1 r.2 in
         let stop = stop_of (length bytes) r.1 r.3 in
         let left = ends_more given a true going_on last in
         let end = limited (is_long text) stop.0 in

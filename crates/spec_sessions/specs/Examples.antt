@@ -1,5 +1,6 @@
 -- Small scripts with what is written for them, where so much was found at their checks.
-use Rattle.std.specs.Prelude.{◌++◌, ◌≡◌, refl, ◌^◌, pos, ℕ, true, false, List, [], ◌∷◌, Ok, Err, codes, if◌then◌else◌}
+use Rattle.std.specs.Prelude.{◌++◌, ◌≡◌, refl, ◌^◌, pos, ℕ, Bool, true, false, List, [], ◌∷◌, Ok, Err, codes}
+use Rattle.std.specs.Prelude.{if◌then◌else◌}
 use Rattle.std.specs.Str.{bytes_eq}
 use Rattle.spec_text.specs.Bytes.{among}
 use Rattle.spec_text.specs.Answers.{Answer}
@@ -8,14 +9,16 @@ use Rattle.spec_numbers.specs.Fractions.{zero_fraction, whole, gcd, times}
 use Rattle.spec_numbers.specs.Bounds.{Overflow, is_small, fits, multiplied}
 use Rattle.spec_numbers.specs.declared.Op.TheVariants.{Mul}
 use Rattle.spec_sorts.specs.Values.{Value, truth, number, element, Table, Interpretation}
+use Rattle.spec_commands.specs.Commands.{command_of}
 use Rattle.spec_commands.specs.Stack.{Stack, Effect, done, unsupported, check, say, leave, Taken, step}
 use Rattle.spec_commands.specs.Checks.{Check, term_limit}
 use Rattle.spec_commands.specs.Examples.{lines}
 use Rattle.spec_models.specs.Values.{numeral}
 use Rattle.spec_simplex.specs.Overflows.{IsOverflow}
 use Rattle.spec_sessions.specs.Evidence.{Limits, Kept, Found, proof, overflowed, out_of_pivots}
-use Rattle.spec_sessions.specs.Responses.{certify, success, not_supported, answered, echoed, ended, rejected, Answered}
-use Rattle.spec_sessions.specs.Responses.{text_for}
+use Rattle.spec_sessions.specs.States.{State, states_nothing}
+use Rattle.spec_sessions.specs.Responses.{certify, Response, success, not_supported, answered, echoed, ended, rejected}
+use Rattle.spec_sessions.specs.Responses.{Answered, state_after, text_for}
 
 -- what is meant by default
 abbrev pub limits : Limits
@@ -31,25 +34,32 @@ abbrev pub later_found : List Found → List Found
 later_found [] = []
 later_found (f ∷ fs) = fs
 
--- what a command that was taken is answered, and what those after it are, where this was found at the checks
-abbrev pub answers_after : Effect → Stack → List Found → (List Found → List Answered) → List Answered
-answers_after done s fs rest = record { response = success; stack = s } ∷ rest fs
-answers_after unsupported s fs rest = record { response = not_supported; stack = s } ∷ rest fs
-answers_after (check place assumptions) s fs rest =
-    let c : Check = record { stack = s; assumptions = assumptions } in
-    record { response = answered (record { check = c; found = next_found fs }); stack = s } ∷ rest (later_found fs)
-answers_after (say text) s fs rest = record { response = echoed text; stack = s } ∷ rest fs
-answers_after leave s fs rest = record { response = ended; stack = s } ∷ []
+-- what a command that was taken is answered, and what those after it are, where this was found at the checks: the
+-- stack that it leaves, and the state after each response
+abbrev pub answers_after : Effect → Stack → (Response → State) → List Found → (State → List Found → List Answered)
+    → List Answered
+answers_after done n next fs rest = record { response = success; state = next success } ∷ rest (next success) fs
+answers_after unsupported n next fs rest =
+    record { response = not_supported; state = next not_supported } ∷ rest (next not_supported) fs
+answers_after (check place assumptions) n next fs rest =
+    let c : Check = record { stack = n; assumptions = assumptions } in
+    let r : Response = answered (record { check = c; found = next_found fs }) in
+    record { response = r; state = next r } ∷ rest (next r) (later_found fs)
+answers_after (say text) n next fs rest =
+    record { response = echoed text; state = next (echoed text) } ∷ rest (next (echoed text)) fs
+answers_after leave n next fs rest = record { response = ended; state = next ended } ∷ []
 
--- what a command is answered, and what those after it are
-abbrev pub answers_by : Stack → Answer Taken → List Found → (Stack → List Found → List Answered) → List Answered
-answers_by s (Ok d) fs rest = answers_after d.effect d.stack fs (rest d.stack)
-answers_by s (Err f) fs rest = record { response = rejected f; stack = s } ∷ rest s fs
+-- what a command is answered in a state, where it states nothing or does, and what those after it are
+abbrev pub answers_by : State → Bool → Answer Taken → List Found → (State → List Found → List Answered)
+    → List Answered
+answers_by s keeps (Ok d) fs rest = answers_after d.effect d.stack (state_after keeps s d.stack) fs rest
+answers_by s keeps (Err f) fs rest = record { response = rejected f; state = s } ∷ rest s fs
 
--- what commands are answered after a stack
-unfoldable pub answers_of : Limits → Stack → Trees → List Found → List Answered
+-- what commands are answered from a state on
+unfoldable pub answers_of : Limits → State → Trees → List Found → List Answered
 answers_of l s none fs = []
-answers_of l s (more t ts) fs = answers_by s (step l.terms s t) fs (λ next later. answers_of l next ts later)
+answers_of l s (more t ts) fs =
+    answers_by s (states_nothing (command_of t)) (step l.terms s.stack t) fs (λ next later. answers_of l next ts later)
 
 -- a value without rows
 abbrev pub always : Value → Table

@@ -1,11 +1,12 @@
 -- What commands are answered, and what is written for that. Source: SMT-LIB 2.6, sections 3.9 and 4.2; the evidence
 -- after an answer is own.
-use Rattle.std.specs.Prelude.{◌≡◌, ℕ, Bool, true, false, List, [], ◌∷◌, ◌++◌, Ok, Err, if◌then◌else◌}
+use Rattle.std.specs.Prelude.{◌≡◌, ℕ, Bool, true, false, List, [], ◌∷◌, ◌++◌, Option, Some, Ok, Err, if◌then◌else◌}
 use Rattle.spec_text.specs.Places.{line_of, column_of, name_of}
 use Rattle.spec_text.specs.Faults.{Located}
 use Rattle.spec_text.specs.Answers.{Answer}
 use Rattle.spec_text.specs.Trees.{Tree}
 use Rattle.spec_sorts.specs.Signatures.{symbols_in}
+use Rattle.spec_commands.specs.Commands.{command_of}
 use Rattle.spec_commands.specs.Stack.{Stack, Effect, done, unsupported, check, say, leave, Taken, signature_of, step}
 use Rattle.spec_commands.specs.Checks.{Check}
 use Rattle.spec_models.specs.declared.ResponseWord.TheVariants.{Success, Unsupported, Sat, Unsat, Unknown}
@@ -13,6 +14,7 @@ use Rattle.spec_models.specs.Replies.{conflicts, pivots, overflow, error_text, w
 use Rattle.spec_models.specs.Models.{model_text}
 use Rattle.spec_sessions.specs.Evidence.{Limits, Found, model, proof, spent, overflowed, out_of_pivots, Checked}
 use Rattle.spec_sessions.specs.Evidence.{Justifies}
+use Rattle.spec_sessions.specs.States.{State, states_nothing, answer_kept}
 
 -- How much is written.
 pub data Mode : Type 0 where
@@ -40,8 +42,8 @@ pub data Response : Type 0 where
 pub record Answered : Type 0 where
   -- the response
   pub response : Response
-  -- the stack after the command
-  pub stack : Stack
+  -- the state after the command
+  pub state : State
 
 -- a check is decided: this was found at it, and shows what it should
 abbrev pub IsDecided : Limits → Check → Response → Type 0
@@ -55,14 +57,25 @@ Responds limits s (check place assumptions) r = IsDecided limits (record { stack
 Responds limits s (say text) r = r ≡ echoed text
 Responds limits s leave r = r ≡ ended
 
--- what a command is answered after a stack: a command that is refused changes nothing
-abbrev pub AnswersBy : Limits → Stack → Answer Taken → Answered → Type 0
-AnswersBy limits s (Ok d) a = Responds limits d.stack d.effect a.response × (a.stack ≡ d.stack)
-AnswersBy limits s (Err f) a = (a.response ≡ rejected f) × (a.stack ≡ s)
+-- the last answer after a response: that of a check, or what is kept of the one before; what is refused keeps it
+abbrev pub answer_after : Bool → Option Checked → Response → Option Checked
+answer_after keeps old (answered c) = Some c
+answer_after keeps old (rejected f) = old
+answer_after keeps old r = answer_kept keeps old
+
+-- the state after a command that was taken in a state, where it leaves this stack and is answered so
+abbrev pub state_after : Bool → State → Stack → Response → State
+state_after keeps s n r = record { stack = n; answer = answer_after keeps s.answer r }
+
+-- what a command is answered in a state, where it states nothing or does: a command that is refused changes nothing
+abbrev pub AnswersBy : Limits → State → Bool → Answer Taken → Answered → Type 0
+AnswersBy limits s keeps (Ok d) a =
+    Responds limits d.stack d.effect a.response × (a.state ≡ state_after keeps s d.stack a.response)
+AnswersBy limits s keeps (Err f) a = (a.response ≡ rejected f) × (a.state ≡ s)
 
 -- the same of the command that a tree is
-abbrev pub Answers : Limits → Stack → Tree → Answered → Type 0
-Answers limits s t a = AnswersBy limits s (step limits.terms s t) a
+abbrev pub Answers : Limits → State → Tree → Answered → Type 0
+Answers limits s t a = AnswersBy limits s (states_nothing (command_of t)) (step limits.terms s.stack t) a
 
 -- the line of a fault of a text
 abbrev pub fault_text : List ℕ → Located → List ℕ
@@ -111,7 +124,7 @@ text_for mode text print (rejected f) = fault_text text f
 
 -- what is written for what a command of a text is answered
 abbrev pub response_text : Mode → List ℕ → Answered → List ℕ
-response_text mode text a = text_for mode text a.stack.options.print_success a.response
+response_text mode text a = text_for mode text a.state.stack.options.print_success a.response
 
 -- whether the command was refused
 abbrev pub is_rejected : Response → Bool

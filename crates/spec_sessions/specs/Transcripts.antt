@@ -5,8 +5,8 @@ use Rattle.std.specs.List.{list_any}
 use Rattle.spec_text.specs.Faults.{Located}
 use Rattle.spec_text.specs.Trees.{Trees, none, more}
 use Rattle.spec_text.specs.Readings.{kept, IsReadUpTo}
-use Rattle.spec_commands.specs.Stack.{Stack, empty_stack}
 use Rattle.spec_sessions.specs.Evidence.{Limits, Checked}
+use Rattle.spec_sessions.specs.States.{State, first_state}
 use Rattle.spec_sessions.specs.Responses.{Mode, Response, answered, ended, Answered, Answers, response_text, fault_text}
 use Rattle.spec_sessions.specs.Responses.{is_rejected, is_end}
 
@@ -16,16 +16,16 @@ Follows ended rest given = given ≡ []
 Follows _ rest given = rest given
 
 -- what the commands are answered, one after the other, up to one that ends the script, or all of them
-unfoldable pub Runs : Limits → Stack → Trees → List Answered → Type 0
+unfoldable pub Runs : Limits → State → Trees → List Answered → Type 0
 Runs limits s none given = given ≡ []
 Runs limits s (more t ts) [] = ⊥
-Runs limits s (more t ts) (a ∷ given) = Answers limits s t a × Follows a.response (Runs limits a.stack ts) given
+Runs limits s (more t ts) (a ∷ given) = Answers limits s t a × Follows a.response (Runs limits a.state ts) given
 
 -- what the first of the commands are answered, any number of them
-unfoldable pub Begins : Limits → Stack → Trees → List Answered → Type 0
+unfoldable pub Begins : Limits → State → Trees → List Answered → Type 0
 Begins limits s ts [] = Unit {0}
 Begins limits s none (a ∷ given) = ⊥
-Begins limits s (more t ts) (a ∷ given) = Answers limits s t a × Follows a.response (Begins limits a.stack ts) given
+Begins limits s (more t ts) (a ∷ given) = Answers limits s t a × Follows a.response (Begins limits a.state ts) given
 
 -- what is written for the answers
 abbrev pub answers_text : Mode → List ℕ → List Answered → List ℕ
@@ -62,7 +62,7 @@ pub record IsTranscript (limits : Limits) (mode : Mode) (text : List ℕ) (out :
   -- what they are answered
   pub answers : List Answered
   -- it is what they are to be answered
-  pub runs : Runs limits empty_stack commands answers
+  pub runs : Runs limits first_state commands answers
   -- it is written, and the line of a fault that ends the run
   pub written : out ≡ answers_text mode (kept text) answers ++ closing_text (kept text) (closing answers end)
   -- whether one was refused
@@ -80,9 +80,9 @@ pub record IsBegun (limits : Limits) (mode : Mode) (text : List ℕ) (out : List
   -- what the first of them are answered
   pub answers : List Answered
   -- it is what they are to be answered
-  pub begins : Begins limits empty_stack commands answers
+  pub begins : Begins limits first_state commands answers
   -- it is written, and nothing else but, where all were answered, the line of a fault that ends the run
-  pub written : (out ≡ answers_text mode (kept text) answers) ⊎ (Runs limits empty_stack commands answers
+  pub written : (out ≡ answers_text mode (kept text) answers) ⊎ (Runs limits first_state commands answers
       × (out ≡ answers_text mode (kept text) answers ++ closing_text (kept text) (closing answers end)))
 
 -- a check more before it, where it was one

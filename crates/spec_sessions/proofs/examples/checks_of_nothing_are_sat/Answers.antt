@@ -3,8 +3,8 @@ use Rattle.std.proofs.Common.{None, [], ◌∷◌, All, refl, arith}
 use Rattle.std.proofs.lemmas.List.Elements.{All-nil, All-cons}
 use Rattle.spec_text.specs.Readings.{IsReadUpTo}
 use Rattle.spec_sorts.specs.Written.{trees_in}
-use Rattle.spec_commands.specs.Stack.{empty_stack}
 use Rattle.spec_commands.specs.OnLiterals.{commands_on_literals}
+use Rattle.spec_sessions.specs.States.{first_state}
 use Rattle.spec_sessions.specs.Evidence.{model}
 use Rattle.spec_sessions.specs.Responses.{solve, certify}
 use Rattle.spec_sessions.specs.Transcripts.{checks_in}
@@ -24,7 +24,7 @@ read : IsReadUpTo checks_alone (trees_in checks_alone) None
 unfolding commands_on_literals
 read = record { rest = []; trees = record { split = refl; within = omega arith }; stop = None; stops = refl; is = refl }
 
-justified : All (IsJustified limits) (checks_in (answers_of limits empty_stack (trees_in checks_alone) (model tables ∷ model tables ∷ [])))
+justified : All (IsJustified limits) (checks_in (answers_of limits first_state (trees_in checks_alone) (model tables ∷ model tables ∷ [])))
 unfolding commands_on_literals answers_of
 justified = All-cons (IsJustified limits) nothing (nothing ∷ []) nothing_asked (All-cons (IsJustified limits) nothing [] nothing_asked (All-nil (IsJustified limits)))
 

@@ -10,6 +10,7 @@ use Rattle.spec_checking.specs.ProofTexts.{contradiction_is_read}
 use Rattle.spec_models.specs.Values.{numeral}
 use Rattle.spec_proof_texts.specs.Lines.{proof_text}
 use Rattle.spec_proof_texts.specs.Examples.{refutation}
+use Rattle.spec_sessions.specs.States.{first_state}
 use Rattle.spec_sessions.specs.Evidence.{Found, proof}
 use Rattle.spec_sessions.specs.Responses.{certify}
 use Rattle.spec_sessions.specs.Transcripts.{checks_in}
@@ -31,11 +32,11 @@ is_there : is_some (current_at term_limit empty_stack 1 (trees_in contradiction)
 unfolding commands_on_literals
 is_there = refl
 
-justified : All (IsJustified limits) (checks_in (answers_of limits empty_stack (trees_in contradiction) (found ∷ [])))
+justified : All (IsJustified limits) (checks_in (answers_of limits first_state (trees_in contradiction) (found ∷ [])))
 unfolding commands_on_literals answers_of
 justified =
-    let first = first_check limits empty_stack (trees_in contradiction) (found ∷ []) the_check (there (current_at term_limit empty_stack 1 (trees_in contradiction)) is_there) in
-    one_check limits (checks_in (answers_of limits empty_stack (trees_in contradiction) (found ∷ []))) refl (subst (IsJustified limits) (sym first) shown)
+    let first = first_check limits first_state (trees_in contradiction) (found ∷ []) the_check (there (current_at term_limit empty_stack 1 (trees_in contradiction)) is_there) in
+    one_check limits (checks_in (answers_of limits first_state (trees_in contradiction) (found ∷ []))) refl (subst (IsJustified limits) (sym first) shown)
 
 pub returns : goal.returns
 unfolding commands_on_literals answers_of numeral

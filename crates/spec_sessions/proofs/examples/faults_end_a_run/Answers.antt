@@ -39,7 +39,7 @@ returns c = record {
   commands = trees_in closed_too_often;
   end = Some fault;
   read = record { rest = (12, closes) ∷ []; trees = record { split = refl; within = omega arith }; stop = Some fault; stops = broken; is = refl };
-  answers = record { response = answered nothing; stack = begun empty_stack } ∷ [];
+  answers = record { response = answered nothing; state = record { stack = begun empty_stack; answer = Some nothing } } ∷ [];
   runs = (((model tables, nothing_asked, refl), refl), refl);
   written = refl;
   told = refl;

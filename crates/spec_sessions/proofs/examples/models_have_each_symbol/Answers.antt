@@ -7,10 +7,11 @@ use Rattle.spec_sorts.specs.Written.{trees_in}
 use Rattle.spec_sorts.specs.Values.{truth, IsTableOf}
 use Rattle.spec_sorts.specs.Signatures.{symbols_in}
 use Rattle.spec_sorts.specs.Meaning.{value_of}
-use Rattle.spec_commands.specs.Stack.{empty_stack, signature_of}
+use Rattle.spec_commands.specs.Stack.{signature_of}
 use Rattle.spec_commands.specs.Checks.{asked, IsTrueAssertion}
 use Rattle.spec_commands.specs.OnLiterals.{commands_on_literals}
 use Rattle.spec_models.specs.Values.{numeral}
+use Rattle.spec_sessions.specs.States.{first_state}
 use Rattle.spec_sessions.specs.Evidence.{Checked, model, IsModelOf}
 use Rattle.spec_sessions.specs.Responses.{certify}
 use Rattle.spec_sessions.specs.Transcripts.{checks_in}
@@ -24,7 +25,7 @@ read = record { rest = []; trees = record { split = refl; within = omega arith }
 
 -- the check, with its model
 abbrev here : Checked
-here = first_of (checks_in (answers_of limits empty_stack (trees_in functions) (model tables ∷ [])))
+here = first_of (checks_in (answers_of limits first_state (trees_in functions) (model tables ∷ [])))
 
 model_here : IsModelOf here.check tables
 unfolding commands_on_literals answers_of value_of
@@ -33,9 +34,9 @@ model_here = record {
   each = All-from_recursion (IsTrueAssertion tables (signature_of here.check.stack)) (asked here.check) (refl {a = truth true}, (refl {a = truth true}, tt));
 }
 
-justified : All (IsJustified limits) (checks_in (answers_of limits empty_stack (trees_in functions) (model tables ∷ [])))
+justified : All (IsJustified limits) (checks_in (answers_of limits first_state (trees_in functions) (model tables ∷ [])))
 unfolding commands_on_literals answers_of
-justified = one_check limits (checks_in (answers_of limits empty_stack (trees_in functions) (model tables ∷ []))) refl model_here
+justified = one_check limits (checks_in (answers_of limits first_state (trees_in functions) (model tables ∷ []))) refl model_here
 
 pub returns : goal.returns
 unfolding commands_on_literals answers_of numeral

@@ -9,9 +9,10 @@ use Rattle.spec_numbers.proofs.Field.{zero-reduced}
 use Rattle.spec_sorts.specs.Values.{truth, IsTableOf}
 use Rattle.spec_sorts.specs.Signatures.{symbols_in}
 use Rattle.spec_sorts.specs.Meaning.{value_of}
-use Rattle.spec_commands.specs.Stack.{empty_stack, signature_of}
+use Rattle.spec_commands.specs.Stack.{signature_of}
 use Rattle.spec_commands.specs.Checks.{asked, IsTrueAssertion}
 use Rattle.spec_commands.specs.OnLiterals.{commands_on_literals}
+use Rattle.spec_sessions.specs.States.{first_state}
 use Rattle.spec_sessions.specs.Evidence.{Found, Checked, model, IsModelOf}
 use Rattle.spec_sessions.specs.Responses.{solve}
 use Rattle.spec_sessions.specs.Transcripts.{checks_in}
@@ -25,15 +26,15 @@ refusals_read = record { rest = []; trees = record { split = refl; within = omeg
 
 -- its check, where nothing is asserted
 abbrev refusals_check : Checked
-refusals_check = first_of (checks_in (answers_of limits empty_stack (trees_in refusals) (model tables ∷ [])))
+refusals_check = first_of (checks_in (answers_of limits first_state (trees_in refusals) (model tables ∷ [])))
 
 refusals_model : IsModelOf refusals_check.check tables
 unfolding commands_on_literals answers_of
 refusals_model = record { interprets = λ k d l. absurd (omega (arith, l)); each = λ k d l. absurd (omega (arith, l)) }
 
-refusals_justified : All (IsJustified limits) (checks_in (answers_of limits empty_stack (trees_in refusals) (model tables ∷ [])))
+refusals_justified : All (IsJustified limits) (checks_in (answers_of limits first_state (trees_in refusals) (model tables ∷ [])))
 unfolding commands_on_literals answers_of
-refusals_justified = one_check limits (checks_in (answers_of limits empty_stack (trees_in refusals) (model tables ∷ []))) refl refusals_model
+refusals_justified = one_check limits (checks_in (answers_of limits first_state (trees_in refusals) (model tables ∷ []))) refl refusals_model
 
 pub returns-clause-names : goal.returns-clause-names
 unfolding commands_on_literals answers_of digits
@@ -48,7 +49,7 @@ abbrev numbers_found : List Found
 numbers_found = model tables ∷ model tables ∷ model tables ∷ []
 
 abbrev numbers_checks : List Checked
-numbers_checks = checks_in (answers_of limits empty_stack (trees_in numbers) numbers_found)
+numbers_checks = checks_in (answers_of limits first_state (trees_in numbers) numbers_found)
 
 -- at the first a number is declared
 abbrev numbers_first : Checked
@@ -97,7 +98,7 @@ large_read = record { rest = []; trees = record { split = refl; within = omega a
 
 -- its check, of what fits in
 abbrev large_check : Checked
-large_check = first_of (checks_in (answers_of four empty_stack (trees_in large) (model tables ∷ [])))
+large_check = first_of (checks_in (answers_of four first_state (trees_in large) (model tables ∷ [])))
 
 large_model : IsModelOf large_check.check tables
 unfolding commands_on_literals answers_of value_of
@@ -106,9 +107,9 @@ large_model = record {
   each = All-from_recursion (IsTrueAssertion tables (signature_of large_check.check.stack)) (asked large_check.check) (refl {a = truth true}, tt);
 }
 
-large_justified : All (IsJustified four) (checks_in (answers_of four empty_stack (trees_in large) (model tables ∷ [])))
+large_justified : All (IsJustified four) (checks_in (answers_of four first_state (trees_in large) (model tables ∷ [])))
 unfolding commands_on_literals answers_of
-large_justified = one_check four (checks_in (answers_of four empty_stack (trees_in large) (model tables ∷ []))) refl large_model
+large_justified = one_check four (checks_in (answers_of four first_state (trees_in large) (model tables ∷ []))) refl large_model
 
 pub returns-clause-large : goal.returns-clause-large
 unfolding commands_on_literals answers_of digits
