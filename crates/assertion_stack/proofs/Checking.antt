@@ -1,6 +1,6 @@
 -- Which commands ask for a check.
 use Rattle.std.proofs.Common.{◌≡◌, ℕ, ◌-◌, Bool, List, [], ◌∷◌, Option, Some, None, sym, ap, ◌∙◌}
-use Rattle.std.specs.Prelude.{Result, Ok, Err}
+use Rattle.std.specs.Prelude.{true, Result, Ok, Err}
 use Rattle.spec_text.specs.declared.Fault.TheVariants.{BadShape}
 use Rattle.spec_text.specs.Faults.{Located}
 use Rattle.spec_text.specs.Answers.{Answer}
@@ -10,6 +10,8 @@ use Rattle.spec_sorts.specs.Signatures.{of_sort, of_function, declared}
 use Rattle.spec_commands.specs.Commands.{Command, SetLogic, SetOption, SetInfo, DeclareSort, DefineSort, DeclareFun, DefineFun, Assert, Push, Pop, CheckSat, CheckSatAssuming, ResetAssertions, Reset, Echo, Exit}
 use Rattle.spec_commands.specs.Stack.{Assertion, Stack, Key, done, unsupported, check, say, leave, Taken, did, empty_stack, begun, with_declaration, with_definitions, with_assertion, with_levels, up_to_level, levels_open, emptied, key_named, truth_in, with_option, option_set, roomy, terms_defined, performed}
 use Rattle.term_reader.specs.declared.faults.ReadError.{ReadError}
+use Rattle.smt_lexer.specs.declared.Refused.{Refused}
+use Rattle.term_reader.specs.Building.{KeepsTable}
 use Rattle.assertion_stack.specs.declared.stack.Effect.{Effect as CodeEffect}
 use Rattle.assertion_stack.specs.declared.stack.Effect.TheVariants as effects
 use Rattle.assertion_stack.specs.Stacks.{OverTable, Performs, KeepsAtCheck}
@@ -82,9 +84,25 @@ module _ (limit at : ℕ) (s : Stack) where
 
   -- what another command does, is no check
   pub not_asked : (c : Command) → (IsCheck c → ⊥) → (old new : OverTable) (r : Result CodeEffect ReadError) → Performs limit (performed limit at s c) new r → KeepsAtCheck r old new
-  not_asked c other old new (Ok (effects.Check at)) p = absurd (other_none c other p.0 at [] p.1 (sym p.2))
+  not_asked c other old new (Ok (effects.Check at ids)) p = absurd (other_none c other p.0 at p.2.0 p.1 (sym p.2.1))
   not_asked c other old new (Ok effects.Done) p = tt
   not_asked c other old new (Ok effects.Unsupported) p = tt
   not_asked c other old new (Ok (effects.Say text)) p = tt
   not_asked c other old new (Ok effects.Exit) p = tt
   not_asked c other old new (Err stop) p = tt
+
+-- what is begun has the table, and no more than that the start is over
+pub begun_keeps : (old new : OverTable) (e : CodeEffect) → KeepsTable old.table new.table → new.stack ≡ record old.stack { started = true } → KeepsAtCheck {E = ReadError} (Ok e) old new
+begun_keeps old new (effects.Check at ids) k h = (k, h)
+begun_keeps old new effects.Done k h = tt
+begun_keeps old new effects.Unsupported k h = tt
+begun_keeps old new (effects.Say text) k h = tt
+begun_keeps old new effects.Exit k h = tt
+
+-- with another kind of error
+pub keeps_stepped : (old new : OverTable) (e : CodeEffect) → KeepsAtCheck {E = ReadError} (Ok e) old new → KeepsAtCheck {E = Refused} (Ok e) old new
+keeps_stepped old new (effects.Check at ids) h = h
+keeps_stepped old new effects.Done h = tt
+keeps_stepped old new effects.Unsupported h = tt
+keeps_stepped old new (effects.Say text) h = tt
+keeps_stepped old new effects.Exit h = tt

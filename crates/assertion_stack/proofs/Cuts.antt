@@ -28,7 +28,7 @@ long_grown xs ys b = omega (arith, ap length b.1, length-append xs b.0)
 -- Lists that go together are as long as each other.
 pub record AreEven (c : Contents) : Type 0 where
   pub scope : IsScope c.scope.sort_names c.scope.sorts c.scope.names c.scope.functions
-  pub texts : length c.assertions.texts ≡ length c.assertions.ids
+  pub written : length c.assertions.written ≡ length c.assertions.ids
 
 -- Each list is the beginning of one that is there later.
 pub record HasMore (c d : Contents) : Type 0 where
@@ -38,7 +38,7 @@ pub record HasMore (c d : Contents) : Type 0 where
   pub names : Begins c.scope.names d.scope.names
   pub functions : Begins c.scope.functions d.scope.functions
   pub ids : Begins c.assertions.ids d.assertions.ids
-  pub texts : Begins c.assertions.texts d.assertions.texts
+  pub written : Begins c.assertions.written d.assertions.written
 
 -- What there was up to a mark is there still.
 pub record Grows (c d : Contents) : Type 0 where
@@ -84,11 +84,11 @@ grows c d even more = record {
       let names = cut_grown m.names c.scope.names d.scope.names w.names more.names in
       let functions = cut_grown m.names c.scope.functions d.scope.functions (omega (arith, w.names, even.scope.each_function)) more.functions in
       let ids = cut_grown m.assertions c.assertions.ids d.assertions.ids w.assertions more.ids in
-      let texts = cut_grown m.assertions c.assertions.texts d.assertions.texts (omega (arith, w.assertions, even.texts)) more.texts in
+      let written = cut_grown m.assertions c.assertions.written d.assertions.written (omega (arith, w.assertions, even.written)) more.written in
       λ i. record {
         table = table i;
         scope = record { sort_names = sort_names i; sorts = sorts i; names = names i; functions = functions i };
-        assertions = record { ids = ids i; texts = texts i };
+        assertions = record { ids = ids i; written = written i };
       };
 }
 
@@ -103,11 +103,11 @@ cut_all c even =
     let names = take_all (length c.scope.names) c.scope.names (omega arith) in
     let functions = take_all (length c.scope.names) c.scope.functions (omega (arith, even.scope.each_function)) in
     let ids = take_all (length c.assertions.ids) c.assertions.ids (omega arith) in
-    let texts = take_all (length c.assertions.ids) c.assertions.texts (omega (arith, even.texts)) in
+    let written = take_all (length c.assertions.ids) c.assertions.written (omega (arith, even.written)) in
     λ i. record {
       table = record { sorts = sorts i; symbols = symbols i; terms = terms i };
       scope = record { sort_names = sort_names i; sorts = named_sorts i; names = names i; functions = functions i };
-      assertions = record { ids = ids i; texts = texts i };
+      assertions = record { ids = ids i; written = written i };
     }
 
 -- a cut after a cut to a later mark
@@ -121,11 +121,11 @@ cut_twice m n c w =
     let names = take-take m.names n.names c.scope.names w.names in
     let functions = take-take m.names n.names c.scope.functions w.names in
     let ids = take-take m.assertions n.assertions c.assertions.ids w.assertions in
-    let texts = take-take m.assertions n.assertions c.assertions.texts w.assertions in
+    let written = take-take m.assertions n.assertions c.assertions.written w.assertions in
     λ i. record {
       table = record { sorts = sorts i; symbols = symbols i; terms = terms i };
       scope = record { sort_names = sort_names i; sorts = named_sorts i; names = names i; functions = functions i };
-      assertions = record { ids = ids i; texts = texts i };
+      assertions = record { ids = ids i; written = written i };
     }
 
 -- how much a cut leaves

@@ -68,7 +68,7 @@ module _ (limit : ℕ) (old new : TableView) (x : CodeStack) (s : Stack) (h : Is
         names = itself x.scope.names;
         functions = itself x.scope.functions;
         ids = itself x.assertions.ids;
-        texts = itself x.assertions.texts;
+        written = itself x.assertions.written;
       })
       (record {
         scope = subst (ScopeMeans new _) (sym last) (means_sort old new extends x.scope g h.states.scope n y r long.each_sort free there means);
@@ -107,7 +107,7 @@ module _ (limit : ℕ) (t : TableView) (x : CodeStack) (s : Stack) (h : IsStack 
         names = (f.name ∷ [], refl);
         functions = (id ∷ [], refl);
         ids = itself x.assertions.ids;
-        texts = itself x.assertions.texts;
+        written = itself x.assertions.written;
       })
       (record {
         scope = subst (ScopeMeans new _) (sym last) (means_symbol t new extends x.scope g h.states.scope id f long.each_function free (omega (arith, length-append t.symbols (f ∷ [])), get_or_push t.symbols f no_symbol (length t.symbols) refl));

@@ -3,12 +3,11 @@ use Rattle.std.proofs.Common.{◌≡◌, List, [], ◌∷◌, ◌++◌, Some, re
 use Rattle.std.proofs.lemmas.List.{map-append}
 use Rattle.std.specs.Str.{bytes_eq}
 use Rattle.spec_text.specs.Bytes.{Name}
-use Rattle.spec_text.specs.Printed.{printed}
 use Rattle.spec_sorts.specs.Signatures.{Definition, of_sort, of_function, Signature, sort_as, definition}
 use Rattle.spec_sorts.specs.Signatures as signatures
 use Rattle.spec_commands.specs.Stack.{Assertion, Stack, joined, terms_asserted, with_last, with_declaration, with_definitions}
 use Rattle.spec_commands.proofs.Kept.{joined_last}
-use Rattle.assertion_stack.specs.Assertions.{texts_printed}
+use Rattle.assertion_stack.specs.Assertions.{as_written, all_written}
 
 -- definitions more change nothing but the names
 pub rest_with : (s : Stack) (ds : List Definition) → with_definitions s ds ≡ record s { names = (with_definitions s ds).names }
@@ -26,6 +25,6 @@ sorts_with (of_function k ∷ s) ds n = sorts_with s ds n
 pub terms_last : (ls : List (List Assertion)) (a : Assertion) → terms_asserted (joined (with_last ls a)) ≡ terms_asserted (joined ls) ++ a.term ∷ []
 terms_last ls a = ap terms_asserted (joined_last ls a) ∙ map-append (λ (x : Assertion). x.term) (joined ls) (a ∷ [])
 
--- and the texts
-pub texts_last : (ls : List (List Assertion)) (a : Assertion) → texts_printed (joined (with_last ls a)) ≡ texts_printed (joined ls) ++ printed a.text ∷ []
-texts_last ls a = ap texts_printed (joined_last ls a) ∙ map-append (λ (x : Assertion). printed x.text) (joined ls) (a ∷ [])
+-- and how they are written
+pub written_last : (ls : List (List Assertion)) (a : Assertion) → all_written (joined (with_last ls a)) ≡ all_written (joined ls) ++ as_written a.text ∷ []
+written_last ls a = ap all_written (joined_last ls a) ∙ map-append (λ (x : Assertion). as_written x.text) (joined ls) (a ∷ [])

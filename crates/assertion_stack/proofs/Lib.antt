@@ -2,6 +2,7 @@
 pub mod Known
 pub mod SortLists
 pub mod Lasts
+pub mod Labelled
 pub mod PrintedTrees
 pub mod Growing
 pub mod Naming
@@ -12,3 +13,5 @@ pub mod Declared
 pub mod Back
 pub mod Steps
 pub mod Checking
+pub mod LiteralSymbols
+pub mod ReadLiterals

@@ -10,7 +10,6 @@ use Rattle.spec_text.specs.Faults.{Located}
 use Rattle.spec_text.specs.Shapes.{Word, is_reserved}
 use Rattle.spec_text.specs.Answers.{Answer, ◌>>=◌, refused, require}
 use Rattle.spec_text.specs.Trees.{Tree, Trees}
-use Rattle.spec_text.specs.Printed.{printed}
 use Rattle.spec_sorts.specs.Terms.{Sort, Truth, Declared, Term}
 use Rattle.spec_sorts.specs.Signatures.{Definition, Declaration, of_sort, of_function, declared, Signature, symbols_in, sort_as}
 use Rattle.spec_sorts.specs.Signatures as signatures
@@ -37,11 +36,11 @@ use Rattle.sort_check.specs.Reads as parser
 use Rattle.sort_check.specs.Reads.{within, roomy_reading, roomy_definitions, Store, store, StoreGrows, EndsTerm, EndsDefinition}
 use Rattle.assertion_stack.specs.declared.options.Options.{Options as CodeOptions}
 use Rattle.assertion_stack.specs.declared.stack.Stack.{Stack as CodeStack}
-use Rattle.assertion_stack.specs.Assertions.{AssertionsView, no_assertions, texts_printed}
+use Rattle.assertion_stack.specs.Assertions.{AssertionsView, no_assertions, as_written, all_written}
 use Rattle.assertion_stack.specs.Views.{Fails}
 use Rattle.assertion_stack.specs.Levels.{Contents, States, AreMarked}
 use Rattle.assertion_stack.specs.Stacks.{options_meant, OverTable, over_table, contents, IsStack, with_asserted}
-use Rattle.assertion_stack.proofs.Lasts.{rest_with, sorts_with, terms_last, texts_last}
+use Rattle.assertion_stack.proofs.Lasts.{rest_with, sorts_with, terms_last, written_last}
 use Rattle.assertion_stack.proofs.Cuts.{itself, AreEven, HasMore, table_grows, grows, marks_grown, marks_same, none_marked}
 
 -- what is stated, in a table that has terms more
@@ -74,7 +73,7 @@ none_stated c scope sorts symbols assertions = record {
   sorts = λ n e. ap (λ ns. among ns n) sorts;
   inside = subst (λ a. AreIn c.table a.ids) (sym assertions) (All-nil (IsIn c.table));
   terms = ap (λ a. clause_at c.table a.ids) assertions;
-  written = ap (λ a. a.texts) assertions;
+  written = ap (λ a. a.written) assertions;
 }
 
 -- the first stack
@@ -103,17 +102,17 @@ module _ (limit : ℕ) (t : TableView) (x : CodeStack) (s : Stack) (h : IsStack 
     started = h.started;
   }
 
--- a text for each asserted term
-texts_even : (c : Contents) (g : Signature) (asserted : List Assertion) → States c g asserted → length c.assertions.texts ≡ length c.assertions.ids
-texts_even c g asserted h =
-    ap length h.written ∙ length-map asserted (λ (a : Assertion). printed a.text) ∙ sym (ap length h.terms ∙ length-map asserted (λ (a : Assertion). a.term)) ∙ length-map c.assertions.ids (term_at c.table)
+-- how each asserted term is written
+written_even : (c : Contents) (g : Signature) (asserted : List Assertion) → States c g asserted → length c.assertions.written ≡ length c.assertions.ids
+written_even c g asserted h =
+    ap length h.written ∙ length-map asserted (λ (a : Assertion). as_written a.text) ∙ sym (ap length h.terms ∙ length-map asserted (λ (a : Assertion). a.term)) ∙ length-map c.assertions.ids (term_at c.table)
 
-pub one_for_each : (limit : ℕ) (x : OverTable) (s : Stack) → IsStack limit x s → length x.stack.assertions.texts ≡ length x.stack.assertions.ids
-one_for_each limit x s h = texts_even (contents x) (signature_of s) (assertions_of s) h.states
+pub one_for_each : (limit : ℕ) (x : OverTable) (s : Stack) → IsStack limit x s → length x.stack.assertions.written ≡ length x.stack.assertions.ids
+one_for_each limit x s h = written_even (contents x) (signature_of s) (assertions_of s) h.states
 
 -- what is stated has as many of each
 pub even_stated : (limit : ℕ) (x : OverTable) (s : Stack) → IsStack limit x s → IsScope x.stack.scope.sort_names x.stack.scope.sorts x.stack.scope.names x.stack.scope.functions → AreEven (contents x)
-even_stated limit x s h long = record { scope = long; texts = one_for_each limit x s h }
+even_stated limit x s h long = record { scope = long; written = one_for_each limit x s h }
 
 -- setting a logic, by its tests
 module _ (limit at : ℕ) (s : Stack) (w : Word) where
@@ -285,7 +284,7 @@ module _ (limit : ℕ) (old new : TableView) (x : CodeStack) (s : Stack) (v : Sc
         sorts = λ n e. ap (λ d. among d.sorts n) k.declared ∙ g.sorts n (sym (sorts_with (signature_of s) ds n) ∙ ap (λ y. sort_as y n) (sym (signature_with s ds)) ∙ e);
         inside = AreIn-kept old new k.extends x.assertions.ids g.inside;
         terms = clause_at-kept old new k.extends x.assertions.ids g.inside ∙ g.terms ∙ ap (λ (y : Stack). terms_asserted (assertions_of y)) (sym (rest_with s ds));
-        written = g.written ∙ ap (λ (y : Stack). texts_printed (assertions_of y)) (sym (rest_with s ds));
+        written = g.written ∙ ap (λ (y : Stack). all_written (assertions_of y)) (sym (rest_with s ds));
       }
 
   -- definitions more
@@ -301,7 +300,7 @@ module _ (limit : ℕ) (old new : TableView) (x : CodeStack) (s : Stack) (v : Sc
         names = (w.more_names, w.names);
         functions = (w.more_functions, w.functions);
         ids = itself x.assertions.ids;
-        texts = itself x.assertions.texts;
+        written = itself x.assertions.written;
       } in record {
         limit_is = h.limit_is;
         states = named_stated;
@@ -314,11 +313,11 @@ module _ (limit : ℕ) (old new : TableView) (x : CodeStack) (s : Stack) (v : Sc
 
 -- and an assertion more
 pub one_asserted : (limit : ℕ) (t : TableView) (x : CodeStack) (s : Stack) (tree : Tree) (u : Term) (id : TermId) → IsStack limit (over_table t x) s → IsScope x.scope.sort_names x.scope.sorts x.scope.names x.scope.functions → MeansTerm t u id
-    → IsStack limit (over_table t (with_asserted x id (printed tree))) (begun (with_assertion s tree u))
+    → IsStack limit (over_table t (with_asserted x id (as_written tree))) (begun (with_assertion s tree u))
 one_asserted limit t x s tree u id h long m =
     let a : Assertion = record { text = tree; term = u } in
     let c : Contents = contents (over_table t x) in
-    let d : Contents = contents (over_table t (with_asserted x id (printed tree))) in
+    let d : Contents = contents (over_table t (with_asserted x id (as_written tree))) in
     let more : HasMore c d = record {
       table = Extends-self t;
       sort_names = itself x.scope.sort_names;
@@ -326,7 +325,7 @@ one_asserted limit t x s tree u id h long m =
       names = itself x.scope.names;
       functions = itself x.scope.functions;
       ids = (id ∷ [], refl);
-      texts = (printed tree ∷ [], refl);
+      written = (as_written tree ∷ [], refl);
     } in
     let next : Stack = with_assertion s tree u in
     let marked : AreMarked x.marks d next =
@@ -338,7 +337,7 @@ one_asserted limit t x s tree u id h long m =
         sorts = h.states.sorts;
         inside = All-push (IsIn t) x.assertions.ids id h.states.inside m.0;
         terms = map-append (term_at t) x.assertions.ids (id ∷ []) ∙ (λ i. h.states.terms i ++ m.1 i ∷ []) ∙ sym (terms_last s.levels a);
-        written = ap (λ ts. ts ++ printed tree ∷ []) h.states.written ∙ sym (texts_last s.levels a);
+        written = ap (λ ts. ts ++ as_written tree ∷ []) h.states.written ∙ sym (written_last s.levels a);
       };
       marked = marks_same x.marks d next marked s.options true;
       options = h.options;

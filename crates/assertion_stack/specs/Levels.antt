@@ -10,7 +10,7 @@ use Rattle.term_core.specs.Tables.{TableView, AreIn, clause_at}
 use Rattle.term_core.specs.Uses.{UsesDeclared}
 use Rattle.term_reader.specs.Scopes.{ScopeView, ScopeMeans}
 use Rattle.assertion_stack.specs.declared.marks.Mark.{Mark}
-use Rattle.assertion_stack.specs.Assertions.{AssertionsView, texts_printed}
+use Rattle.assertion_stack.specs.Assertions.{AssertionsView, all_written}
 
 -- What the code holds of what a script has stated.
 pub record Contents : Type 0 where
@@ -33,8 +33,8 @@ pub record States (c : Contents) (g : Signature) (asserted : List Assertion) : T
   pub inside : AreIn c.table c.assertions.ids
   -- they are those of the assertions
   pub terms : clause_at c.table c.assertions.ids ≡ terms_asserted asserted
-  -- the texts are those of the assertions, as they are printed
-  pub written : c.assertions.texts ≡ texts_printed asserted
+  -- they are written as they are in the script
+  pub written : c.assertions.written ≡ all_written asserted
 
 -- how much there is of each list
 abbrev pub mark_of : Contents → Mark
@@ -71,7 +71,7 @@ cut_to m c = record {
   };
   assertions = record {
     ids = take m.assertions c.assertions.ids;
-    texts = take m.assertions c.assertions.texts;
+    written = take m.assertions c.assertions.written;
   };
 }
 

@@ -3,21 +3,24 @@ use Rattle.std.specs.Prelude.{◌≡◌, ℕ, true, List, [], ◌∷◌, ◌++�
 use Rattle.spec_text.specs.Places.{IsPlaceOf}
 use Rattle.spec_text.specs.Answers.{Answer}
 use Rattle.spec_text.specs.Bytes.{Name}
-use Rattle.spec_commands.specs.Stack.{Options, Stack, Effect, done, unsupported, check, say, leave, Taken, signature_of}
-use Rattle.spec_commands.specs.Stack.{assertions_of}
+use Rattle.spec_commands.specs.Stack.{Options, Assertion, Stack, Effect, done, unsupported, check, say, leave, Taken}
+use Rattle.spec_commands.specs.Stack.{signature_of, assertions_of, terms_asserted}
 use Rattle.smt_lexer.specs.declared.Refused.{Refused}
 use Rattle.smt_lexer.specs.declared.Refused.TheVariants as refusals
 use Rattle.smt_sexpr.specs.declared.sexpr.Sexpr.{Sexpr}
 use Rattle.smt_sexpr.specs.Items.{text_of}
 use Rattle.term_core.specs.declared.ids.TermId.{TermId}
 use Rattle.term_core.specs.declared.sorts.Sort.{Sort as TableSort}
-use Rattle.term_core.specs.Tables.{TableView}
+use Rattle.term_core.specs.Tables.{TableView, AreIn, clause_at}
+use Rattle.term_reader.specs.Building.{KeepsTable}
 use Rattle.term_reader.specs.declared.scope.Function.{Function}
 use Rattle.term_reader.specs.declared.faults.ReadError.{ReadError}
+use Rattle.assertion_stack.specs.declared.assertions.Written.{Written}
 use Rattle.assertion_stack.specs.declared.options.Options.{Options as CodeOptions}
 use Rattle.assertion_stack.specs.declared.stack.Stack.{Stack as CodeStack}
 use Rattle.assertion_stack.specs.declared.stack.Effect.{Effect as CodeEffect}
 use Rattle.assertion_stack.specs.declared.stack.Effect.TheVariants as effects
+use Rattle.assertion_stack.specs.Assertions.{offsets_of}
 use Rattle.assertion_stack.specs.Views.{Fails}
 use Rattle.assertion_stack.specs.Levels.{Contents, States, mark_at, cut_to, AreMarked}
 
@@ -30,13 +33,22 @@ options_meant o = record {
   assertions = o.assertions;
 }
 
--- what a command answers in the words of the definitions
-abbrev pub effect_meant : CodeEffect → Effect
-effect_meant effects.Done = done
-effect_meant effects.Unsupported = unsupported
-effect_meant (effects.Check at) = check at []
-effect_meant (effects.Say text) = say text.now
-effect_meant effects.Exit = leave
+-- The numbers are those of the terms of what a check assumes, in their order.
+pub record AreAssumed (t : TableView) (ids : List TermId) (assumptions : List Assertion) : Type 0 where
+  -- the terms are in the table
+  pub inside : AreIn t ids
+  -- they are those of the assumptions
+  pub terms : clause_at t ids ≡ terms_asserted assumptions
+
+-- what a command answers is this, in the words of the definitions, where the table has the terms
+abbrev pub EffectMeans : TableView → CodeEffect → Effect → Type 0
+EffectMeans t effects.Done f = done ≡ f
+EffectMeans t effects.Unsupported f = unsupported ≡ f
+EffectMeans t (effects.Check at a) f =
+    (assumptions : List Assertion) × (check at assumptions ≡ f) × AreAssumed t a.ids.items assumptions
+    × (a.offsets.items ≡ offsets_of assumptions)
+EffectMeans t (effects.Say text) f = say text.now ≡ f
+EffectMeans t effects.Exit f = leave ≡ f
 
 -- A stack of the code, and the table that has its terms.
 pub record OverTable : Type 0 where
@@ -84,10 +96,10 @@ with_function x n f = record x {
   started = true;
 }
 
--- an asserted term and its text more, by a command that ends the start
-abbrev pub with_asserted : CodeStack → TermId → List ℕ → CodeStack
-with_asserted x id text = record x {
-  assertions = record x.assertions { ids = x.assertions.ids ++ id ∷ []; texts = x.assertions.texts ++ text ∷ [] };
+-- an asserted term more, and how it is written, by a command that ends the start
+abbrev pub with_asserted : CodeStack → TermId → Written → CodeStack
+with_asserted x id w = record x {
+  assertions = record x.assertions { ids = x.assertions.ids ++ id ∷ []; written = x.assertions.written ++ w ∷ [] };
   started = true;
 }
 
@@ -101,18 +113,21 @@ closed_to k x = back (cut_to (mark_at x.stack.marks k) (contents x))
 
 -- what a command answers and leaves, or its fault, unless memory ran out
 abbrev pub Performs : ℕ → Answer Taken → OverTable → Result CodeEffect ReadError → Type 0
-Performs limit left new (Ok e) = (d : Taken) × (left ≡ Ok d) × (effect_meant e ≡ d.effect) × IsStack limit new d.stack
+Performs limit left new (Ok e) =
+    (d : Taken) × (left ≡ Ok d) × EffectMeans new.table e d.effect × IsStack limit new d.stack
 Performs limit left new (Err stop) = Fails stop left
 
 -- what the command of an s-expression answers and leaves, or its first fault with its place in the text, unless memory
 -- ran out
 abbrev pub Steps : ℕ → Answer Taken → Sexpr → OverTable → Result CodeEffect Refused → Type 0
-Steps limit left x new (Ok e) = (d : Taken) × (left ≡ Ok d) × (effect_meant e ≡ d.effect) × IsStack limit new d.stack
+Steps limit left x new (Ok e) =
+    (d : Taken) × (left ≡ Ok d) × EffectMeans new.table e d.effect × IsStack limit new d.stack
 Steps limit left x new (Err (refusals.Fault r)) =
     (left ≡ Err (record { offset = r.place.offset; fault = r.fault })) × IsPlaceOf (text_of x) r.place
 Steps limit left x new (Err refusals.Memory) = Unit {0}
 
--- a check leaves the table, and of the stack it changes no more than that it ends the start
+-- a check changes of the stack no more than that it ends the start, and of the table that it may have terms more
 abbrev pub KeepsAtCheck : {E : Type 0} → Result CodeEffect E → OverTable → OverTable → Type 0
-KeepsAtCheck (Ok (effects.Check at)) old new = new ≡ over_table old.table (record old.stack { started = true })
+KeepsAtCheck (Ok (effects.Check at a)) old new =
+    KeepsTable old.table new.table × (new.stack ≡ record old.stack { started = true })
 KeepsAtCheck _ old new = Unit {0}

@@ -1,27 +1,29 @@
 //! Assertions and definitions of functions: the commands that read terms.
 
-ghost use Rattle.std.specs.Prelude.{◌≡◌, ℕ, true, Some, OnErr, OnOk};
-ghost use Rattle.spec_text.specs.Printed.{printed};
+ghost use Rattle.std.specs.Prelude.{◌≡◌, ℕ, true, Some, IfOk, OnErr, OnOk};
 ghost use Rattle.spec_commands.specs.Commands.{Assert, DefineFun};
 ghost use Rattle.spec_commands.specs.Stack.{Stack as ScriptStack, performed};
 ghost use Rattle.smt_sexpr.specs.Items.{tree_meant};
 ghost use Rattle.term_reader.specs.Building.{KeepsTable};
 ghost use Rattle.smt_command.specs.Commands.{parts_view};
+ghost use Rattle.assertion_stack.specs.Assertions.{as_written};
 ghost use Rattle.assertion_stack.specs.Stacks.{over_table, HasStack, IsStack, Performs, with_asserted};
 
+use crate::assertions::Written;
+use crate::labels::label;
 use crate::names::in_script;
 use crate::printing::print;
 use crate::stack::{Effect, Stack};
 use no_memory::NoMemory;
 use smt_command::FunctionText;
-use smt_sexpr::Trees;
+use smt_sexpr::{Trees, offset};
 use sort_check::{Room, define, term};
 use std::alloc::Global;
 use term_core::{Sort, TermId, TermTable};
 use term_reader::ReadError;
 
 /// Gives the room for the names and terms of a command at an offset.
-fn room(stack: &Stack, at: u64) -> Room
+pub(crate) fn room(stack: &Stack, at: u64) -> Room
     ensures { result ≡ record { limit = Some stack.now.limit; at = at } }
 {
     Room {
@@ -30,25 +32,38 @@ fn room(stack: &Stack, at: u64) -> Room
     }
 }
 
-/// Prints the first tree, and puts the term of a number among the assertions, with this text.
+/// Notes how the first tree is written: as it is printed, from where, and under which label.
+fn written(alloc: Global, tree: Trees<'_>) -> Result<Written, NoMemory>
+    ensures { IfOk result (λ w. w ≡ as_written (tree_meant tree.entry)) }
+{
+    let text = print(alloc, tree)?;
+    let label = label(alloc, tree)?;
+    Ok(Written {
+        text,
+        at: offset(tree),
+        label,
+    })
+}
+
+/// Puts the term of a number among the assertions, as the first tree is written.
 fn add_written(
     stack: &mut Stack,
     alloc: Global,
     id: TermId,
     tree: Trees<'_>,
 ) -> Result<(), NoMemory>
-    ensures added { OnOk result (stack.new ≡ with_asserted stack.old id (printed (tree_meant tree.entry))) }
+    ensures added { OnOk result (stack.new ≡ with_asserted stack.old id (as_written (tree_meant tree.entry))) }
     ensures same { OnErr result (stack.new ≡ stack.old) }
 {
-    let text = print(alloc, tree)?;
-    stack.assertions.add(id, text)?;
+    let written = written(alloc, tree)?;
+    stack.assertions.add(id, written)?;
     stack.started = true;
     Ok(())
 }
 
 impl Stack {
-    /// Asserts the term that the first tree is, by an `assert` at an offset in bytes: `current` has it last, `written` its
-    /// text, and the scope the names that `:named` makes in it.
+    /// Asserts the term that the first tree is, by an `assert` at an offset in bytes: `current` has it last, `written` how
+    /// it is written, and the scope the names that `:named` makes in it.
     ///
     /// - `Fault` has the first fault, with its offset: of the term as `sort_check::term` tells it, `WrongSort` at the tree
     ///   where the term is not of sort Bool, then `Full` at the command where there are more names or different subterms
@@ -56,7 +71,7 @@ impl Stack {
     /// - `Memory` may come at any allocation, and says nothing of the command.
     ///
     /// After each of these stack and table are as they were. Its time goes with no assertion that was made before.
-    /// Source: SMT-LIB 2.6, section 4.2.5.
+    /// Source: SMT-LIB 2.6, section 4.2.4.
     pub fn assert<'a>(
         &mut self,
         alloc: Global,

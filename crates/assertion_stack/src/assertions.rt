@@ -1,4 +1,4 @@
-//! The asserted terms, in their order, with their texts.
+//! The asserted terms, in their order, and how they are written.
 
 ghost use Rattle.std.specs.Prelude.{◌≡◌, ◌++◌, [], ◌∷◌, length, take, OnErr, OnOk};
 ghost use Rattle.assertion_stack.specs.Assertions.{no_assertions};
@@ -9,13 +9,26 @@ use std::marker::Model;
 use term_core::TermId;
 use world_io::Bytes;
 
-/// Holds the asserted terms by their numbers, oldest first, with the text of each.
+/// Holds how an assertion is written.
+///
+/// Source: SMT-LIB 2.6, sections 3.6 and 4.2.5.
+#[derive(Drop)]
+pub struct Written {
+    /// The text, as `smt_sexpr::print` prints it.
+    pub text: Bytes,
+    /// The offset of its first byte in the script, in bytes.
+    pub at: u64,
+    /// Its label: the first name that `:named` gives it, where the whole text is a term with attributes.
+    pub label: Option<Bytes>,
+}
+
+/// Holds the asserted terms by their numbers, oldest first, and how each is written.
 ///
 /// Source: SMT-LIB 2.6, section 4.1.4.
 #[derive(Drop)]
 pub struct Assertions {
     ids: Vec<TermId>,
-    texts: Vec<Bytes>,
+    written: Vec<Written>,
 }
 
 impl Model for Assertions {
@@ -25,7 +38,7 @@ impl Model for Assertions {
 
     ghost view = { λ a. record {
       ids = a.ids.items;
-      texts = a.texts.items;
+      written = a.written.items;
     } };
 }
 
@@ -36,7 +49,7 @@ impl Assertions {
     {
         Assertions {
             ids: Vec::new(alloc),
-            texts: Vec::new(alloc),
+            written: Vec::new(alloc),
         }
     }
 
@@ -47,11 +60,11 @@ impl Assertions {
         self.ids.as_slice()
     }
 
-    /// Lends the texts of the asserted terms, oldest first.
-    pub fn texts(&self) -> &[Bytes]
-        ensures { result.now ≡ self.now.texts }
+    /// Lends how the asserted terms are written, oldest first.
+    pub fn written(&self) -> &[Written]
+        ensures { result.now ≡ self.now.written }
     {
-        self.texts.as_slice()
+        self.written.as_slice()
     }
 
     /// Counts the asserted terms.
@@ -61,28 +74,28 @@ impl Assertions {
         self.ids.len()
     }
 
-    /// Puts a term and its text last.
+    /// Puts a term last, and how it is written.
     ///
     /// `NoMemory` comes where a place finds no memory; then all is as it was.
-    pub fn add(&mut self, id: TermId, text: Bytes) -> Result<(), NoMemory>
+    pub fn add(&mut self, id: TermId, written: Written) -> Result<(), NoMemory>
         ensures added { OnOk result (self.new
             ≡ record self.old {
               ids = self.old.ids ++ id ∷ [];
-              texts = self.old.texts ++ text ∷ [];
+              written = self.old.written ++ written ∷ [];
             }) }
         ensures same { OnErr result (self.new ≡ self.old) }
     {
         self.ids.reserve(1)?;
-        self.texts.push(text)?;
+        self.written.push(written)?;
         self.ids.push_reserved(id);
         Ok(())
     }
 
-    /// Takes away all terms after the first `len` with their texts, none where there are no more. It takes no memory.
+    /// Takes away all terms after the first `len`, with how they are written; none where there are no more. It takes no memory.
     pub fn cut(&mut self, len: usize)
-        ensures { self.new ≡ record { ids = take len self.old.ids; texts = take len self.old.texts } }
+        ensures { self.new ≡ record { ids = take len self.old.ids; written = take len self.old.written } }
     {
         self.ids.truncate(len);
-        self.texts.truncate(len);
+        self.written.truncate(len);
     }
 }

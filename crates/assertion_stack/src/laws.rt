@@ -13,8 +13,8 @@ pub fn stacks_hold_in_grown_tables()
         → KeepsTable old new → IsStack limit (over_table new x) s }
 {}
 
-/// States that a stack has as many texts as asserted terms: `written` has one for each of `current`.
+/// States that a stack says of each asserted term how it is written: `written` has one for each of `current`.
 pub fn each_assertion_has_its_text()
     ensures { (limit : ℕ) (x : OverTable) (s : ScriptStack) → IsStack limit x s
-        → length x.stack.assertions.texts ≡ length x.stack.assertions.ids }
+        → length x.stack.assertions.written ≡ length x.stack.assertions.ids }
 {}

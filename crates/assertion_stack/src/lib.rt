@@ -6,10 +6,13 @@
 
 mod asserting;
 mod assertions;
+mod assuming;
 mod declaring;
 mod faults;
+mod labels;
 pub mod laws;
 mod leveling;
+mod literals;
 mod marks;
 mod names;
 mod options;
@@ -17,7 +20,8 @@ mod printing;
 mod settings;
 mod stack;
 
-pub use assertions::Assertions;
+pub use assertions::{Assertions, Written};
+pub use assuming::Assumed;
 pub use leveling::LEVEL_LIMIT;
 pub use marks::{Mark, Marks};
 pub use options::Options;

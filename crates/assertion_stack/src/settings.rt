@@ -8,11 +8,13 @@ ghost use Rattle.smt_sexpr.specs.Views.{word_view};
 ghost use Rattle.term_core.specs.Tables.{TableView};
 ghost use Rattle.assertion_stack.specs.Stacks.{over_table, IsStack, Performs};
 
+use crate::assuming::Assumed;
 use crate::faults::refused;
 use crate::stack::{Effect, Stack};
 use smt_command::{Logic, OptionKey, truth_in};
 use smt_sexpr::{Trees, Word, is_reserved};
 use spec_text::Fault;
+use std::alloc::Global;
 use term_reader::ReadError;
 
 /// Sets the logic of a name, by a command at an offset. All logics that are known have one language.
@@ -60,12 +62,12 @@ pub(crate) fn set_option<'a>(
     Ok(Effect::Done)
 }
 
-/// Begins a check, by a command whose word is at a place.
-pub(crate) fn begin_check<'a>(stack: &mut Stack, place: u64) -> Effect<'a>
+/// Begins a check that assumes nothing, by a command whose word is at a place.
+pub(crate) fn begin_check<'a>(stack: &mut Stack, alloc: Global, place: u64) -> Effect<'a>
     ensures performs { (limit at : ℕ) (t : TableView) (s : ScriptStack) → IsStack limit (over_table t stack.old) s
         → Performs limit (performed limit at s (CheckSat place)) (over_table t stack.new) (Ok result) }
     ensures begun { stack.new ≡ record stack.old { started = true } }
 {
     stack.started = true;
-    Effect::Check(place)
+    Effect::Check(place, Assumed::nothing(alloc))
 }

@@ -1,13 +1,14 @@
 //! The stack of a script: its names, assertions and options, and what each command makes of them.
 
-ghost use Rattle.std.specs.Prelude.{◌≡◌, ℕ, [], length, OnErr, OnOk};
+ghost use Rattle.std.specs.Prelude.{◌≡◌, ℕ, [], length, OnErr};
 ghost use Rattle.spec_commands.specs.Stack.{Stack as ScriptStack, empty_stack, performed, step};
 ghost use Rattle.smt_command.specs.Commands.{command_view};
 ghost use Rattle.smt_sexpr.specs.Items.{tree_of};
 ghost use Rattle.term_core.specs.Tables.{TableView};
 ghost use Rattle.assertion_stack.specs.Stacks.{over_table, HasStack, IsStack, Performs, Steps, KeepsAtCheck};
 
-use crate::assertions::Assertions;
+use crate::assertions::{Assertions, Written};
+use crate::assuming::Assumed;
 use crate::faults::place_in;
 use crate::marks::Marks;
 use crate::options::Options;
@@ -18,7 +19,6 @@ use smt_sexpr::{Sexpr, offset};
 use std::alloc::Global;
 use term_core::{TermId, TermTable};
 use term_reader::{ReadError, Scope};
-use world_io::Bytes;
 
 /// The most names that a script may have, and the most different subterms that the terms of one command may have. It is own.
 pub const TERM_LIMIT: u64 = 1 << 24;
@@ -47,14 +47,14 @@ pub struct Stack {
 /// What a command that was taken is answered.
 ///
 /// Source: SMT-LIB 2.6, section 4.1.
-#[derive(Clone, Copy, Debug, PartialEq, Eq)]
+#[derive(Drop)]
 pub enum Effect<'a> {
     /// It is done: the answer is `success`, where that is printed.
     Done,
     /// Its option is not known: the answer is `unsupported`.
     Unsupported,
-    /// It asks for a check of what is asserted, by its word at this offset.
-    Check(u64),
+    /// It asks for a check of what is asserted, by its word at this offset, with these literals assumed.
+    Check(u64, Assumed),
     /// It asks for a text to be written, which is between its quotes.
     Say(&'a [u8]),
     /// It ends the script.
@@ -93,14 +93,14 @@ impl Stack {
         self.assertions.as_slice()
     }
 
-    /// Lends the texts of the asserted terms, in the order of `current` and one for each: the tree that was read for it, as
-    /// `smt_sexpr::print` prints it. Names that `:named` makes are in them.
+    /// Lends how the asserted terms are written, in the order of `current` and one for each: the tree that was read for it,
+    /// as `smt_sexpr::print` prints it, with the names that `:named` makes in it; where it is in the script; and its label.
     ///
-    /// Source: SMT-LIB 2.6, section 4.2.7.
-    pub fn written(&self) -> &[Bytes]
-        ensures { result.now ≡ self.now.assertions.texts }
+    /// Source: SMT-LIB 2.6, sections 3.6 and 4.2.4.
+    pub fn written(&self) -> &[Written]
+        ensures { result.now ≡ self.now.assertions.written }
     {
-        self.assertions.texts()
+        self.assertions.written()
     }
 
     /// Counts the levels that are open above the first one.
@@ -179,7 +179,10 @@ fn perform<'a>(
         Command::Assert(tree) => stack.assert(alloc, table, at, tree),
         Command::Push(n) => stack.push(table, at, n),
         Command::Pop(n) => stack.pop(table, at, n),
-        Command::CheckSat(place) => Ok(begin_check(stack, place)),
+        Command::CheckSat(place) => Ok(begin_check(stack, alloc, place)),
+        Command::CheckSatAssuming(place, literals) => {
+            stack.check_assuming(alloc, table, at, place, literals)
+        }
         Command::ResetAssertions => Ok(stack.reset_assertions(alloc, table)),
         Command::Reset => Ok(stack.reset(alloc, table)),
         Command::Echo(text) => Ok(Effect::Say(text)),

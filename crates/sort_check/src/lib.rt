@@ -16,3 +16,4 @@ mod splitting;
 mod walk;
 
 pub use reads::{FunctionParts, Room, define, term, terms};
+pub use sorted::find_room;

@@ -7,7 +7,8 @@ use Rattle.spec_commands.specs.Stack.{did, say, leave}
 use Rattle.smt_sexpr.specs.Items.{trees_meant, tree_meant}
 use Rattle.smt_sexpr.specs.Views.{word_view}
 use Rattle.smt_command.specs.Commands.{parts_view}
-use Rattle.assertion_stack.proofs.Checking.{not_asked}
+use Rattle.term_reader.proofs.Tables.{keeps_same}
+use Rattle.assertion_stack.proofs.Checking.{not_asked, begun_keeps}
 use Rattle.assertion_stack.proofs.stack.perform.Goals as goal
 
 pub returns-in-SetOption-clause-performs : goal.returns-in-SetOption-clause-performs
@@ -48,6 +49,12 @@ returns-in-Reset-clause-performs c limit s h = rw c.in-Reset.is (c.reset.ensures
 
 pub returns-in-CheckSat-clause-performs : goal.returns-in-CheckSat-clause-performs
 returns-in-CheckSat-clause-performs c limit s h = rw c.in-CheckSat.is (c.begin_check.ensures.performs limit c.args.at c.args.table.now s h)
+
+pub returns-in-CheckSat-clause-check : goal.returns-in-CheckSat-clause-check
+returns-in-CheckSat-clause-check c = begun_keeps _ _ c.begin_check.result (keeps_same c.args.table.now) c.begin_check.ensures.begun
+
+pub returns-in-CheckSatAssuming-clause-performs : goal.returns-in-CheckSatAssuming-clause-performs
+returns-in-CheckSatAssuming-clause-performs c limit s h = rw c.in-CheckSatAssuming.is (c.check_assuming.ensures.performs limit s h)
 
 pub returns-in-Echo-clause-performs : goal.returns-in-Echo-clause-performs
 returns-in-Echo-clause-performs c limit s h = rw c.in-Echo.is (record { effect = say c.in-Echo.text.now; stack = s }, refl, refl, h)

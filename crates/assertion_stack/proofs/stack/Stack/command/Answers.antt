@@ -8,6 +8,7 @@ use Rattle.term_reader.specs.declared.faults.TermFault.{TermFault}
 use Rattle.smt_command.specs.Commands.{command_view}
 use Rattle.assertion_stack.specs.Views.{Fails}
 use Rattle.assertion_stack.specs.Stacks.{over_table}
+use Rattle.assertion_stack.proofs.Checking.{keeps_stepped}
 use Rattle.assertion_stack.proofs.Steps.{not_taken, step_done, step_fails, placed_fault}
 use Rattle.assertion_stack.proofs.stack.Stack.command.Goals as goal
 
@@ -19,6 +20,9 @@ returns-in-Ok-perform-clause-steps c limit s h =
     let p = c.in-Ok-perform.ensures.performs limit s h in
     let at = c.offset.ensures ∙ ap offset_of c.trees.ensures.tree in
     (p.0, step_done limit s (tree_of c.args.sexpr.now) (command_view c.in-Ok.command) c.offset.result c.in-Ok.ensures at p.0 p.1, p.2, p.3)
+
+pub returns-in-Ok-perform-clause-check : goal.returns-in-Ok-perform-clause-check
+returns-in-Ok-perform-clause-check c = keeps_stepped _ _ c.in-Ok-perform.effect c.in-Ok-perform.ensures.check
 
 pub returns-in-Err-Fault-clause-steps : goal.returns-in-Err-Fault-clause-steps
 returns-in-Err-Fault-clause-steps c limit s h =
