@@ -5,14 +5,15 @@ use Rattle.spec_commands.specs.Checks.{term_limit, HasNoCheck}
 use Rattle.spec_proofs.specs.declared.ProofKind.TheVariants.{NoSuchCheck}
 use Rattle.spec_proofs.specs.Faults.{Fault}
 use Rattle.spec_checking.specs.Accepted.{IsVerdict}
+use Rattle.spec_checking.specs.Commands.{known_at}
+use Rattle.term_core.specs.declared.ids.TermId.{TermId}
 use Rattle.assertion_stack.specs.Stacks.{OverTable}
 use Rattle.alethe_reader.specs.declared.errors.LocatedFault.{LocatedFault}
-use Rattle.alethe_reader.specs.Holding.{known_on}
 use Rattle.alethe_reader.specs.Reads.{located_view}
 use Rattle.alethe_reader.specs.declared.errors.ProofStop.{ProofStop}
 use Rattle.alethe_reader.specs.declared.errors.ProofStop.TheVariants as stops
 use Rattle.alethe_check.specs.Judging.{IsJudgedFrom}
-use Rattle.alethe_check.specs.Loads.{bare, IsLoaded}
+use Rattle.alethe_check.specs.Loads.{IsLoaded}
 use Rattle.alethe_check.specs.Verdicts.{AnswersVerdict, Refuses, fault_view}
 
 -- the faults of verdicts are in the proof
@@ -31,17 +32,17 @@ module _ (script : List ℕ) (k : ℕ) (proof : List ℕ) where
   pub no_check : (r : ProofStop) → HasNoCheck term_limit script k → Refuses proof 0 NoSuchCheck r → AnswersVerdict script k proof (Err r)
   no_check r h s = answered record { offset = 0; kind = NoSuchCheck } r (inr (h, refl)) s
 
-  module _ (x : OverTable) (l : IsLoaded script k x) where
-    verdict : (found : Option Fault) → IsJudgedFrom (known_on l.stack) proof found → IsVerdict script k proof found
-    verdict found j = inl (bare l.stack, l.current, record { commands = j.commands; ending = j.ending; read = j.read; fault = j.fault })
+  module _ (x : OverTable) (ids : List TermId) (l : IsLoaded script k x ids) where
+    verdict : (found : Option Fault) → IsJudgedFrom (known_at l.check) proof found → IsVerdict script k proof found
+    verdict found j = inl (l.check, l.current, record { commands = j.commands; ending = j.ending; read = j.read; fault = j.fault })
 
-    pub accepted : (u : Unit {0}) → IsJudgedFrom (known_on l.stack) proof None → AnswersVerdict script k proof (Ok u)
+    pub accepted : (u : Unit {0}) → IsJudgedFrom (known_at l.check) proof None → AnswersVerdict script k proof (Ok u)
     accepted u j = verdict None j
 
-    pub fault_inside : FaultsAreInside → (f : LocatedFault) → IsJudgedFrom (known_on l.stack) proof (Some (located_view f)) → f.offset ≤ length proof
+    pub fault_inside : FaultsAreInside → (f : LocatedFault) → IsJudgedFrom (known_at l.check) proof (Some (located_view f)) → f.offset ≤ length proof
     fault_inside law f j = law script proof k (located_view f) (verdict (Some (located_view f)) j)
 
-    pub fault_told : (f : LocatedFault) (r : ProofStop) → IsJudgedFrom (known_on l.stack) proof (Some (located_view f)) → Refuses proof f.offset f.kind r → AnswersVerdict script k proof (Err r)
+    pub fault_told : (f : LocatedFault) (r : ProofStop) → IsJudgedFrom (known_at l.check) proof (Some (located_view f)) → Refuses proof f.offset f.kind r → AnswersVerdict script k proof (Err r)
     fault_told f r j s = answered (located_view f) r (verdict (Some (located_view f)) j) s
 
 -- what follows from an accepted proof

@@ -8,7 +8,7 @@ use Rattle.spec_text.specs.Faults.{Located}
 use Rattle.spec_text.specs.Answers.{Answer}
 use Rattle.spec_text.specs.Readings.{AreTrees, StopsAt, EndsTrees, kept, is_long, limited, IsReadUpTo}
 use Rattle.spec_text.proofs.Stopping.{stop_of}
-use Rattle.spec_commands.specs.Stack.{Stack, Effect, check, leave, Taken, empty_stack, step}
+use Rattle.spec_commands.specs.Stack.{Assertion, Stack, Effect, check, leave, Taken, empty_stack, step}
 use Rattle.spec_commands.specs.Checks.{Check, after_effect, after_command, current_at, term_limit, HasNoCheck}
 use Rattle.smt_lexer.specs.declared.Refusal.{Refusal}
 use Rattle.smt_lexer.specs.declared.Refused.TheVariants as refusals
@@ -17,11 +17,13 @@ use Rattle.smt_sexpr.specs.Items.{tree_of}
 use Rattle.smt_sexpr.specs.Limited.{IsStopped}
 use Rattle.smt_sexpr.specs.Reads.{ReadsSexpr}
 use Rattle.smt_sexpr.proofs.Limits.{stops_in}
+use Rattle.term_core.specs.Tables.{TableView}
+use Rattle.assertion_stack.specs.declared.assuming.Assumed.{Assumed}
 use Rattle.assertion_stack.specs.declared.stack.Effect.{Effect as CodeEffect}
 use Rattle.assertion_stack.specs.declared.stack.Effect.TheVariants as effects
-use Rattle.assertion_stack.specs.Stacks.{OverTable, IsStack, Steps, effect_meant}
+use Rattle.assertion_stack.specs.Stacks.{OverTable, EffectMeans, IsStack, Steps}
 use Rattle.alethe_reader.proofs.Rows.{nothing_first, read_first}
-use Rattle.alethe_check.specs.Loads.{bare, IsLoaded}
+use Rattle.alethe_check.specs.Loads.{IsLoaded}
 
 -- A script was read up to an offset: each reading from there on is one of all, and has its check.
 pub record Loading (bytes : List ℕ) (k : ℕ) (x : OverTable) (at left : ℕ) : Type 0 where
@@ -60,11 +62,22 @@ nothing_at s left = refl
 after_same : (e f : Effect) (s : Stack) (left : ℕ) (rest : Stack → ℕ → Option Check) → e ≡ f → after_effect f s left rest ≡ after_effect e s left rest
 after_same e f s left rest h = ap (λ x. after_effect x s left rest) (sym h)
 
+-- after each command that is answered so, as many checks are to come
+abbrev pub GoesOn : TableView → CodeEffect → ℕ → ℕ → Type 0
+GoesOn t answer left next = (f : Effect) → EffectMeans t answer f → (s : Stack) (rest : Stack → ℕ → Option Check) → after_effect f s left rest ≡ rest s next
+
+other_check : (place : ℕ) (assumptions : List Assertion) (left next : ℕ) → (left ≡ 1 → ⊥) → next ≡ left - 1 → (s : Stack) (rest : Stack → ℕ → Option Check) → after_effect (check place assumptions) s left rest ≡ rest s next
+other_check place assumptions zero next other e s rest = let n : next ≡ 0 = omega (arith, e) in ap (rest s) (sym n)
+other_check place assumptions (suc zero) next other e s rest = absurd (other refl)
+other_check place assumptions (suc (suc k)) next other e s rest = let n : next ≡ suc k = omega (arith, e) in ap (rest s) (sym n)
+
 -- one check less is to come
-pub one_less : (place left next : ℕ) → (left ≡ 1 → ⊥) → next ≡ left - 1 → (s : Stack) (rest : Stack → ℕ → Option Check) → after_effect (check place []) s left rest ≡ rest s next
-one_less place zero next other e s rest = let n : next ≡ 0 = omega (arith, e) in ap (rest s) (sym n)
-one_less place (suc zero) next other e s rest = absurd (other refl)
-one_less place (suc (suc k)) next other e s rest = let n : next ≡ suc k = omega (arith, e) in ap (rest s) (sym n)
+pub one_less : (t : TableView) (place : ℕ) (a : Assumed) (left next : ℕ) → (left ≡ 1 → ⊥) → next ≡ left - 1 → GoesOn t (effects.Check place a) left next
+one_less t place a left next other e f m s rest = after_same (check place m.0) f s left rest m.1 ∙ other_check place m.0 left next other e s rest
+
+-- the same checks are to come after an effect which is no check
+pub no_less : (effect : Effect) (left next : ℕ) → ((s : Stack) (rest : Stack → ℕ → Option Check) → after_effect effect s left rest ≡ rest s left) → next ≡ left → (f : Effect) → effect ≡ f → (s : Stack) (rest : Stack → ℕ → Option Check) → after_effect f s left rest ≡ rest s next
+no_less effect left next goes e f m s rest = after_same effect f s left rest m ∙ goes s rest ∙ ap (rest s) (sym e)
 
 module _ (text : List ℕ) (k : ℕ) (x : OverTable) (from : Place) (left : ℕ) (l : Loading (kept text) k x from.offset left) where
   -- the script ends here
@@ -91,15 +104,18 @@ module _ (text : List ℕ) (k : ℕ) (x : OverTable) (from : Place) (left : ℕ)
     Stepped answer new = Steps term_limit (step term_limit l.stack (tree_of s)) s new (Ok answer)
 
     -- the check, or the end of the script
-    pub check_here : (place : ℕ) (new : OverTable) → left ≡ 1 → Stepped (effects.Check place) new → EachIsRead (kept text) after.offset → IsLoaded text k new
-    check_here place new one d b =
+    pub check_here : (place : ℕ) (a : Assumed) (new : OverTable) → left ≡ 1 → Stepped (effects.Check place a) new → EachIsRead (kept text) after.offset → IsLoaded text k new a.ids.items
+    check_here place a new one d b =
         let o = next_tree b.0 b.1 b.2 in
         let stop = stop_of (length (kept text)) b.1 b.3 in
-        let here = taken_is l.stack (tree_of s) b.0 left d.0 (Some (bare d.0.stack)) d.1 (after_same (check place []) d.0.effect d.0.stack left _ d.2 ∙ ap (λ n. after_effect (check place []) d.0.stack n (λ next m. current_at term_limit next m b.0)) one) in
+        let assumptions : List Assertion = d.2.0 in
+        let this : Check = record { stack = d.0.stack; assumptions = assumptions } in
+        let here = taken_is l.stack (tree_of s) b.0 left d.0 (Some this) d.1 (after_same (check place assumptions) d.0.effect d.0.stack left _ d.2.1 ∙ ap (λ n. after_effect (check place assumptions) d.0.stack n (λ next m. current_at term_limit next m b.0)) one) in
         record {
-          stack = d.0.stack;
+          check = this;
           current = record { commands = o.0; end = limited (is_long text) stop.0; read = read_whole text o.0 b.1 stop.0 o.1 stop.1; here = o.2 ∙ here };
           represents = d.3;
+          assumed = d.2.2;
         }
 
     pub leaves_here : (new : OverTable) → Stepped effects.Exit new → EachIsRead (kept text) after.offset → HasNoCheck term_limit text k
@@ -117,12 +133,12 @@ module _ (text : List ℕ) (k : ℕ) (x : OverTable) (from : Place) (left : ℕ)
       onward = λ us rest a. let o = next_tree us rest a in (o.0, o.1, o.2 ∙ refused_is l.stack (tree_of s) us left _ d.0);
     }
 
-    pub taken_here : (answer : CodeEffect) (next : ℕ) (new : OverTable) → ((z : Stack) (rest : Stack → ℕ → Option Check) → after_effect (effect_meant answer) z left rest ≡ rest z next) → Stepped answer new → Loading (kept text) k new after.offset next
+    pub taken_here : (answer : CodeEffect) (next : ℕ) (new : OverTable) → GoesOn new.table answer left next → Stepped answer new → Loading (kept text) k new after.offset next
     taken_here answer next new goes d = record {
       stack = d.0.stack;
       represents = d.3;
       onward = λ us rest a.
           let o = next_tree us rest a in
           let to : Stack → ℕ → Option Check = λ z n. current_at term_limit z n us in
-          (o.0, o.1, o.2 ∙ taken_is l.stack (tree_of s) us left d.0 (current_at term_limit d.0.stack next us) d.1 (after_same (effect_meant answer) d.0.effect d.0.stack left to d.2 ∙ goes d.0.stack to));
+          (o.0, o.1, o.2 ∙ taken_is l.stack (tree_of s) us left d.0 (current_at term_limit d.0.stack next us) d.1 (goes d.0.effect d.2 d.0.stack to));
     }

@@ -2,12 +2,12 @@
 #![tactic(auto)]
 
 ghost use Rattle.std.specs.Prelude.{◌≤◌, ℕ, length, OnOk};
-ghost use Rattle.spec_commands.specs.Stack.{Stack as ScriptStack};
-ghost use Rattle.spec_commands.specs.Checks.{HasNoModel, term_limit};
+ghost use Rattle.spec_commands.specs.Checks.{Check, HasNoModel, term_limit};
 ghost use Rattle.spec_checking.specs.Accepted.{IsAccepted};
-ghost use Rattle.assertion_stack.specs.Stacks.{over_table, HasStack, IsStack};
-ghost use Rattle.alethe_reader.specs.Holding.{known_on};
+ghost use Rattle.spec_checking.specs.Commands.{known_at};
+ghost use Rattle.assertion_stack.specs.Stacks.{over_table, AreAssumed, IsStack};
 ghost use Rattle.alethe_check.specs.Judging.{JudgesAll};
+ghost use Rattle.alethe_check.specs.Loads.{HasCheck};
 ghost use Rattle.alethe_check.specs.Verdicts.{AnswersVerdict, Refuses};
 
 mod command;
@@ -27,8 +27,9 @@ use std::alloc::Global;
 
 /// Judges a proof against the `at`-th check of a script, counted from 1.
 ///
-/// `Ok` means that the proof is accepted: each assume is a current assertion of that check, each step is right by its rule,
-/// and one step has the empty clause. Then no interpretation makes the assertions of that check true.
+/// `Ok` means that the proof is accepted: each assume is a current assertion of that check or a literal that it assumes, each
+/// step is right by its rule, and one step has the empty clause. Then no interpretation makes all of them true, the current
+/// assertions and the assumed literals.
 ///
 /// Commands of the script that are refused are passed over. Of both texts the first 2^26 bytes are read.
 ///
@@ -62,13 +63,18 @@ fn refused(proof: &[u8], fault: ProofKind, offset: u64) -> ProofStop
     })
 }
 
-/// Judges a proof at the check before which a script has stated so much: its first fault, or none.
+/// Judges a proof at the check that asks about so much: its first fault, or none.
 fn judge_at(alloc: Global, stated: Script, proof: &[u8]) -> Result<(), CommandError>
-    requires { HasStack (over_table stated.table stated.stack) }
-    ensures { (limit : ℕ) (s : ScriptStack) → IsStack limit (over_table stated.table stated.stack) s
-        → JudgesAll proof.now (known_on s) result }
+    requires { HasCheck stated }
+    ensures { (limit : ℕ) (c : Check) → IsStack limit (over_table stated.table stated.stack) c.stack
+        → AreAssumed stated.table stated.assumed.ids.items c.assumptions → JudgesAll proof.now (known_at c) result }
 {
-    let known = ProofState::at_check(alloc, stated.table, stated.stack)?;
+    let known = ProofState::at_check(
+        alloc,
+        stated.table,
+        stated.stack,
+        stated.assumed.ids.as_slice(),
+    )?;
     judge(alloc, proof, known)
 }
 

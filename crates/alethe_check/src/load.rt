@@ -6,31 +6,33 @@ ghost use Rattle.smt_sexpr.specs.Limited.{whole_of};
 ghost use Rattle.assertion_stack.specs.Stacks.{over_table, IsStack};
 ghost use Rattle.alethe_check.specs.Loads.{Loads, Reaches};
 
-use assertion_stack::{Effect, Stack, TERM_LIMIT};
+use assertion_stack::{Assumed, Effect, Stack, TERM_LIMIT};
 use no_memory::NoMemory;
 use smt_lexer::{Refused, start};
 use smt_sexpr::LimitedText;
 use std::alloc::Global;
 use term_core::TermTable;
 
-/// Holds what a script has stated: its stack, and the table that has the stack's terms.
+/// Holds what a check asks about: the script's stack there, what the check assumes, and the table that has the terms of both.
 #[derive(Drop)]
 pub(crate) struct Script {
     /// The terms, and what is declared.
     pub table: TermTable,
     /// The names, the assertions and the options.
     pub stack: Stack,
+    /// What the check assumes besides what is asserted.
+    pub assumed: Assumed,
 }
 
-/// Takes the commands of a limited text up to its `at`-th check, and tells whether there is one. Then the stack has what is
-/// current there. Before the first command it has nothing.
+/// Takes the commands of a limited text up to its `at`-th check, and gives what the check assumes: `None` where
+/// there is no such check. Then the stack has what is current there. Before the first command it has nothing.
 fn reaches_check(
     alloc: Global,
     text: LimitedText<'_>,
     at: u64,
     table: &mut TermTable,
     stack: &mut Stack,
-) -> Result<bool, NoMemory>
+) -> Result<Option<Assumed>, NoMemory>
     requires { IsStack term_limit (over_table table.old stack.old) empty_stack }
     ensures { Reaches (whole_of text.entry) at result (over_table table.new stack.new) }
 {
@@ -40,18 +42,18 @@ fn reaches_check(
     'commands: loop {
         let (sexpr, after) = match text.next_one(alloc, place) {
             Ok(Some(read)) => read,
-            Ok(None) => return Ok(false),
-            Err(Refused::Fault(_)) => return Ok(false),
+            Ok(None) => return Ok(None),
+            Err(Refused::Fault(_)) => return Ok(None),
             Err(Refused::Memory) => return Err(NoMemory),
         };
         match stack.command(alloc, table, &sexpr) {
-            Ok(Effect::Check(_)) => {
+            Ok(Effect::Check(_, assumed)) => {
                 if left == 1 {
-                    return Ok(true);
+                    return Ok(Some(assumed));
                 }
                 left = left.saturating_sub(1);
             }
-            Ok(Effect::Exit) => return Ok(false),
+            Ok(Effect::Exit) => return Ok(None),
             Ok(Effect::Done) => {}
             Ok(Effect::Unsupported) => {}
             Ok(Effect::Say(_)) => {}
@@ -69,8 +71,12 @@ fn current_in(alloc: Global, text: LimitedText<'_>, at: u64) -> Result<Option<Sc
     let mut table = TermTable::new(alloc);
     let mut stack = Stack::new(alloc, TERM_LIMIT);
     match reaches_check(alloc, text, at, &mut table, &mut stack) {
-        Ok(true) => Ok(Some(Script { table, stack })),
-        Ok(false) => Ok(None),
+        Ok(Some(assumed)) => Ok(Some(Script {
+            table,
+            stack,
+            assumed,
+        })),
+        Ok(None) => Ok(None),
         Err(error) => Err(error),
     }
 }

@@ -1,26 +1,29 @@
 -- Names with their clauses, and what is known while the table grows.
-use Rattle.std.proofs.Common.{◌≡◌, ℕ, zero, suc, ◌<◌, Bool, true, false, cond, ◌||◌, List, [], ◌∷◌, ◌++◌, length, get_or, All, Some, None, refl, sym, ap, ◌∙◌, subst, arith, append-nil}
+use Rattle.std.proofs.Common.{◌≡◌, ℕ, zero, suc, ◌<◌, Bool, true, false, cond, ◌||◌, List, [], ◌∷◌, ◌++◌, length, get_or, All, Some, None, refl, sym, ap, ◌∙◌, subst, arith}
 use Rattle.std.specs.Str.{bytes_eq}
 use Rattle.std.proofs.lemmas.Bool.{false≢true}
-use Rattle.std.proofs.lemmas.List.Elements.{All-push}
+use Rattle.std.proofs.lemmas.List.{map-append}
+use Rattle.std.proofs.lemmas.List.Elements.{All-push, All-append}
 use Rattle.spec_text.specs.Bytes.{Name, among}
 use Rattle.spec_sorts.specs.Signatures.{Definition, with_definitions}
-use Rattle.spec_commands.specs.Stack.{Stack, assertions_of, terms_asserted}
+use Rattle.spec_sorts.specs.Terms.{Term}
+use Rattle.spec_commands.specs.Stack.{Assertion, assertions_of, terms_asserted}
+use Rattle.spec_commands.specs.Checks.{Check}
 use Rattle.spec_proofs.specs.Resolution.{IsWithin}
-use Rattle.spec_checking.specs.Commands.{NamedClause, Known}
+use Rattle.spec_checking.specs.Commands.{NamedClause, Known, known_at}
 use Rattle.spec_checking.specs.Reading.{clause_of, entry_names}
 use Rattle.term_core.specs.declared.ids.TermId.{TermId}
 use Rattle.term_core.specs.NameLists.{HaveNoTwice}
-use Rattle.term_core.specs.Tables.{TableView, clause_at, AreIn, Extends}
+use Rattle.term_core.specs.Tables.{TableView, clause_at, AreIn, IsIn, term_at, Extends}
 use Rattle.term_core.proofs.NamesApart.{bytes_same, same_bytes}
 use Rattle.term_core.proofs.TermsExtend.{clause_at-kept, AreIn-kept}
 use Rattle.term_reader.specs.Scopes.{ScopeMeans}
 use Rattle.assertion_stack.specs.declared.stack.Stack.{Stack as CodeStack}
-use Rattle.assertion_stack.specs.Stacks.{over_table, IsStack}
+use Rattle.assertion_stack.specs.Stacks.{over_table, AreAssumed, IsStack}
 use Rattle.alethe_reader.specs.declared.proof_state.ProofState.{ProofState}
-use Rattle.alethe_reader.specs.Holding.{IsKnown, entries_of, known_on, with_entry}
+use Rattle.alethe_reader.specs.Holding.{IsKnown, entries_of, with_entry}
 use Rattle.alethe_reader.specs.Parts.{HaveSameMembers, with_made}
-use Rattle.alethe_reader.proofs.Members.{ids_there, terms_there, terms_back}
+use Rattle.alethe_reader.proofs.Members.{joined_by, ids_there, terms_there, terms_back}
 
 module _ (t : TableView) where
   pub find_none : (ns : List Name) (cs : List (List TermId)) (n : Name) → among ns n ≡ false → clause_of (entries_of t ns cs) n ≡ None
@@ -104,16 +107,24 @@ known_made h new k ds is grows represents asserted names clauses =
       entries = rw (names, clauses) (entries_kept h.table new.table grows h.names h.clauses.items is.clauses ∙ is.entries);
     }
 
--- what is known at a check, before the first command
-pub known_first : (limit : ℕ) (t : TableView) (x : CodeStack) (s : Stack) (new : ProofState) → IsStack limit (over_table t x) s → HaveSameMembers x.assertions.ids new.asserted.keys
-    → new.table ≡ t → new.scope ≡ x.scope → new.names ≡ [] → new.clauses.items ≡ [] → IsKnown new (known_on s)
-known_first limit t x s new is same table scope names clauses =
-    let asked : clause_at t x.assertions.ids ≡ (known_on s).asserted = is.states.terms ∙ ap terms_asserted (sym (append-nil (assertions_of s))) in
+-- what is known at a check, before the first command: a set has what is asserted, and after it what is assumed
+pub known_first : (limit : ℕ) (t : TableView) (x : CodeStack) (ids first : List TermId) (c : Check) (new : ProofState) → IsStack limit (over_table t x) c.stack → AreAssumed t ids c.assumptions
+    → HaveSameMembers x.assertions.ids first → HaveSameMembers (first ++ ids) new.asserted.keys
+    → new.table ≡ t → new.scope ≡ x.scope → new.names ≡ [] → new.clauses.items ≡ [] → IsKnown new (known_at c)
+known_first limit t x ids first c new is assumed some all table scope names clauses =
+    let both : List TermId = x.assertions.ids ++ ids in
+    let same = joined_by x.assertions.ids ids first new.asserted.keys some all in
+    let there = All-append (λ id. IsIn t id) x.assertions.ids ids is.states.inside assumed.inside in
+    let asked : clause_at t both ≡ (known_at c).asserted =
+    map-append (term_at t) x.assertions.ids ids
+    ∙ ap (λ (us : List Term). us ++ clause_at t ids) is.states.terms
+    ∙ ap (λ (us : List Term). terms_asserted (assertions_of c.stack) ++ us) assumed.terms
+    ∙ sym (map-append (λ (a : Assertion). a.term) (assertions_of c.stack) c.assumptions) in
     record {
       scope = rw (table, scope) is.states.scope;
-      inside = rw table (ids_there t x.assertions.ids new.asserted.keys same is.states.inside);
-      asked = rw table (terms_there t x.assertions.ids new.asserted.keys (known_on s).asserted same asked);
-      asserted = rw table (terms_back t x.assertions.ids new.asserted.keys (known_on s).asserted same asked);
+      inside = rw table (ids_there t both new.asserted.keys same there);
+      asked = rw table (terms_there t both new.asserted.keys (known_at c).asserted same asked);
+      asserted = rw table (terms_back t both new.asserted.keys (known_at c).asserted same asked);
       paired = ap length names ∙ sym (ap length clauses);
       clauses = rw clauses (λ k d lt. absurd (omega (arith, lt)));
       entries = (λ i. entries_of (table i) (names i) (clauses i));

@@ -1,11 +1,11 @@
 -- Sets of terms by their numbers.
-use Rattle.std.proofs.Common.{◌≡◌, ℕ, ◌+◌, ◌<◌, Bool, true, false, List, [], ◌∷◌, ◌++◌, length, get_or, take, Contains, inl, inr, refl, sym, ap, ◌∙◌, subst, if◌then◌else◌, rules}
+use Rattle.std.proofs.Common.{◌≡◌, ℕ, ◌+◌, ◌<◌, Bool, true, false, List, [], ◌∷◌, ◌++◌, length, get_or, take, Contains, inl, inr, refl, sym, ap, ◌∙◌, subst, if◌then◌else◌, append-nil, rules}
 use Rattle.std.specs.Prelude.{MatchBool}
 use Rattle.std.specs.List.{list_any}
 use Rattle.std.proofs.lemmas.Bool.{false≢true}
-use Rattle.std.proofs.lemmas.List.{take_more, get_or_default}
+use Rattle.std.proofs.lemmas.List.{take_more, get_or_default, append_assoc}
 use Rattle.std.proofs.lemmas.List.Folds.{list_any_at}
-use Rattle.std.proofs.lemmas.List.Elements.{Contains-push, Contains-push_cases, Contains-append_left}
+use Rattle.std.proofs.lemmas.List.Elements.{Contains-push, Contains-push_cases, Contains-append_left, Contains-append_right, Contains-append_cases}
 use Rattle.indexmap.specs.IndexSet.{insert_key}
 use Rattle.indexmap.proofs.CallerLemmas.{Contains-list_any}
 use Rattle.spec_text.proofs.Members.{to_image, from_image}
@@ -42,13 +42,22 @@ added_by xs keys new id h e = go (list_any (ghosts.eq id) keys) refl
     go true t = subst (λ ks. HaveSameMembers (xs ++ id ∷ []) ks) (sym (e ∙ ap (λ c. if c then keys else keys ++ id ∷ []) t)) (push_one xs keys id (Contains-list_any ghosts.eq equal_is keys id t) h)
     go false t = subst (λ ks. HaveSameMembers (xs ++ id ∷ []) ks) (sym (e ∙ ap (λ c. if c then keys else keys ++ id ∷ []) t)) (push_both xs keys id h)
 
--- the next term of a list, in a set of those before it
-pub taken_by : (xs keys new : List TermId) (k : ℕ) (d : TermId) → k < length xs → HaveSameMembers (take k xs) keys → new ≡ insert_key ghosts.eq keys (get_or xs k d) → HaveSameMembers (take (k + 1) xs) new
-taken_by xs keys new k d lt h e = subst (λ ys. HaveSameMembers ys new) (sym (take_more xs k d lt)) (added_by (take k xs) keys new (get_or xs k d) h e)
+-- the next term of a list, in a set of what there was and of those before it
+pub taken_by : (before xs keys new : List TermId) (k : ℕ) (d : TermId) → k < length xs → HaveSameMembers (before ++ take k xs) keys → new ≡ insert_key ghosts.eq keys (get_or xs k d) → HaveSameMembers (before ++ take (k + 1) xs) new
+taken_by before xs keys new k d lt h e =
+    let one : before ++ take (k + 1) xs ≡ (before ++ take k xs) ++ get_or xs k d ∷ [] = ap (λ ys. before ++ ys) (take_more xs k d lt) ∙ sym (append_assoc before (take k xs) (get_or xs k d ∷ [])) in
+    subst (λ ys. HaveSameMembers ys new) (sym one) (added_by (before ++ take k xs) keys new (get_or xs k d) h e)
 
--- no terms
-pub none_taken : HaveSameMembers [] []
-none_taken id = (λ c. c, λ c. c)
+-- none of the terms yet
+pub none_taken : (before : List TermId) → HaveSameMembers (before ++ []) before
+none_taken before = subst (λ ys. HaveSameMembers ys before) (sym (append-nil before)) (λ id. (λ c. c, λ c. c))
+
+-- terms that were added to a set of terms
+pub joined_by : (xs ys keys new : List TermId) → HaveSameMembers xs keys → HaveSameMembers (keys ++ ys) new → HaveSameMembers (xs ++ ys) new
+joined_by xs ys keys new first both id = (
+  λ c. (both id).0 (elim (Contains-append_cases xs ys id c) [ inl here ↦ Contains-append_left keys ys id ((first id).0 here) | inr there ↦ Contains-append_right keys ys id there ]),
+  λ c. elim (Contains-append_cases keys ys id ((both id).1 c)) [ inl here ↦ Contains-append_left xs ys id ((first id).1 here) | inr there ↦ Contains-append_right xs ys id there ],
+)
 
 module _ (t : TableView) where
   -- what the one has is in the other, by the terms too

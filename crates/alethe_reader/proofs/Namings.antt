@@ -6,7 +6,8 @@ use Rattle.spec_text.specs.declared.Kind.{Kind}
 use Rattle.spec_text.specs.Trees.{Tree, Trees, atom, list, none, more}
 use Rattle.spec_text.specs.Shapes.{Word}
 use Rattle.spec_sorts.specs.Forms.{Next, named_words}
-use Rattle.spec_checking.specs.Reading.{names_given, named_in, named_in_all, one_is_at}
+use Rattle.spec_commands.specs.Labels.{names_given}
+use Rattle.spec_checking.specs.Reading.{named_in, named_in_all, one_is_at}
 use Rattle.smt_sexpr.specs.declared.items.Trees.{Trees as Cursor}
 use Rattle.smt_sexpr.specs.Items.{split_first, trees_meant}
 use Rattle.smt_sexpr.proofs.Splitting.{split_end, split_more}

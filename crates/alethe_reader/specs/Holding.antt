@@ -2,9 +2,8 @@
 use Rattle.std.specs.Prelude.{◌≡◌, ◌<◌, ℕ, List, [], ◌∷◌, ◌++◌, length, map, All, slice_index_or}
 use Rattle.spec_text.specs.Bytes.{Name}
 use Rattle.spec_sorts.specs.Literals.{Clause}
-use Rattle.spec_commands.specs.Stack.{Stack}
 use Rattle.spec_proofs.specs.Resolution.{IsWithin}
-use Rattle.spec_checking.specs.Commands.{NamedClause, Known, known_at}
+use Rattle.spec_checking.specs.Commands.{NamedClause, Known}
 use Rattle.term_core.specs.declared.ids.TermId.{TermId}
 use Rattle.term_core.specs.Tables.{TableView, clause_at, AreIn}
 use Rattle.term_reader.specs.Scopes.{ScopeMeans}
@@ -35,10 +34,6 @@ pub record IsKnown (h : ProofState) (k : Known) : Type 0 where
 -- the state represents something
 abbrev pub HasKnown : ProofState → Type 0
 HasKnown h = (k : Known) × IsKnown h k
-
--- what is known at a check of a stack, before a proof's first command
-abbrev pub known_on : Stack → Known
-known_on s = known_at (record { stack = s; assumptions = [] })
 
 -- an earlier command more, under its name
 abbrev pub with_entry : Known → Name → Clause → Known

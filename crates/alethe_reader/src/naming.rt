@@ -2,7 +2,8 @@
 
 ghost use Rattle.std.specs.Prelude.{◌≡◌, IfOk, ◌∷◌};
 ghost use Rattle.spec_sorts.specs.Forms.{a_keyword, named_words};
-ghost use Rattle.spec_checking.specs.Reading.{names_given, named_in, named_in_all, one_is_at, kind_by};
+ghost use Rattle.spec_commands.specs.Labels.{names_given};
+ghost use Rattle.spec_checking.specs.Reading.{named_in, named_in_all, one_is_at, kind_by};
 ghost use Rattle.smt_sexpr.specs.Items.{trees_meant, tree_meant};
 ghost use Rattle.smt_sexpr.specs.Views.{word_view};
 ghost use Rattle.term_reader.specs.Forms.{next_meant};

@@ -1,12 +1,12 @@
 //! What is known of a proof while it is judged: terms and names, and the clauses of the commands up to here.
 
-ghost use Rattle.std.specs.Prelude.{◌≡◌, ℕ, IfOk, IfErr, OnOk, MatchBool, Contains, false};
+ghost use Rattle.std.specs.Prelude.{◌≡◌, ℕ, ◌++◌, IfOk, IfErr, OnOk, MatchBool, Contains, false};
 ghost use Rattle.spec_text.specs.Bytes.{among};
-ghost use Rattle.spec_commands.specs.Stack.{Stack as ScriptStack};
-ghost use Rattle.spec_checking.specs.Commands.{Known};
+ghost use Rattle.spec_commands.specs.Checks.{Check};
+ghost use Rattle.spec_checking.specs.Commands.{Known, known_at};
 ghost use Rattle.term_core.specs.Tables.{AreIn, IsIn, clause_at, term_at};
-ghost use Rattle.assertion_stack.specs.Stacks.{over_table, IsStack};
-ghost use Rattle.alethe_reader.specs.Holding.{IsKnown, HasKnown, known_on, with_entry};
+ghost use Rattle.assertion_stack.specs.Stacks.{over_table, AreAssumed, IsStack};
+ghost use Rattle.alethe_reader.specs.Holding.{IsKnown, HasKnown, with_entry};
 ghost use Rattle.alethe_reader.specs.Parts.{HaveSameMembers};
 ghost use Rattle.alethe_reader.specs.declared.errors.CommandError.TheVariants as errors;
 
@@ -35,35 +35,38 @@ pub struct ProofState {
     pub clauses: Vec<Clause>,
 }
 
-/// Gives terms each once, with a look-up by hash.
-fn set_of(alloc: Global, ids: &[TermId]) -> Result<IndexSet<TermId>, CommandError>
-    ensures same { IfOk result (λ s. HaveSameMembers ids.now s.keys) }
+/// Adds terms to a set, each once, with a look-up by hash.
+fn add_terms(set: &mut IndexSet<TermId>, ids: &[TermId]) -> Result<(), CommandError>
+    ensures added { OnOk result (HaveSameMembers (set.old.keys ++ ids.now) set.new.keys) }
     ensures memory { IfErr result (λ e. e ≡ errors.Memory) }
 {
-    let mut made = IndexSet::new(alloc);
     for id in ids {
-        match made.insert(*id) {
+        match set.insert(*id) {
             Ok(_) => {}
             Err(_) => return Err(CommandError::Memory),
         }
     }
-    Ok(made)
+    Ok(())
 }
 
 impl ProofState {
-    /// Gives what is known at a script's check, before the first command of a proof. It takes the script's table and names.
+    /// Gives what is known at a script's check, before the first command of a proof. It takes the script's table and names,
+    /// and the terms that the check assumes besides what is asserted.
     ///
     /// `Memory` comes where memory runs out. Source: Alethe specification, commands.
     pub fn at_check(
         alloc: Global,
         table: TermTable,
         stack: Stack,
+        assumed: &[TermId],
     ) -> Result<ProofState, CommandError>
-        ensures known { IfOk result (λ h. (limit : ℕ) (s : ScriptStack) → IsStack limit (over_table table stack) s
-            → IsKnown h (known_on s)) }
+        ensures known { IfOk result (λ h. (limit : ℕ) (c : Check) → IsStack limit (over_table table stack) c.stack
+            → AreAssumed table assumed.now c.assumptions → IsKnown h (known_at c)) }
         ensures memory { IfErr result (λ e. e ≡ errors.Memory) }
     {
-        let asserted = set_of(alloc, stack.assertions.as_slice())?;
+        let mut asserted = IndexSet::new(alloc);
+        add_terms(&mut asserted, stack.assertions.as_slice())?;
+        add_terms(&mut asserted, assumed)?;
         Ok(ProofState {
             table,
             scope: stack.scope,
