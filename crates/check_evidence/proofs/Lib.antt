@@ -2,4 +2,5 @@
 pub mod Causes
 pub mod Printed
 pub mod Asking
+pub mod Assuming
 pub mod Showing

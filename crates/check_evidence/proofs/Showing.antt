@@ -6,9 +6,11 @@ use Rattle.spec_sorts.specs.Values.{Interpretation, Interprets, truth}
 use Rattle.spec_sorts.specs.TermValues.{value_at}
 use Rattle.spec_sorts.specs.Signatures.{Signature, symbols_in}
 use Rattle.spec_sorts.specs.Meaning.{value_under}
-use Rattle.spec_commands.specs.Stack.{Assertion, Stack, signature_of, assertions_of, terms_asserted}
-use Rattle.spec_commands.specs.Checks.{IsTrueAssertion}
+use Rattle.spec_sorts.specs.Subterms.{subterms_of}
+use Rattle.spec_commands.specs.Stack.{Assertion, signature_of, terms_asserted}
+use Rattle.spec_commands.specs.Checks.{Check, asked, IsTrueAssertion}
 use Rattle.spec_causes.specs.Checks.{ArePivotsSpent}
+use Rattle.spec_causes.specs.Shared.{IsSharedEquality}
 use Rattle.spec_sessions.specs.Evidence.{Limits, Kept, model, spent, overflowed, out_of_pivots, IsProblemOf, IsKeptOf, Justifies}
 use Rattle.term_core.specs.Tables.{TableView, literal_at}
 use Rattle.term_walks.specs.declared.values.Interp.{Interp}
@@ -20,10 +22,10 @@ use Rattle.solve_core.specs.declared.outcome.Outcome.{Outcome}
 use Rattle.ratio128.specs.Meant.{overflow}
 use Rattle.search_loop.specs.Stops.{IsOverflowed}
 use Rattle.search_loop.specs.Rounds.{HasEvidence}
-use Rattle.spec_derivations.specs.Problems.{Problem}
-use Rattle.spec_derivations.specs.Examples.{speaking}
+use Rattle.spec_derivations.specs.Problems.{Problem, terms_of_problem, problem_of}
 use Rattle.check_evidence.specs.declared.evidence.Evidence.TheVariants as found
-use Rattle.check_evidence.specs.Evidence.{check_on, kept_of, Decides, IsShown}
+use Rattle.check_evidence.specs.Evidence.{kept_of, Decides, IsShown}
+use Rattle.check_evidence.proofs.Assuming.{all_asserted, same_terms, asserts_no_more, spent_too, kept_too, overflowed_too, pivots_too}
 use Rattle.check_evidence.proofs.Causes.{AreOverflows, cause_of}
 
 -- the text has its term's value under an interpretation
@@ -35,21 +37,17 @@ texts_true : (g : Signature) (i : Interpretation) (xs : List Assertion) → All 
 texts_true g i xs same each = λ k d lt.
     same k d lt ∙ ap (value_at i []) (sym (get_or-map (λ (a : Assertion). a.term) xs k d (d.term) lt)) ∙ each k d.term (omega (arith, length-map xs (λ (a : Assertion). a.term), lt))
 
-module _ (limits : Limits) (t : TableView) (s : Stack) (symbols : symbols_in (signature_of s) ≡ t.symbols) (o : Outcome) where
-  abbrev asked : List Term
-  asked = terms_asserted (assertions_of s)
-
-  pub model_shown : ((i : Interpretation) → All (HasValue (signature_of s) i) (assertions_of s)) → (interp : Interp) → o.answer ≡ Sat interp → (interface : List Term) → HasEvidence t (speaking asked interface) o.log o.budget (Sat interp) → IsShown limits t s (found.Model interp) o
+module _ (limits : Limits) (t : TableView) (c : Check) (symbols : symbols_in (signature_of c.stack) ≡ t.symbols) (o : Outcome) where
+  pub model_shown : ((i : Interpretation) → All (HasValue (signature_of c.stack) i) (asked c)) → (interp : Interp) → o.answer ≡ Sat interp → (interface : List Term) → HasEvidence t (all_asserted c interface) o.log o.budget (Sat interp) → IsShown limits t c (found.Model interp) o
   model_shown values interp is interface h =
       let i = h.interpretation.0 in
       let represents = h.interpretation.1 in
       let interprets = h.interprets i represents in
-      let terms : All (λ u. value_at i [] u ≡ truth true) asked = subst (All (λ u. value_at i [] u ≡ truth true)) (append-nil asked) (h.holds i represents) in
-      let each = texts_true (signature_of s) i (assertions_of s) (values i) terms in (
+      let terms : All (λ u. value_at i [] u ≡ truth true) (terms_asserted (asked c)) = subst (All (λ u. value_at i [] u ≡ truth true)) (append-nil (terms_asserted (asked c))) (h.holds i represents) in (
         model i,
         record {
           interprets = subst (Interprets i) (sym symbols) interprets;
-          each = subst (All (IsTrueAssertion i (signature_of s))) (sym (append-nil (assertions_of s))) each;
+          each = texts_true (signature_of c.stack) i (asked c) (values i) terms;
         },
         (i, record { count = omega (arith, h.tables); named = h.named }, represents, interprets, refl),
         (interp, is, represents),
@@ -62,42 +60,53 @@ module _ (limits : Limits) (t : TableView) (s : Stack) (symbols : symbols_in (si
   many : length kept.learned ≡ length o.budget.learned
   many = length-map o.budget.learned (map (literal_at t))
 
-  module _ (d : Decides limits t s o) where
+  module _ (d : Decides limits t c o) where
     -- the problem that was decided
+    abbrev decided : Problem
+    decided = all_asserted c d.interface
+
+    -- the check's own, which asserts no more
     abbrev problem : Problem
-    problem = speaking asked d.interface
+    problem = problem_of c d.interface
 
-    problem_is : IsProblemOf (check_on s) problem
-    problem_is = record { interface = d.interface; equalities = d.equalities; is = refl }
+    same : terms_of_problem decided ≡ terms_of_problem problem
+    same = same_terms c d.interface
 
-    conflicts_shown : (n : ℕ) → o.answer ≡ Unknown (reasons.Conflicts n) → HasEvidence t problem o.log o.budget (Unknown (reasons.Conflicts n)) → IsShown limits t s (found.Reason (reasons.Conflicts n)) o
+    problem_is : IsProblemOf c problem
+    problem_is = record { interface = d.interface; equalities = subst (λ ts. All (IsSharedEquality (subterms_of ts)) d.interface) (same_terms c []) d.equalities; is = refl }
+
+    conflicts_shown : (n : ℕ) → o.answer ≡ Unknown (reasons.Conflicts n) → HasEvidence t decided o.log o.budget (Unknown (reasons.Conflicts n)) → IsShown limits t c (found.Reason (reasons.Conflicts n)) o
     conflicts_shown n is h =
         let e = derivation_in t o.log in
-        let learned = map (map (literal_at t)) o.budget.learned in (
+        let learned = map (map (literal_at t)) o.budget.learned in
+        let on = spent_too decided problem same refl (asserts_no_more c d.interface) o.budget.limit n e learned (record { spent = h.0; conflict = h.1 }) in (
           spent n e learned,
-          subst (λ m. Justifies (record { conflicts = m; pivots = limits.pivots; terms = limits.terms }) (check_on s) (spent n e learned)) d.justified.limits_are.0 (problem, problem_is, record { spent = h.0; conflict = h.1 }),
+          subst (λ m. Justifies (record { conflicts = m; pivots = limits.pivots; terms = limits.terms }) c (spent n e learned)) d.justified.limits_are.0 (problem, problem_is, on),
           (e, refl),
           (is, refl, refl),
         )
 
     kept_within : IsKeptOf limits problem kept
-    kept_within = record {
+    kept_within = kept_too decided problem same refl (asserts_no_more c d.interface) limits kept (record {
       exchanges = subst (λ (n : ℕ). length o.budget.exchanges ≤ n) d.justified.limits_are.1 d.justified.within;
       learned = omega (arith, many, d.justified.learned_within, d.justified.limits_are.0);
       learns = d.justified.learning.learns;
-    }
+    })
 
-    pub reason_shown : AreOverflows → (r : Reason) → o.answer ≡ Unknown r → HasEvidence t problem o.log o.budget (Unknown r) → IsShown limits t s (found.Reason r) o
+    pub reason_shown : AreOverflows → (r : Reason) → o.answer ≡ Unknown r → HasEvidence t decided o.log o.budget (Unknown r) → IsShown limits t c (found.Reason r) o
     reason_shown overflows (reasons.Conflicts n) is h = conflicts_shown n is h
     reason_shown overflows (reasons.Overflow x) is h =
         let es = o.budget.exchanges in
-        let cause = cause_of problem (length kept.learned) es x (subst (λ (l : ℕ). IsOverflowed problem l es x) (sym many) h) in (
+        let l = length kept.learned in
+        let cause = overflowed_too decided problem same refl (asserts_no_more c d.interface) l es (overflow x.wide)
+        (cause_of decided l es x (subst (λ (m : ℕ). IsOverflowed decided m es x) (sym many) h)) in (
           overflowed (overflow x.wide) kept,
-          (overflows problem (length kept.learned) es (overflow x.wide) cause, (problem, problem_is, kept_within, cause)),
+          (overflows problem l es (overflow x.wide) cause, (problem, problem_is, kept_within, cause)),
           (derivation_in t o.log, refl),
           (x, is, refl, refl),
         )
     reason_shown overflows (reasons.Pivots n) is h =
         let es = o.budget.exchanges in
-        let more = subst (λ (l : ℕ). ArePivotsSpent problem n l es) (sym many) h.spent in
+        let l = length kept.learned in
+        let more = pivots_too decided problem same refl (asserts_no_more c d.interface) n l es (subst (λ (m : ℕ). ArePivotsSpent decided n m es) (sym many) h.spent) in
         (out_of_pivots n kept, (h.limit ∙ d.justified.limits_are.1, (problem, problem_is, kept_within, more)), (derivation_in t o.log, refl), (is, refl))

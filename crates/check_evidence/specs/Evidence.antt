@@ -1,16 +1,18 @@
 -- What a check finds, and what shows it. Source: SMT-LIB 2.6, section 4.2.5; what counts as shown is own.
-use Rattle.std.specs.Prelude.{◌≡◌, ℕ, [], map, Result, Ok, Err}
+use Rattle.std.specs.Prelude.{◌≡◌, ℕ, List, map, All, Result, Ok, Err}
 use Rattle.no_memory.specs.declared.NoMemory.{NoMemory}
 use Rattle.spec_sorts.specs.Values.{Interpretation, Interprets}
-use Rattle.spec_commands.specs.Stack.{Stack, terms_asserted, assertions_of}
-use Rattle.spec_commands.specs.Checks.{Check}
+use Rattle.spec_commands.specs.Stack.{Stack, terms_asserted, signature_of}
+use Rattle.spec_commands.specs.Checks.{Check, asked}
+use Rattle.spec_commands.specs.Kept.{IsAsserted, IsSoundStack}
+use Rattle.spec_proof_texts.specs.ReadBack.{HaveScriptNames}
 use Rattle.spec_proof_texts.specs.Readable.{HaveReadableDefinitions}
 use Rattle.spec_derivations.specs.Derivations.{Derivation}
 use Rattle.spec_proof_texts.specs.Lines.{proof_text}
 use Rattle.spec_proof_texts.specs.Plans.{Plan, IsPlan, lines_of}
-use Rattle.spec_sessions.specs.Evidence.{Limits, Kept, Found, model, proof, spent, overflowed, out_of_pivots, Checked}
+use Rattle.spec_sessions.specs.Evidence.{Limits, Kept, Found, model, proof, spent, overflowed, out_of_pivots}
 use Rattle.spec_sessions.specs.Evidence.{Justifies}
-use Rattle.spec_sessions.specs.Meaning.{IsKeptCheck}
+use Rattle.term_core.specs.declared.ids.TermId.{TermId}
 use Rattle.term_core.specs.Tables.{TableView, literal_at}
 use Rattle.term_walks.specs.declared.values.Interp.{Interp}
 use Rattle.term_walks.specs.Valuations.{HasSymbolTables, HasTables}
@@ -22,7 +24,7 @@ use Rattle.sat_budget.specs.Budgets.{BudgetView}
 use Rattle.sat_budget.specs.declared.limits.Strain.{Strain}
 use Rattle.sat_budget.specs.declared.limits.Limits.{Limits as CodeLimits}
 use Rattle.sat_budget.specs.declared.limits.Reason.TheVariants as reasons
-use Rattle.assertion_stack.specs.Stacks.{OverTable, IsStack}
+use Rattle.assertion_stack.specs.Stacks.{OverTable, IsStack, AreAssumed}
 use Rattle.search_loop.specs.declared.cdcl.Answer.TheVariants.{Sat, Unsat, Unknown}
 use Rattle.solve_core.specs.declared.outcome.Outcome.{Outcome}
 use Rattle.solve_core.specs.Decisions.{HasDecision}
@@ -37,22 +39,29 @@ limits_meant l = record { conflicts = l.conflicts; pivots = l.pivots; terms = l.
 abbrev pub limits_of : Limits → CodeLimits
 limits_of l = record { conflicts = l.conflicts; pivots = l.pivots; terms = l.terms }
 
--- a check of a stack, which assumes nothing
-abbrev pub check_on : Stack → Check
-check_on s = record { stack = s; assumptions = [] }
-
--- what was found at a check of a stack
-abbrev pub checked_on : Stack → Found → Checked
-checked_on s f = record { check = check_on s; found = f }
-
 -- A stack of the code represents a stack, which commands left under a limit on terms and names.
 pub record IsHeld (terms : ℕ) (x : OverTable) (s : Stack) : Type 0 where
   -- it is the stack
   pub stack : IsStack terms x s
-  -- commands left it, and its names can be printed, up to each level
-  pub kept : IsKeptCheck terms (check_on s)
+  -- commands left it
+  pub sound : IsSoundStack terms s
+  -- its names can be printed, up to each level
+  pub names : HaveScriptNames s
   -- its definitions stand for terms that can be read back, up to each level
   pub readable : HaveReadableDefinitions s
+
+-- A stack of the code, and the numbers of terms that are assumed, represent a check.
+pub record IsHeldCheck (terms : ℕ) (x : OverTable) (assumed : List TermId) (c : Check) : Type 0 where
+  -- the stack is that of the check
+  pub held : IsHeld terms x c.stack
+  -- the terms are those of its assumptions
+  pub assumed_are : AreAssumed x.table assumed c.assumptions
+  -- which were read, too
+  pub read : All (IsAsserted terms (signature_of c.stack)) c.assumptions
+
+-- they represent some check
+abbrev pub HoldsCheck : ℕ → OverTable → List TermId → Type 0
+HoldsCheck terms x assumed = (c : Check) × IsHeldCheck terms x assumed c
 
 -- it represents some stack
 abbrev pub HoldsSome : ℕ → OverTable → Type 0
@@ -99,35 +108,35 @@ IsFoundBy t o (overflowed x k) =
 IsFoundBy t o (out_of_pivots n k) =
     (o.answer ≡ Unknown (reasons.Pivots n)) × (k ≡ kept_of t (derivation_in t o.log) o.budget)
 
--- it shows what it should of a stack, within limits, and is that of an outcome
-abbrev pub IsShown : Limits → TableView → Stack → Evidence → Outcome → Type 0
-IsShown limits t s e o =
-    (f : Found) × Justifies limits (check_on s) f × IsEvidence t o.budget e f × IsFoundBy t o f
+-- it shows what it should of a check, within limits, and is that of an outcome
+abbrev pub IsShown : Limits → TableView → Check → Evidence → Outcome → Type 0
+IsShown limits t c e o =
+    (f : Found) × Justifies limits c f × IsEvidence t o.budget e f × IsFoundBy t o f
 
--- the outcome is that of a decision on the assertions of a stack
-abbrev pub Decides : Limits → TableView → Stack → Outcome → Type 0
-Decides limits t s o = HasDecision t (terms_asserted (assertions_of s)) (limits_of limits) o
+-- the outcome is that of a decision on all that a check asks about
+abbrev pub Decides : Limits → TableView → Check → Outcome → Type 0
+Decides limits t c o = HasDecision t (terms_asserted (asked c)) (limits_of limits) o
 
--- the budget is that of a decision on the assertions of a stack, which found this: it has the limit on conflicts, and
+-- the budget is that of a decision on what a check asks about, which found this: it has the limit on conflicts, and
 -- its clauses are those that the decision learned and has in its log
-abbrev pub HasLearned : Limits → TableView → Stack → Found → BudgetView → Type 0
-HasLearned limits t s f budget =
-    (o : Outcome) × Decides limits t s o × IsFoundBy t o f × (budget ≡ o.budget)
+abbrev pub HasLearned : Limits → TableView → Check → Found → BudgetView → Type 0
+HasLearned limits t c f budget =
+    (o : Outcome) × Decides limits t c o × IsFoundBy t o f × (budget ≡ o.budget)
 
--- What a check of a stack found, and the stack of the code represents the same stack.
-pub record HasChecked (limits : Limits) (s : Stack) (e : Evidence) (x : OverTable) (budget : BudgetView) : Type 0 where
+-- What a check found, and the stack of the code represents the same stack.
+pub record HasChecked (limits : Limits) (c : Check) (e : Evidence) (x : OverTable) (budget : BudgetView) : Type 0 where
   -- the outcome of the decision
   pub outcome : Outcome
   -- it is right
-  pub decided : Decides limits x.table s outcome
+  pub decided : Decides limits x.table c outcome
   -- its budget is kept
   pub budget_is : budget ≡ outcome.budget
   -- what was found shows what it should
-  pub shown : IsShown limits x.table s e outcome
+  pub shown : IsShown limits x.table c e outcome
   -- the stack represents the same stack
-  pub held : IsHeld limits.terms x s
+  pub held : IsHeld limits.terms x c.stack
 
--- a check of a stack found something; or memory ran out
-abbrev pub Checks : Limits → Stack → Result Evidence NoMemory → OverTable → BudgetView → Type 0
-Checks limits s (Ok e) x budget = HasChecked limits s e x budget
-Checks limits s (Err _) x budget = IsHeld limits.terms x s
+-- a check found something; or memory ran out
+abbrev pub Checks : Limits → Check → Result Evidence NoMemory → OverTable → BudgetView → Type 0
+Checks limits c (Ok e) x budget = HasChecked limits c e x budget
+Checks limits c (Err _) x budget = IsHeld limits.terms x c.stack

@@ -3,13 +3,13 @@
 ghost use Rattle.std.specs.Prelude.{◌≡◌};
 ghost use Rattle.world_io.specs.Writing.{Sends};
 ghost use Rattle.spec_sorts.specs.Signatures.{symbols_in};
-ghost use Rattle.spec_commands.specs.Stack.{Stack as ScriptStack, signature_of};
+ghost use Rattle.spec_commands.specs.Stack.{signature_of};
 ghost use Rattle.spec_models.specs.Replies.{word_line};
-ghost use Rattle.spec_sessions.specs.Evidence.{Found};
+ghost use Rattle.spec_sessions.specs.Evidence.{Found, Checked};
 ghost use Rattle.spec_sessions.specs.Responses.{answer_text, evidence_text};
 ghost use Rattle.sat_budget.specs.Budgets.{BudgetView};
 ghost use Rattle.term_core.specs.Tables.{TableView};
-ghost use Rattle.check_evidence.specs.Evidence.{checked_on, IsEvidence, IsSomeEvidence};
+ghost use Rattle.check_evidence.specs.Evidence.{IsEvidence, IsSomeEvidence};
 
 use crate::evidence::Evidence;
 use alethe_writer::send as send_proof;
@@ -52,9 +52,9 @@ pub fn send_evidence<K: Sink>(
     out: &mut K,
 ) -> Result<(), Failed>
     requires { IsSomeEvidence table.now evidence.now }
-    ensures { (budget : BudgetView) (s : ScriptStack) (f : Found) → symbols_in (signature_of s) ≡ table.now.symbols
-        → IsEvidence table.now budget evidence.now f
-        → Sends (evidence_text (checked_on s f)) result (K.state out.old) (K.state out.new) }
+    ensures { (budget : BudgetView) (c : Checked) → symbols_in (signature_of c.check.stack) ≡ table.now.symbols
+        → IsEvidence table.now budget evidence.now c.found
+        → Sends (evidence_text c) result (K.state out.old) (K.state out.new) }
 {
     match evidence {
         Evidence::Model(interp) => send_model(interp, table, out),
