@@ -10,8 +10,8 @@ use Rattle.spec_text.specs.Places.{IsPlaceOf, column_of, name_of}
 use Rattle.spec_text.specs.Lexemes.{lexemes_from}
 use Rattle.spec_text.specs.Readings.{EndsTrees, kept, is_long, limited}
 use Rattle.spec_models.specs.Replies.{error_text}
-use Rattle.spec_commands.specs.Stack.{Stack, empty_stack}
 use Rattle.spec_sessions.specs.Evidence.{Limits}
+use Rattle.spec_sessions.specs.States.{State, first_state}
 use Rattle.spec_sessions.specs.Responses.{Mode, Response, success, not_supported, answered, echoed, ended, rejected, Answered, Answers, response_text, is_rejected, is_end}
 use Rattle.spec_sessions.specs.Transcripts.{answers_text, closing_text, is_fault, IsTranscript}
 use Rattle.spec_sessions.proofs.Running.{answers_more, Going, going_begins, answered_on, EachIsRead, told_more, ends_more, begun_here, text_ends, line_begun, begun_next, script_ends}
@@ -51,12 +51,12 @@ module _ (limits : Limits) (mode : Mode) (text : List ℕ) (old : SinkView) wher
 
   -- Up to here the commands of the text were answered, and this was written.
   pub record IsGoing (x : SessionView) (at : ℕ) (refused : Bool) (now : SinkView) : Type 0 where
-    pub stack : Stack
+    pub state : State
     pub given : List Answered
-    pub represents : IsSession x stack
+    pub represents : IsSession x state
     pub limits_are : limits_meant x.limits ≡ limits
     pub mode_is : mode_meant x.mode ≡ mode
-    pub going : Going limits bytes at stack given
+    pub going : Going limits bytes at state given
     pub goes_on : list_any (λ (a : Answered). is_end a.response) given ≡ false
     pub told : refused ≡ list_any (λ (a : Answered). is_rejected a.response) given
     pub written : Delivered (answers_text mode bytes given) old now
@@ -65,9 +65,9 @@ module _ (limits : Limits) (mode : Mode) (text : List ℕ) (old : SinkView) wher
   nothing : Delivered [] old old
   nothing = record { sent = nothing_sent old; passed_on = λ e. e }
 
-  pub begins : (x : SessionView) (at : ℕ) → at ≡ 0 → IsSession x empty_stack → limits_meant x.limits ≡ limits → mode_meant x.mode ≡ mode → IsGoing x at false old
+  pub begins : (x : SessionView) (at : ℕ) → at ≡ 0 → IsSession x first_state → limits_meant x.limits ≡ limits → mode_meant x.mode ≡ mode → IsGoing x at false old
   begins x at e represents l m = record {
-    stack = empty_stack;
+    state = first_state;
     given = [];
     represents = represents;
     limits_are = l;
@@ -80,7 +80,7 @@ module _ (limits : Limits) (mode : Mode) (text : List ℕ) (old : SinkView) wher
 
   -- nothing was done yet
   pub nothing_begun : EachIsRead bytes 0 → HasStopped limits mode text old old
-  nothing_begun r = ([], begun_here limits mode text bytes refl 0 empty_stack [] (going_begins limits bytes 0 refl) r, nothing)
+  nothing_begun r = ([], begun_here limits mode text bytes refl 0 first_state [] (going_begins limits bytes 0 refl) r, nothing)
 
   module _ (x : SessionView) (from : Place) (refused : Bool) (now : SinkView) (i : IsGoing x from.offset refused now) where
     -- what was written up to here
@@ -89,7 +89,7 @@ module _ (limits : Limits) (mode : Mode) (text : List ℕ) (old : SinkView) wher
 
     -- memory ran out
     pub memory_here : EachIsRead bytes from.offset → HasStopped limits mode text old now
-    memory_here r = (written, begun_here limits mode text bytes refl from.offset i.stack i.given i.going r, i.written)
+    memory_here r = (written, begun_here limits mode text bytes refl from.offset i.state i.given i.going r, i.written)
 
     -- more was delivered
     more : (y : List ℕ) (new : SinkView) → Sent y now new × (new.pending ≡ []) → Delivered (written ++ y) old new
@@ -103,7 +103,7 @@ module _ (limits : Limits) (mode : Mode) (text : List ℕ) (old : SinkView) wher
       -- nothing stops it but its end
       pub ends_plain : limited (is_long text) stop ≡ None → RunsText limits mode text (ended_by refused) old now
       ends_plain e =
-          let t = text_ends limits mode text bytes refl from.offset i.stack i.given i.going i.goes_on stop stops in
+          let t = text_ends limits mode text bytes refl from.offset i.state i.given i.going i.goes_on stop stops in
           let plain = subst (λ (l : Option Located). IsTranscript limits mode text (written ++ closing_text bytes l) (list_any (λ (a : Answered). is_rejected a.response) i.given || is_fault l)) e t in
           by refused (subst (λ r. IsTranscript limits mode text written r) (or-false _ ∙ sym i.told) (subst (λ o. IsTranscript limits mode text o (list_any (λ (a : Answered). is_rejected a.response) i.given || false)) (append-nil _) plain))
         where
@@ -120,7 +120,7 @@ module _ (limits : Limits) (mode : Mode) (text : List ℕ) (old : SinkView) wher
 
           by : (status : Status) → Ended r status now new → RunsText limits mode text status old new
           by statuses.Refused d =
-              let t = text_ends limits mode text bytes refl from.offset i.stack i.given i.going i.goes_on stop stops in
+              let t = text_ends limits mode text bytes refl from.offset i.state i.given i.going i.goes_on stop stops in
               let told : (list_any (λ (a : Answered). is_rejected a.response) i.given || is_fault (limited (is_long text) stop)) ≡ true = ap (λ (o : Option Located). list_any (λ (a : Answered). is_rejected a.response) i.given || is_fault o) e ∙ or-true _ in (
                 written ++ closing_text bytes (limited (is_long text) stop),
                 subst (IsTranscript limits mode text _) told t,
@@ -128,7 +128,7 @@ module _ (limits : Limits) (mode : Mode) (text : List ℕ) (old : SinkView) wher
               )
           by statuses.WriteFault d = (
             written ++ closing_text bytes (limited (is_long text) stop),
-            line_begun limits mode text bytes refl from.offset i.stack i.given i.going i.goes_on stop stops,
+            line_begun limits mode text bytes refl from.offset i.state i.given i.going i.goes_on stop stops,
             subst (λ y. NotSent (written ++ y) old new) (sym line) (failed (line_of_refusal r) new d),
           )
           by statuses.Done d = absurd d
@@ -144,13 +144,13 @@ module _ (limits : Limits) (mode : Mode) (text : List ℕ) (old : SinkView) wher
     pub ends_stopped : (r : Refusal) (new : SinkView) (status : Status) → IsStopped text 0 (lexemes_from bytes from.offset) r → Ended r status now new → RunsText limits mode text status old new
     ends_stopped r new status h done = ends_at h.stop (stops_in (length bytes) (lexemes_from bytes from.offset) h.stop h.stops) r new status h.is h.place done
 
-    module _ (s : Sexpr) (after : Place) (r : ReadsSexpr bytes from 0 s after) (y : SessionView) (new : SinkView) (a : Answered) (answer : IsAnswered i.stack s x y a) (same : (y.limits ≡ x.limits) × (y.mode ≡ x.mode)) where
+    module _ (s : Sexpr) (after : Place) (r : ReadsSexpr bytes from 0 s after) (y : SessionView) (new : SinkView) (a : Answered) (answer : IsAnswered i.state s x y a) (same : (y.limits ≡ x.limits) × (y.mode ≡ x.mode)) where
       -- the text of the response, as one of the bytes
       response : written_for x s a ≡ response_text mode bytes a
       response = ap (λ m. response_text m (text_of s) a) i.mode_is ∙ ap (λ b. response_text mode b a) r.is.text_is
 
-      answers_so : Answers limits i.stack (tree_of s) a
-      answers_so = subst (λ l. Answers l i.stack (tree_of s) a) i.limits_are answer.answers
+      answers_so : Answers limits i.state (tree_of s) a
+      answers_so = subst (λ l. Answers l i.state (tree_of s) a) i.limits_are answer.answers
 
       -- the response was delivered, too
       one_more : Sent (written_for x s a) now new × (new.pending ≡ []) → Delivered (written ++ response_text mode bytes a) old new
@@ -159,12 +159,12 @@ module _ (limits : Limits) (mode : Mode) (text : List ℕ) (old : SinkView) wher
       -- the next command was answered, and the script goes on
       pub goes_on_after : (b : Bool) (then : Bool) → is_end a.response ≡ false → is_rejected a.response ≡ b → then ≡ (refused || b) → Sent (written_for x s a) now new × (new.pending ≡ []) → IsGoing y after.offset then new
       goes_on_after b then last rejects is wrote = record {
-        stack = a.stack;
+        state = a.state;
         given = i.given ++ a ∷ [];
         represents = answer.represents;
         limits_are = ap limits_meant same.0 ∙ i.limits_are;
         mode_is = ap mode_meant same.1 ∙ i.mode_is;
-        going = answered_on limits bytes from.offset after.offset (tree_of s) r.is.first (omega (arith, r.is.within)) i.stack i.given i.going a answers_so last;
+        going = answered_on limits bytes from.offset after.offset (tree_of s) r.is.first (omega (arith, r.is.within)) i.state i.given i.going a answers_so last;
         goes_on = ends_more i.given a false i.goes_on last;
         told = is ∙ ap (λ z. z || b) i.told ∙ ap (λ z. list_any (λ (q : Answered). is_rejected q.response) i.given || z) (sym rejects) ∙ sym (told_more i.given a);
         written = subst (λ t. Delivered t old new) (sym (answers_more mode bytes i.given a)) (one_more wrote);
@@ -172,7 +172,7 @@ module _ (limits : Limits) (mode : Mode) (text : List ℕ) (old : SinkView) wher
 
       pub ended_here : EachIsRead bytes after.offset → is_end a.response ≡ true → is_rejected a.response ≡ false → Sent (written_for x s a) now new × (new.pending ≡ []) → RunsText limits mode text (ended_by refused) old new
       ended_here each last taken wrote =
-          let t = script_ends limits mode text bytes refl from.offset after.offset (tree_of s) r.is.first (omega (arith, r.is.within)) i.stack i.given i.going a answers_so each i.goes_on last taken in
+          let t = script_ends limits mode text bytes refl from.offset after.offset (tree_of s) r.is.first (omega (arith, r.is.within)) i.state i.given i.going a answers_so each i.goes_on last taken in
           by refused (subst (IsTranscript limits mode text _) (sym i.told) t) (one_more wrote)
         where
           by : (q : Bool) → IsTranscript limits mode text (written ++ response_text mode bytes a) q → Delivered (written ++ response_text mode bytes a) old new → RunsText limits mode text (ended_by q) old new
@@ -182,6 +182,6 @@ module _ (limits : Limits) (mode : Mode) (text : List ℕ) (old : SinkView) wher
       pub write_failed : EachIsRead bytes after.offset → NotSent (written_for x s a) now new → RunsText limits mode text statuses.WriteFault old new
       write_failed each wrote = (
         written ++ response_text mode bytes a,
-        begun_next limits mode text bytes refl from.offset after.offset (tree_of s) r.is.first (omega (arith, r.is.within)) i.stack i.given i.going a answers_so each,
+        begun_next limits mode text bytes refl from.offset after.offset (tree_of s) r.is.first (omega (arith, r.is.within)) i.state i.given i.going a answers_so each,
         subst (λ t. NotSent (written ++ t) old new) response (failed (written_for x s a) new wrote),
       )

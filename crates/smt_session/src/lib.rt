@@ -8,7 +8,7 @@ mod session;
 mod status;
 mod whole_text;
 
-pub use mode::Mode;
+pub use mode::{CheckAnswer, ExecutionMode, Mode};
 pub use session::{After, Halt, Session};
 pub use status::Status;
 pub use whole_text::run_text;

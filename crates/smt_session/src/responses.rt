@@ -1,18 +1,19 @@
 //! What commands are answered, and how that is written.
 
-ghost use Rattle.std.specs.Prelude.{◌≡◌, ◌++◌, ℕ, List};
+ghost use Rattle.std.specs.Prelude.{◌≡◌, ◌++◌, ℕ, List, Option, Some};
 ghost use Rattle.world_io.specs.Writing.{Sends};
 ghost use Rattle.spec_sorts.specs.Signatures.{symbols_in};
-ghost use Rattle.spec_commands.specs.Stack.{Stack as ScriptStack, signature_of};
-ghost use Rattle.spec_sessions.specs.Evidence.{Checked};
-ghost use Rattle.spec_sessions.specs.Responses.{Response as SpokenResponse, Answered, answer_text, shown_text, success_by, string_line, response_text};
+ghost use Rattle.spec_commands.specs.Stack.{signature_of};
+ghost use Rattle.spec_sessions.specs.Evidence.{Found, Checked};
+ghost use Rattle.spec_sessions.specs.States.{mode_found, mode_answered};
+ghost use Rattle.spec_sessions.specs.Responses.{Response as SpokenResponse, Answered, answer_text, shown_text, success_by, string_line, response_text, answer_after};
 ghost use Rattle.sat_budget.specs.Budgets.{BudgetView};
 ghost use Rattle.term_core.specs.Tables.{TableView};
 ghost use Rattle.assertion_stack.specs.Stacks.{over_table};
-ghost use Rattle.check_evidence.specs.Evidence.{check_on, IsEvidence, IsSomeEvidence};
-ghost use Rattle.smt_session.specs.Sessions.{mode_meant, IsResponse, IsResponseOf, IsSomeResponse, after_meant, Delivers};
+ghost use Rattle.check_evidence.specs.Evidence.{IsEvidence, IsSomeEvidence};
+ghost use Rattle.smt_session.specs.Sessions.{mode_meant, answer_mode, IsResponse, IsResponseOf, IsSomeResponse, KeepsAnswer, after_meant, Delivers};
 
-use crate::mode::Mode;
+use crate::mode::{CheckAnswer, Mode};
 use crate::session::After;
 use assertion_stack::Stack;
 use check_evidence::{Evidence, send_answer, send_evidence};
@@ -51,6 +52,42 @@ pub(crate) fn after_of(response: &Response<'_>) -> After
     }
 }
 
+/// Gives the answer of a check by what was found.
+fn answer_of(evidence: &Evidence) -> CheckAnswer
+    ensures { (t : TableView) (budget : BudgetView) (f : Found) → IsEvidence t budget evidence.now f
+        → answer_mode (Some result) ≡ mode_found f }
+{
+    match evidence {
+        Evidence::Model(_) => CheckAnswer::Sat,
+        Evidence::Proof(_, _) => CheckAnswer::Unsat,
+        Evidence::Reason(_) => CheckAnswer::Unknown,
+    }
+}
+
+/// Gives the answer of the last check after a command that is answered so, while it counts: that of this check; the one
+/// before where the command was refused, or states nothing; else none.
+pub(crate) fn answer_after(
+    response: &Response<'_>,
+    states_nothing: bool,
+    old: Option<CheckAnswer>,
+) -> Option<CheckAnswer>
+    ensures after { (t : TableView) (text : List ℕ) (budget : BudgetView) (r : SpokenResponse) (last : Option Checked)
+        → IsResponse t text budget response.now r → answer_mode old ≡ mode_answered last
+        → answer_mode result ≡ mode_answered (answer_after states_nothing last r) }
+    ensures refused { KeepsAnswer response.now old result }
+{
+    match response {
+        Response::Answered(evidence) => Some(answer_of(evidence)),
+        Response::Rejected(_) => old,
+        _ => {
+            if states_nothing {
+                return old;
+            }
+            None
+        }
+    }
+}
+
 /// Writes the answer of a check, and what shows it where that is wanted.
 fn send_check<K: Sink>(
     mode: Mode,
@@ -59,8 +96,8 @@ fn send_check<K: Sink>(
     out: &mut K,
 ) -> Result<(), Failed>
     requires { IsSomeEvidence table.now evidence.now }
-    ensures { (budget : BudgetView) (s : ScriptStack) (c : Checked) → symbols_in (signature_of s) ≡ table.now.symbols
-        → c.check ≡ check_on s → IsEvidence table.now budget evidence.now c.found
+    ensures { (budget : BudgetView) (c : Checked) → symbols_in (signature_of c.check.stack) ≡ table.now.symbols
+        → IsEvidence table.now budget evidence.now c.found
         → Sends (answer_text c.found ++ shown_text (mode_meant mode) c) result (K.state out.old) (K.state out.new) }
 {
     send_answer(evidence, out)?;

@@ -2,21 +2,21 @@
 
 ghost use Rattle.std.specs.Prelude.{◌≡◌, ◌≤◌, [], IfOk, OnErr, IsErrOf};
 ghost use Rattle.world_io.specs.Outside.{Rose};
-ghost use Rattle.spec_commands.specs.Stack.{Stack as ScriptStack, empty_stack};
+ghost use Rattle.spec_sessions.specs.States.{State, first_state, mode_of};
 ghost use Rattle.assertion_stack.specs.Stacks.{over_table};
 ghost use Rattle.search_loop.specs.Rounds.{HasLimits};
 ghost use Rattle.check_evidence.specs.Evidence.{limits_meant, IsHeld, HoldsSome};
-ghost use Rattle.smt_session.specs.Sessions.{IsSession, TakesScriptCommand, KeepsBudget, KeepsStated, Rejects, Stepped};
+ghost use Rattle.smt_session.specs.Sessions.{execution_meant, IsSession, TakesScriptCommand, KeepsBudget, KeepsStated, Rejects, Stepped};
 
-use crate::mode::Mode;
-use crate::responses::{Response, after_of, send_response};
+use crate::mode::{CheckAnswer, ExecutionMode, Mode, states_nothing};
+use crate::responses::{Response, after_of, answer_after, send_response};
 use assertion_stack::{Effect, Stack};
 use check_evidence::check;
 use no_memory::NoMemory;
 use sat_budget::{Budget, Limits};
 use smt_lexer::Refused;
 use smt_sexpr::Sexpr;
-use spec_commands::commands_keep_stacks;
+use spec_commands::{assumptions_are_read, commands_keep_stacks};
 use spec_proof_texts::laws::commands_leave_script_names;
 use spec_proof_texts::readable_laws::commands_leave_readable_definitions;
 use spec_sessions::laws::what_is_shown_is_so;
@@ -57,7 +57,7 @@ impl From<NoMemory> for Halt {
 
 /// Holds what a script has stated up to here, what each search of its checks may spend, and what the last one learned.
 ///
-/// Contracts see it as a stack of the definitions, by the relation `IsSession`. Source: SMT-LIB 2.6, section 4.2.
+/// Contracts see it as a state of the definitions, by the relation `IsSession`. Source: SMT-LIB 2.6, section 4.2.
 #[derive(Drop)]
 pub struct Session {
     alloc: Global,
@@ -66,6 +66,7 @@ pub struct Session {
     limits: Limits,
     mode: Mode,
     budget: Budget,
+    answer: Option<CheckAnswer>,
 }
 
 impl Model for Session {
@@ -81,7 +82,7 @@ impl Model for Session {
 
     ghost coded = { Prim.hlevel (codes, table_code) };
 
-    ghost view = { λ x. record { table = x.table; stack = x.stack; limits = x.limits; mode = x.mode; budget = x.budget } };
+    ghost view = { λ x. record { table = x.table; stack = x.stack; limits = x.limits; mode = x.mode; budget = x.budget; answer = x.answer } };
 
     ghost invariant = { λ x. HoldsSome x.limits.terms (over_table x.table x.stack) × HasLimits x.limits x.budget };
 }
@@ -92,7 +93,7 @@ impl Session {
     /// `limits` are those of each search of a check, but `terms`: how many names there may be, and how many different
     /// subterms the terms of a command may have. `NoMemory` comes where memory ran out.
     pub fn new(alloc: Global, limits: &Limits, mode: Mode) -> Result<Session, NoMemory>
-        ensures begun { IfOk result (λ x. IsSession x empty_stack × (x.limits ≡ limits.now) × (x.mode ≡ mode)) }
+        ensures begun { IfOk result (λ x. IsSession x first_state × (x.limits ≡ limits.now) × (x.mode ≡ mode)) }
         ensures budget { IfOk result (λ x. (x.budget.learned ≡ []) × (x.budget.exchanges ≡ [])
             × HasLimits limits.now x.budget) }
     {
@@ -107,6 +108,7 @@ impl Session {
             limits: *limits,
             mode,
             budget,
+            answer: None,
         })
     }
 
@@ -120,11 +122,28 @@ impl Session {
         &self.budget
     }
 
+    /// Gives the mode in which the session is. It takes no memory.
+    ///
+    /// Source: SMT-LIB 2.6, section 4.1.1.
+    pub fn execution_mode(&self) -> ExecutionMode
+        ensures { (s : State) → IsSession self.now s → execution_meant result ≡ mode_of s }
+    {
+        if !self.stack.started {
+            return ExecutionMode::Start;
+        }
+        match self.answer {
+            None => ExecutionMode::Assert,
+            Some(CheckAnswer::Sat) => ExecutionMode::Sat,
+            Some(CheckAnswer::Unsat) => ExecutionMode::Unsat,
+            Some(CheckAnswer::Unknown) => ExecutionMode::Unknown,
+        }
+    }
+
     /// Takes the command that an s-expression is, and writes what it is answered.
     ///
     /// It takes its memory first, then changes the session, then writes, and passes on what was written: then nothing waits
     /// in a buffer. A command that is refused changes nothing: the whole session is the same as before it, with its table,
-    /// its stack and its budget. `Memory` comes where memory ran out: the session is the same as before the command, too,
+    /// its stack, its budget and its mode. `Memory` comes where memory ran out: the session is the same as before the command, too,
     /// and nothing was written. `Sink` comes only where the sink's count of faults rose in this call, and there was no room
     /// for the response: the session is as after the command, and a prefix of its response was written.
     /// Source: SMT-LIB 2.6, sections 3.9 and 4.2.
@@ -144,6 +163,7 @@ impl Session {
             &self.limits,
             command,
         )?;
+        self.answer = answer_after(&response, states_nothing(command), self.answer);
         match send_response(self.mode, &self.table, &self.stack, &response, out) {
             Ok(()) => Ok(after_of(&response)),
             Err(Failed) => Err(Halt::Sink),
@@ -162,7 +182,7 @@ fn take<'a>(
     command: &'a Sexpr<'_>,
 ) -> Result<Response<'a>, NoMemory>
     requires { HoldsSome limits.now.terms (over_table table.old stack.old) }
-    ensures takes { (s : ScriptStack) → IsHeld limits.now.terms (over_table table.old stack.old) s
+    ensures takes { (s : State) → IsHeld limits.now.terms (over_table table.old stack.old) s.stack
         → TakesScriptCommand (limits_meant limits.now) s command.now result (over_table table.new stack.new) budget.new }
     ensures table { OnErr result (table.new ≡ table.old) }
     ensures stack { OnErr result (stack.new ≡ stack.old) }
@@ -170,20 +190,25 @@ fn take<'a>(
     ensures refused { KeepsStated result (over_table table.old stack.old) (over_table table.new stack.new) }
     ensures limits { HasLimits limits.now budget.old → HasLimits limits.now budget.new }
 {
+    assumptions_are_read();
     commands_keep_stacks();
     commands_leave_script_names();
     commands_leave_readable_definitions();
     let started = stack.started;
+    let terms = table.len();
     match stack.command(alloc, table, command) {
         Ok(Effect::Done) => Ok(Response::Success),
         Ok(Effect::Unsupported) => Ok(Response::Unsupported),
-        Ok(Effect::Check(_)) => match check(alloc, table, stack, budget, limits) {
-            Ok(evidence) => Ok(Response::Answered(evidence)),
-            Err(NoMemory) => {
-                stack.started = started;
-                Err(NoMemory)
+        Ok(Effect::Check(_, assumed)) => {
+            match check(alloc, table, stack, assumed.ids.as_slice(), budget, limits) {
+                Ok(evidence) => Ok(Response::Answered(evidence)),
+                Err(NoMemory) => {
+                    table.cut(terms);
+                    stack.started = started;
+                    Err(NoMemory)
+                }
             }
-        },
+        }
         Ok(Effect::Say(text)) => Ok(Response::Echoed(text)),
         Ok(Effect::Exit) => Ok(Response::Ended),
         Err(stop) => rejected(stop),

@@ -1,7 +1,7 @@
 //! The run of a script's text.
 
 ghost use Rattle.std.specs.Prelude.{◌≡◌};
-ghost use Rattle.spec_commands.specs.Stack.{empty_stack};
+ghost use Rattle.spec_sessions.specs.States.{first_state};
 ghost use Rattle.check_evidence.specs.Evidence.{limits_meant};
 ghost use Rattle.smt_session.specs.Sessions.{mode_meant, IsSession, Delivers};
 ghost use Rattle.smt_session.specs.Runs.{RunsText, EndsText, is_last, is_refusal, ended_by, line_of_refusal, Ended};
@@ -112,7 +112,7 @@ fn run_session<K: Sink>(
 /// Takes the commands of a text one after the other in a session that has stated nothing, and writes what each is answered. The session
 /// is lent, so that no way out of the loop drops it.
 fn run_commands<K: Sink>(alloc: Global, bytes: &[u8], session: &mut Session, out: &mut K) -> Status
-    requires { IsSession session.old empty_stack }
+    requires { IsSession session.old first_state }
     ensures { RunsText (limits_meant session.old.limits) (mode_meant session.old.mode) bytes.now result
         (K.state out.old) (K.state out.new) }
 {

@@ -5,9 +5,9 @@ use Rattle.std.proofs.lemmas.Bool.{false≢true}
 use Rattle.world_io.specs.Writing.{SinkView, HasRoom, Sent, NotSent, Flushed, NotFlushed}
 use Rattle.world_io.proofs.Sending.{room_for_less}
 use Rattle.spec_sessions.specs.Evidence.{Limits}
+use Rattle.spec_sessions.specs.States.{first_state}
 use Rattle.spec_sessions.specs.Responses.{Mode}
 use Rattle.spec_sessions.proofs.Running.{begins_all}
-use Rattle.spec_commands.specs.Stack.{empty_stack}
 use Rattle.smt_session.specs.declared.status.Status.{Status}
 use Rattle.smt_session.specs.declared.status.Status.TheVariants.{Done, Refused, Words, Memory, ReadFault, WriteFault}
 use Rattle.smt_session.specs.Sessions.{Delivers}
@@ -21,7 +21,7 @@ use Rattle.smt_top.specs.RunMeans.{Holdings, RunMeans, IsUnread, is_answered}
 -- a whole transcript is one that was begun
 whole_is_begun : (limits : Limits) (mode : Mode) (text : List ℕ) (refused : Bool) (P Q : List ℕ → Type 0) → ((all : List ℕ) → P all → Q all) → OnTranscript limits mode text refused P → OnBegun limits mode text Q
 whole_is_begun limits mode text refused P Q go (all, t, say, p) =
-    (all, record { commands = t.commands; end = t.end; read = t.read; answers = t.answers; begins = begins_all limits empty_stack t.commands t.answers t.runs; written = inr (t.runs, t.written) }, say, go all p)
+    (all, record { commands = t.commands; end = t.end; read = t.read; answers = t.answers; begins = begins_all limits first_state t.commands t.answers t.runs; written = inr (t.runs, t.written) }, say, go all p)
 
 module _ (holds : Holdings) (old mid new : SinkView) where
   module _ (f : Flushed mid new) where

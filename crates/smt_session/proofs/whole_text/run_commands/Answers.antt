@@ -43,7 +43,7 @@ pub returns-in-Err-Sink : goal.returns-in-Err-Sink
 returns-in-Err-Sink g c =
     let i = c.commands.invariant.going in
     let r = subst (λ (b : List ℕ). ReadsSexpr (kept b) c.commands.place 0 c.in-Ok-Some.read.0 c.in-Ok-Some.read.1) c.new-text.ensures (rw c.in-Ok-Some.field-0-is at c.in-Ok-Some.ensures) in
-    let k = (rw c.in-Err-Sink.field-0-is at c.in-Err-Sink.ensures.stepped) i.stack i.represents in
+    let k = (rw c.in-Err-Sink.field-0-is at c.in-Err-Sink.ensures.stepped) i.state i.represents in
     write_failed (limits_meant c.args.session.now.limits) (mode_meant c.args.session.now.mode) c.args.bytes.now _ c.commands.session c.commands.place c.commands.refused _ i
     c.in-Ok-Some.read.0 c.in-Ok-Some.read.1 r _ _ k.0 k.1 c.in-Err-Sink.ensures.same (c.each_text_is_read.ensures (kept c.args.bytes.now) c.in-Ok-Some.read.1.offset 0 (omega arith)) k.2
 
@@ -51,7 +51,7 @@ pub returns-then-is_last : goal.returns-then-is_last
 returns-then-is_last g c =
     let i = c.commands.invariant.going in
     let r = subst (λ (b : List ℕ). ReadsSexpr (kept b) c.commands.place 0 c.in-Ok-Some.read.0 c.in-Ok-Some.read.1) c.new-text.ensures (rw c.in-Ok-Some.field-0-is at c.in-Ok-Some.ensures) in
-    let k = c.in-Ok.ensures.stepped i.stack i.represents in
+    let k = c.in-Ok.ensures.stepped i.state i.represents in
     let last = sym c.is_last.ensures ∙ c.if-is_last.true in
     rw c.ended_by-then-is_last.ensures (ended_here (limits_meant c.args.session.now.limits) (mode_meant c.args.session.now.mode) c.args.bytes.now _ c.commands.session c.commands.place c.commands.refused _ i
     c.in-Ok-Some.read.0 c.in-Ok-Some.read.1 r _ _ k.0 k.1 c.in-Ok.ensures.same (c.each_text_is_read.ensures (kept c.args.bytes.now) c.in-Ok-Some.read.1.offset 0 (omega arith))
@@ -61,7 +61,7 @@ pub commands-preserved : goal.commands-preserved
 commands-preserved g c =
     let i = c.commands.invariant.going in
     let r = subst (λ (b : List ℕ). ReadsSexpr (kept b) c.commands.place 0 c.in-Ok-Some.read.0 c.in-Ok-Some.read.1) c.new-text.ensures (rw c.in-Ok-Some.field-0-is at c.in-Ok-Some.ensures) in
-    let k = c.in-Ok.ensures.stepped i.stack i.represents in
+    let k = c.in-Ok.ensures.stepped i.state i.represents in
     record {
       place = r.is.place;
       going = goes_on_after (limits_meant c.args.session.now.limits) (mode_meant c.args.session.now.mode) c.args.bytes.now _ c.commands.session c.commands.place c.commands.refused _ i

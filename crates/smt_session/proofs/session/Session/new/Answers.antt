@@ -15,4 +15,4 @@ pub returns-clause-begun : goal.returns-clause-begun
 returns-clause-begun c =
     let terms = c.args.limits.now.terms in
     let held = first_held terms c.new-2.result c.new-3.result c.new-2.ensures c.new-3.ensures (c.commands_keep_stacks.ensures.first terms) c.commands_leave_script_names.ensures.first c.commands_leave_readable_definitions.ensures.first in
-    (held, refl, refl)
+    (record { stack = held; answer = refl }, refl, refl)
