@@ -1,6 +1,6 @@
 -- Steps along paths: what they deny, that their clause is right, and what it shows.
-use Rattle.std.proofs.Common.{◌≡◌, ◌≢◌, ℕ, ◌<◌, ◌≤◌, ◌==◌, ◌⊎◌, inl, inr, Bool, true, false, List, [], ◌∷◌, ◌++◌, map, length, get_or, if◌then◌else◌, refl, sym, ap, ◌∙◌, subst, arith, append-nil}
-use Rattle.std.specs.Prelude.{All, Contains, Some, Option, slice_index_or}
+use Rattle.std.proofs.Common.{◌≡◌, ◌≢◌, ℕ, ◌<◌, ◌≤◌, ◌==◌, ◌⊎◌, inl, inr, true, false, List, [], ◌∷◌, ◌++◌, map, length, get_or, if◌then◌else◌, refl, sym, ap, ◌∙◌, subst, arith, append-nil}
+use Rattle.std.specs.Prelude.{All, Contains, Some, Option}
 use Rattle.std.proofs.lemmas.Bool.{cases_eq}
 use Rattle.std.proofs.lemmas.Bool.Decides.{nat_tests}
 use Rattle.std.proofs.lemmas.List.{map-append}
@@ -33,10 +33,9 @@ use Rattle.congruence_explain.specs.declared.claims.SignedClaim.{SignedClaim}
 use Rattle.congruence_explain.specs.Rules.{path_rule}
 use Rattle.congruence_explain.specs.Claims.{term_claimed, claim_as_term, claim_as_literal, literal_claimed, IsClaimIn, IsClaimOf, equality_claim, says, edge_says, IsOneEquality, denied_step}
 use Rattle.congruence_explain.specs.Basis.{IsBasis, AreLinkedIn}
-use Rattle.congruence_explain.specs.Steps.{ExplanationSetting, Notes, IsNeeded, ShowsLiteral, NotesGrow, marked, edges_on, TellsPair}
+use Rattle.congruence_explain.specs.Steps.{ExplanationSetting, Notes, ShowsLiteral, NotesGrow, AddsEdges, edges_on, TellsPair}
 use Rattle.congruence_explain.proofs.Terms.{claim_same}
-use Rattle.congruence_explain.proofs.Marks.{marked-there}
-use Rattle.congruence_explain.proofs.Shown.{grows_marked, shows_last}
+use Rattle.congruence_explain.proofs.Shown.{grows_needed, shows_last}
 use Rattle.congruence_explain.proofs.Facts.{number_term, says_turned, linked_sorts, edge_joins, edge_in}
 
 -- a step along an edge says what this does
@@ -129,7 +128,7 @@ pub path_low : (es : List Edge) (x y : ℕ) → All (λ (s : PathStep). s.edge <
 path_low es x y = λ k d lt. (path-along es x y k d lt).0
 
 -- what is shown by a path whose edges are needed
-module _ (s : ExplanationSetting) (needed after : List Bool) (steps steps_after : List (List Literal)) (x y : TermId) (count : length needed ≡ length s.edges) (marks : after ≡ marked needed (edges_on (path s.edges x.0 y.0))) where
+module _ (s : ExplanationSetting) (needed after : List ℕ) (steps steps_after : List (List Literal)) (x y : TermId) (adds : AddsEdges needed (edges_on (path s.edges x.0 y.0)) after) where
   abbrev told_path : List PathStep
   told_path = path s.edges x.0 y.0
 
@@ -141,27 +140,21 @@ module _ (s : ExplanationSetting) (needed after : List Bool) (steps steps_after 
       (subst (λ n. All (λ (z : PathStep). z.edge < n) (path (older s.edges k) x.0 y.0)) (length-older s.edges k le) (path_low (older s.edges k) x.0 y.0))
 
   grows : (more : List (List Literal)) → steps_after ≡ steps ++ more → (k : ℕ) → k ≤ length s.edges → Linked (older s.edges k) x.0 y.0 → NotesGrow k (record { needed = needed; steps = steps; stated = [] }) told_notes
-  grows more is k le linked = grows_marked k needed after (edges_on told_path) steps steps_after more [] marks (All-map (λ i. i < k) (λ (z : PathStep). z.edge) told_path (low k le linked)) is
+  grows more is k le linked = grows_needed k needed after (edges_on told_path) steps steps_after more [] adds (All-map (λ i. i < k) (λ (z : PathStep). z.edge) told_path (low k le linked)) is
 
-  is_needed : (z : PathStep) → Contains told_path z → IsNeeded after z.edge
-  is_needed z z_in = ap (λ l. slice_index_or l z.edge false) marks ∙ marked-there needed (edges_on told_path) z.edge edge_low (to_image (λ (w : PathStep). w.edge) told_path z z_in)
-    where
-      edge_low : All (λ i. i < length needed) (edges_on told_path)
-      edge_low = All-map (λ i. i < length needed) (λ (w : PathStep). w.edge) told_path (subst (λ n. All (λ (w : PathStep). w.edge < n) told_path) (sym count) (path_low s.edges x.0 y.0))
-
-  step_shown : (k : ℕ) (z : PathStep) → z.edge < k → Contains told_path z → ShowsLiteral s k told_notes (complement (claim_as_literal s.table (denied_step s.truths z)))
-  step_shown k z lt z_in = λ more assumed sw aw ih.
+  step_shown : (z : PathStep) → Contains told_path z → ShowsLiteral s told_notes (complement (claim_as_literal s.table (denied_step s.truths z)))
+  step_shown z z_in = λ more assumed sw aw ih.
       subst (λ c. Propagates complement more assumed (literal_claimed s.table c))
-      (sym (step_says s.truths s.edges z (All-contains (IsAlong s.edges) told_path z (path-along s.edges x.0 y.0) z_in))) (ih z.edge lt (is_needed z z_in))
+      (sym (step_says s.truths s.edges z (All-contains (IsAlong s.edges) told_path z (path-along s.edges x.0 y.0) z_in))) (ih z.edge (adds.there z.edge (to_image (λ (w : PathStep). w.edge) told_path z z_in)))
 
   -- with the step of its clause
   pub tells_path : steps_after ≡ steps ++ map (claim_as_literal s.table) (path_clause s.truths told_path x y) ∷ [] → TellsPair s (record { needed = needed; steps = steps; stated = [] }) told_notes x y
   tells_path is = λ k le linked. (
     grows (map (claim_as_literal s.table) (path_clause s.truths told_path x y) ∷ []) is k le linked,
-    shows_last s k told_notes (map (denied_step s.truths) told_path) (equality_claim x y)
+    shows_last s told_notes (map (denied_step s.truths) told_path) (equality_claim x y)
         (subst (λ ds. Contains ds (map (claim_as_literal s.table) (path_clause s.truths told_path x y))) (sym is) (Contains-push steps (map (claim_as_literal s.table) (path_clause s.truths told_path x y))))
-        (All-map (λ m. ShowsLiteral s k told_notes (complement (claim_as_literal s.table m))) (denied_step s.truths) told_path
-        (λ j d lt. step_shown k (get_or told_path j d) (low k le linked j d lt) (Contains-get_or told_path j d lt))),
+        (All-map (λ m. ShowsLiteral s told_notes (complement (claim_as_literal s.table m))) (denied_step s.truths) told_path
+        (λ j d lt. step_shown (get_or told_path j d) (Contains-get_or told_path j d lt))),
   )
 
   -- and without one, where the path is an edge that says so
@@ -169,17 +162,17 @@ module _ (s : ExplanationSetting) (needed after : List Bool) (steps steps_after 
       → TellsPair s (record { needed = needed; steps = steps; stated = [] }) told_notes x y
   tells_edge_alone is m alone says_so = λ k le linked. (
     grows [] (is ∙ sym (append-nil steps)) k le linked,
-    go k told_path (λ z i. i) (low k le linked) alone,
+    go told_path (λ z i. i) alone,
   )
     where
-      go : (k : ℕ) (ss : List PathStep) → ((z : PathStep) → Contains ss z → Contains told_path z) → All (λ (z : PathStep). z.edge < k) ss → map (denied_step s.truths) ss ≡ m ∷ [] → ShowsLiteral s k told_notes (literal_claimed s.table (Equality x y))
-      go k [] there lows e = absurd (cc)
-      go k (z ∷ w ∷ ss) there lows e = absurd (cc)
-      go k (z ∷ []) there lows e =
+      go : (ss : List PathStep) → ((z : PathStep) → Contains ss z → Contains told_path z) → map (denied_step s.truths) ss ≡ m ∷ [] → ShowsLiteral s told_notes (literal_claimed s.table (Equality x y))
+      go [] there e = absurd (cc)
+      go (z ∷ w ∷ ss) there e = absurd (cc)
+      go (z ∷ []) there e =
           let one : denied_step s.truths z ≡ m = cc in
           let same : complement (claim_as_literal s.table (denied_step s.truths z)) ≡ literal_claimed s.table (Equality x y) =
           ap (λ (n : SignedClaim). complement (claim_as_literal s.table (record { claim = n.claim; positive = false }))) one ∙ ap (λ (u : Term). let l : Literal = record { atom = u; positive = true } in l) says_so in
-          subst (ShowsLiteral s k told_notes) same (step_shown k z (All-head (λ (w : PathStep). w.edge < k) z [] lows) (there z (first z [])))
+          subst (ShowsLiteral s told_notes) same (step_shown z (there z (first z [])))
 
 -- it says so over the table of the start too
 pub one_equality_back : (t u : TableView) → Widens t u → (clause : List SignedClaim) → All (λ s. IsClaimIn t s.claim) clause → (x y : TermId) → IsIn t x → IsIn t y → (q : IsOneEquality u clause x y)

@@ -108,20 +108,20 @@ not_twice : (p : Bool) → not (not p) ≡ p
 not_twice true = refl
 not_twice false = refl
 
-module _ (s : ExplanationSetting) (k : ℕ) (needed : List Bool) (steps steps_after : List (List Literal)) (stated stated_after : List SignedClaim) (l : Lit) (later_stated : stated_after ≡ stated ++ denied l ∷ []) where
+module _ (s : ExplanationSetting) (needed : List ℕ) (steps steps_after : List (List Literal)) (stated stated_after : List SignedClaim) (l : Lit) (later_stated : stated_after ≡ stated ++ denied l ∷ []) where
   -- the literal is assumed
   pub held_assumed : (assumed : List Literal) → IsWithin (all_denied s.table stated_after) assumed → Contains assumed (complement (claim_as_literal s.table (denied l)))
   held_assumed assumed aw = aw (complement (claim_as_literal s.table (denied l)))
       (to_image complement (map (claim_as_literal s.table) stated_after) (claim_as_literal s.table (denied l)) (to_image (claim_as_literal s.table) stated_after (denied l) (subst (λ zs. Contains zs (denied l)) (sym later_stated) (Contains-push stated (denied l)))))
 
   -- so itself is shown
-  pub shows_itself : l.positive ≡ true → ShowsLiteral s k (record { needed = needed; steps = steps_after; stated = stated_after }) (literal_claimed s.table (Atom l.term))
+  pub shows_itself : l.positive ≡ true → ShowsLiteral s (record { needed = needed; steps = steps_after; stated = stated_after }) (literal_claimed s.table (Atom l.term))
   shows_itself positive = λ more assumed sw aw ih.
       let same : complement (claim_as_literal s.table (denied l)) ≡ literal_claimed s.table (Atom l.term) = (λ i. record { atom = term_at s.table l.term; positive = (not_twice l.positive ∙ positive) i }) in
       subst (Propagates complement more assumed) same (given (complement (claim_as_literal s.table (denied l))) (held_assumed assumed aw))
 
   -- or that its term is equality_claim to its truth value
-  pub shows_decided : steps_after ≡ steps ++ decision s.table s.truths l → ShowsLiteral s k (record { needed = needed; steps = steps_after; stated = stated_after }) (literal_claimed s.table (Equality l.term (truth_of s.truths l.positive)))
+  pub shows_decided : steps_after ≡ steps ++ decision s.table s.truths l → ShowsLiteral s (record { needed = needed; steps = steps_after; stated = stated_after }) (literal_claimed s.table (Equality l.term (truth_of s.truths l.positive)))
   shows_decided is = λ more assumed sw aw ih. by_clause more assumed clause goal (sw clause (step_in clause (later states (clause ∷ []) clause (first clause [])))) (first goal (one ∷ two ∷ []))
       (λ m i. go more assumed sw aw m (cases goal (one ∷ two ∷ []) m i))
     where

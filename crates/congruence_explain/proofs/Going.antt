@@ -1,8 +1,10 @@
--- From the newest edge down: one edge more is explained.
-use Rattle.std.proofs.Common.{◌≡◌, ◌≢◌, ℕ, zero, suc, ◌+◌, ◌<◌, ◌≤◌, ◌⊎◌, inl, inr, Bool, true, false, List, [], ◌∷◌, ◌++◌, length, if◌then◌else◌, refl, sym, ap, ◌∙◌, subst, arith, true≢false}
-use Rattle.std.specs.Prelude.{All, Contains, slice_index_or}
-use Rattle.std.proofs.lemmas.Bool.{cases_eq}
-use Rattle.std.proofs.lemmas.List.Elements.{All-nil, All-cons, All-append}
+-- From the newest edge that is needed down: one edge more is explained.
+use Rattle.std.proofs.Common.{◌≡◌, ℕ, suc, ◌<◌, ◌≤◌, ◌⊎◌, inl, inr, true, false, List, [], ◌∷◌, ◌++◌, length, get_or, if◌then◌else◌, refl, sym, ap, ◌∙◌, subst, arith, true≢false}
+use Rattle.std.specs.Prelude.{All, Contains}
+use Rattle.std.specs.Ordering.{nat_cmp}
+use Rattle.std.specs.BTreeMap.Range.{IsLtBy}
+use Rattle.std.proofs.lemmas.List.Elements.{All-nil, All-cons, All-append, All-contains, Contains-get_or, Contains-push, Contains-push_cases}
+use Rattle.spec_text.proofs.Members.{none}
 use Rattle.spec_sorts.specs.Literals.{Literal, complement}
 use Rattle.spec_proofs.specs.Resolution.{Derives as Propagates, IsWithin}
 use Rattle.term_core.specs.declared.ids.TermId.{TermId}
@@ -20,70 +22,52 @@ use Rattle.congruence_explain.specs.declared.claims.Claim.TheVariants.{Equality,
 use Rattle.congruence_explain.specs.declared.claims.SignedClaim.{SignedClaim}
 use Rattle.congruence_explain.specs.Claims.{literal_claimed, denied, joins, says, edge_says}
 use Rattle.congruence_explain.specs.Basis.{IsBasis, IsAtomLiteral, IsByArguments}
-use Rattle.congruence_explain.specs.Steps.{ExplanationSetting, Notes, all_denied, edge_literal, IsNeeded, ShowsLiteral, decision, IsDenial, TellsPair, TellsEdge, Going, GoesOn, IsCollected}
-use Rattle.congruence_explain.proofs.Shown.{within_more, grows_stated, shows_more, shows_stated}
+use Rattle.congruence_explain.specs.Steps.{ExplanationSetting, Notes, all_denied, edge_literal, ShowsLiteral, decision, IsDenial, TellsPair, TellsEdge, Going, GoesOn, IsCollected}
+use Rattle.congruence_explain.proofs.Needed.{below_last, bound, bound-push, bound-low}
+use Rattle.congruence_explain.proofs.Shown.{within_more, denied_more, grows_stated, shows_stated}
 use Rattle.congruence_explain.proofs.Facts.{reason_at, held_atom, held_made, truths_in, joins_turned, same_joins}
 use Rattle.congruence_explain.proofs.Decided.{shows_itself, shows_decided}
 
 -- what a held literal says of the edge that it labels
-pub held_shown : (s : ExplanationSetting) (k : ℕ) (needed : List Bool) (steps : List (List Literal)) (stated stated_after : List SignedClaim) (e : Edge) (l : Lit) → numbered s.edges k ≡ e → e.label ≡ Held l → joins e.a e.b l.term (truth_of s.truths l.positive) ≡ false
+pub held_shown : (s : ExplanationSetting) (k : ℕ) (needed : List ℕ) (steps : List (List Literal)) (stated stated_after : List SignedClaim) (e : Edge) (l : Lit) → numbered s.edges k ≡ e → e.label ≡ Held l → joins e.a e.b l.term (truth_of s.truths l.positive) ≡ false
     → l.positive ≡ true → stated_after ≡ stated ++ denied l ∷ []
     → TellsEdge s k (record { needed = needed; steps = steps; stated = stated }) (record { needed = needed; steps = steps; stated = stated_after })
 held_shown s k needed steps stated stated_after e l at label off positive is = (
-  record { count = refl; kept = λ j h. h; same = λ j h. refl; steps = λ x i. i; stated = within_more stated stated_after (denied l ∷ []) is },
-  subst (λ c. ShowsLiteral s k (record { needed = needed; steps = steps; stated = stated_after }) (literal_claimed s.table c)) (sym says_it) (shows_itself s k needed steps steps stated stated_after l is positive),
+  record { kept = λ j h. h; older = λ j h. inl h; steps = λ x i. i; stated = within_more stated stated_after (denied l ∷ []) is },
+  subst (λ c. ShowsLiteral s (record { needed = needed; steps = steps; stated = stated_after }) (literal_claimed s.table c)) (sym says_it) (shows_itself s needed steps steps stated stated_after l is positive),
 )
   where
     says_it : edge_says s.truths (numbered s.edges k) ≡ Atom l.term
     says_it = ap (edge_says s.truths) at ∙ ap (λ z. says s.truths z e.a e.b) label ∙ ap (λ c. if c then Equality l.term (truth_of s.truths l.positive) else Atom l.term) off
 
-pub decided_shown : (s : ExplanationSetting) (k : ℕ) (needed : List Bool) (steps steps_after : List (List Literal)) (stated stated_after : List SignedClaim) (e : Edge) (l : Lit) → numbered s.edges k ≡ e → e.label ≡ Held l → joins e.a e.b l.term (truth_of s.truths l.positive) ≡ true
+pub decided_shown : (s : ExplanationSetting) (k : ℕ) (needed : List ℕ) (steps steps_after : List (List Literal)) (stated stated_after : List SignedClaim) (e : Edge) (l : Lit) → numbered s.edges k ≡ e → e.label ≡ Held l → joins e.a e.b l.term (truth_of s.truths l.positive) ≡ true
     → stated_after ≡ stated ++ denied l ∷ [] → steps_after ≡ steps ++ decision s.table s.truths l
     → TellsEdge s k (record { needed = needed; steps = steps; stated = stated }) (record { needed = needed; steps = steps_after; stated = stated_after })
 decided_shown s k needed steps steps_after stated stated_after e l at label on is more = (
   record {
-    count = refl;
     kept = λ j h. h;
-    same = λ j h. refl;
+    older = λ j h. inl h;
     steps = within_more steps steps_after (decision s.table s.truths l) more;
     stated = within_more stated stated_after (denied l ∷ []) is;
   },
-  subst (λ c. ShowsLiteral s k (record { needed = needed; steps = steps_after; stated = stated_after }) (literal_claimed s.table c)) (sym says_it) (shows_decided s k needed steps steps_after stated stated_after l is more),
+  subst (λ c. ShowsLiteral s (record { needed = needed; steps = steps_after; stated = stated_after }) (literal_claimed s.table c)) (sym says_it) (shows_decided s needed steps steps_after stated stated_after l is more),
 )
   where
     says_it : edge_says s.truths (numbered s.edges k) ≡ Equality l.term (truth_of s.truths l.positive)
     says_it = ap (edge_says s.truths) at ∙ ap (λ z. says s.truths z e.a e.b) label ∙ ap (λ c. if c then Equality l.term (truth_of s.truths l.positive) else Atom l.term) on
 
 -- the same with other literals that the last clause has
-pub edge_with : (s : ExplanationSetting) (k : ℕ) (needed after : List Bool) (steps steps_after : List (List Literal)) (stated : List SignedClaim)
+pub edge_with : (s : ExplanationSetting) (k : ℕ) (needed after : List ℕ) (steps steps_after : List (List Literal)) (stated : List SignedClaim)
     → TellsEdge s k (record { needed = needed; steps = steps; stated = [] }) (record { needed = after; steps = steps_after; stated = [] })
     → TellsEdge s k (record { needed = needed; steps = steps; stated = stated }) (record { needed = after; steps = steps_after; stated = stated })
 edge_with s k needed after steps steps_after stated h = (
   grows_stated k (record { needed = needed; steps = steps; stated = [] }) (record { needed = after; steps = steps_after; stated = [] }) stated h.0,
-  shows_stated s k after steps_after stated (edge_literal s k) h.1,
+  shows_stated s after steps_after stated (edge_literal s k) h.1,
 )
 
-module _ (s : ExplanationSetting) (k : ℕ) (lt : k < length s.edges) where
-  -- an edge that is needed
-  pub going_on : (old new : Notes) (more : List SignedClaim) → new.stated ≡ old.stated ++ more → All (IsDenial s) more → TellsEdge s k old new → GoesOn s k old new
-  going_on old new more is denials told = λ goal g. record {
-    count = told.0.count ∙ g.count;
-    explained = λ j low high n. go g.explained j low high n (cases_eq j k);
-    shown = shows_more s (length s.edges) k old new told.0 goal g.shown;
-    held = subst (All (IsDenial s)) (sym is) (All-append (IsDenial s) old.stated more g.held denials);
-  }
-    where
-      go : ((j : ℕ) → k + 1 ≤ j → j < length s.edges → IsNeeded old.needed j → ShowsLiteral s j old (edge_literal s j)) → (j : ℕ) → k ≤ j → j < length s.edges → IsNeeded new.needed j → (j ≡ k) ⊎ (j ≢ k) → ShowsLiteral s j new (edge_literal s j)
-      go ih j low high n (inl e) = subst (λ i. ShowsLiteral s i new (edge_literal s i)) (sym e) told.1
-      go ih j low high n (inr d) = shows_more s j k old new told.0 (edge_literal s j) (ih j (omega arith) high (sym (told.0.same j low) ∙ n))
-
-  -- and one that is not
-  pub going_past : (n : Notes) → slice_index_or n.needed k false ≡ false → GoesOn s k n n
-  going_past n off = λ goal g. record { count = g.count; explained = λ j low high need. go g.explained j low high need (cases_eq j k); shown = g.shown; held = g.held }
-    where
-      go : ((j : ℕ) → k + 1 ≤ j → j < length s.edges → IsNeeded n.needed j → ShowsLiteral s j n (edge_literal s j)) → (j : ℕ) → k ≤ j → j < length s.edges → IsNeeded n.needed j → (j ≡ k) ⊎ (j ≢ k) → ShowsLiteral s j n (edge_literal s j)
-      go ih j low high need (inl e) = absurd (true≢false (sym need ∙ ap (λ i. slice_index_or n.needed i false) e ∙ off))
-      go ih j low high need (inr d) = ih j (omega arith) high need
+-- an edge is told, and the last clause denies more
+pub goes_on : (s : ExplanationSetting) (k : ℕ) (old new : Notes) (more : List SignedClaim) → new.stated ≡ old.stated ++ more → All (IsDenial s) more → TellsEdge s k old new → GoesOn s k old new
+goes_on s k old new more is denials told = record { told = told; held = λ h. subst (All (IsDenial s)) (sym is) (All-append (IsDenial s) old.stated more h denials) }
 
 -- a held label is denied
 pub denial_of : (s : ExplanationSetting) (k : ℕ) (e : Edge) (l : Lit) → k < length s.edges → e ≡ numbered s.edges k → e.label ≡ Held l → All (IsDenial s) (denied l ∷ [])
@@ -118,25 +102,56 @@ module _ (t : TableView) (ts : Truths) (v : ForestState) (f : Facts) (b : IsBasi
       go (inl h) = stated e.a e.b off h
       go (inr h) = stated e.b e.a (joins_turned e.b e.a l.term (truth_of ts l.positive) ∙ off) h
 
--- what is needed is derived, from the oldest edge on
-pub all_derived : (s : ExplanationSetting) (n : Notes) (steps : List (List Literal)) (assumed : List Literal) → IsWithin n.steps steps → IsWithin (all_denied s.table n.stated) assumed
-    → ((j : ℕ) → j < length s.edges → IsNeeded n.needed j → ShowsLiteral s j n (edge_literal s j)) → (k : ℕ) → k ≤ length s.edges → (i : ℕ) → i < k → IsNeeded n.needed i → Propagates complement steps assumed (edge_literal s i)
-all_derived s n steps assumed sw aw each zero le i h need = absurd (omega (arith, h))
-all_derived s n steps assumed sw aw each (suc k) le i h need = go (all_derived s n steps assumed sw aw each k (omega arith)) (cases_eq i k)
-  where
-    go : ((i : ℕ) → i < k → IsNeeded n.needed i → Propagates complement steps assumed (edge_literal s i)) → (i ≡ k) ⊎ (i ≢ k) → Propagates complement steps assumed (edge_literal s i)
-    go ih (inl e) = each i (omega arith) need steps assumed sw aw (λ j lt more. ih j (omega arith) more)
-    go ih (inr d) = ih i (omega arith) need
-
--- the loop begins, and ends
-pub going_start : (s : ExplanationSetting) (old new : Notes) (x y : TermId) → length old.needed ≡ length s.edges → new.stated ≡ [] → Linked s.edges x.0 y.0 → TellsPair s old new x y → Going s (length s.edges) (literal_claimed s.table (Equality x y)) new
-going_start s old new x y count empty linked told =
+-- the loop begins
+pub going_start : (s : ExplanationSetting) (old new : Notes) (x y : TermId) → old.needed ≡ [] → new.stated ≡ [] → Linked s.edges x.0 y.0 → TellsPair s old new x y → Going s (literal_claimed s.table (Equality x y)) new
+going_start s old new x y first empty linked told =
     let h = told (length s.edges) (omega arith) (subst (λ (es : List Edge). Linked es x.0 y.0) (sym (older-all s.edges (length s.edges) (omega arith))) linked) in
-    record { count = h.0.count ∙ count; explained = λ j low high n. absurd (omega arith); shown = h.1; held = subst (All (IsDenial s)) (sym empty) (All-nil (IsDenial s)) }
+    record { there = λ i d lt. low _ (h.0.older _ (Contains-get_or new.needed i d lt)); shown = h.1; held = subst (All (IsDenial s)) (sym empty) (All-nil (IsDenial s)) }
+  where
+    low : (j : ℕ) → Contains old.needed j ⊎ (j < length s.edges) → j < length s.edges
+    low j (inl i) = absurd (none j (subst (λ l. Contains l j) first i))
+    low j (inr lt) = lt
 
-pub going_ends : (s : ExplanationSetting) (n : Notes) (x y : TermId) (stated : List SignedClaim) → n.stated ≡ stated → Going s 0 (literal_claimed s.table (Equality x y)) n → IsCollected s n.steps x y stated
-going_ends s n x y stated is g = record {
-  shown = g.shown n.steps (all_denied s.table stated) (λ c i. i) (λ m i. subst (λ zs. Contains (all_denied s.table zs) m) is i)
-      (all_derived s n n.steps (all_denied s.table stated) (λ c i. i) (λ m i. subst (λ zs. Contains (all_denied s.table zs) m) is i) (λ j lt need. g.explained j (omega arith) lt need) (length s.edges) (omega arith));
+-- the newest edge that is needed is taken and explained, by older ones
+module _ (s : ExplanationSetting) (goal : Literal) (k : ℕ) (needed rest : List ℕ) (steps : List (List Literal)) (stated : List SignedClaim) (popped : needed ≡ rest ++ k ∷ []) (low : All (λ q. IsLtBy nat_cmp q k) rest) where
+  abbrev before : Notes
+  before = record { needed = needed; steps = steps; stated = stated }
+
+  abbrev after : Notes
+  after = record { needed = rest; steps = steps; stated = stated }
+
+  -- it is an edge
+  pub newest_there : Going s goal before → k < length s.edges
+  newest_there g = All-contains (λ j. j < length s.edges) (rest ++ k ∷ []) k (subst (All (λ j. j < length s.edges)) popped g.there) (Contains-push rest k)
+
+  module _ (new : Notes) (on : GoesOn s k after new) where
+    newer : (j : ℕ) → Contains new.needed j → j < k
+    newer j i = elim (on.told.0.older j i) [ inl h ↦ All-contains (λ q. q < k) rest j (below_last k rest low) h | inr lt ↦ lt ]
+
+    -- those that are needed now are older
+    pub bound_falls : bound new.needed < bound needed
+    bound_falls =
+        let was : bound needed ≡ suc k = ap bound popped ∙ bound-push rest k in
+        let is : bound new.needed ≤ k = bound-low new.needed k (λ i d lt. newer _ (Contains-get_or new.needed i d lt)) in
+        omega (arith, was, is)
+
+    pub going_on : Going s goal before → Going s goal new
+    going_on g = record {
+      there = λ i d lt. let is : get_or new.needed i d < k = newer _ (Contains-get_or new.needed i d lt) in let top = newest_there g in omega (arith, is, top);
+      shown = λ more assumed sw aw ih.
+          g.shown more assumed (λ x i. sw x (on.told.0.steps x i)) (λ x i. aw x (denied_more s.table stated new.stated on.told.0.stated x i))
+          (λ i need. each more assumed sw aw ih i (Contains-push_cases rest k i (subst (λ l. Contains l i) popped need)));
+      held = on.held g.held;
+    }
+      where
+        each : (more : List (List Literal)) (assumed : List Literal) → IsWithin new.steps more → IsWithin (all_denied s.table new.stated) assumed → ((i : ℕ) → Contains new.needed i → Propagates complement more assumed (edge_literal s i))
+            → (i : ℕ) → Contains rest i ⊎ (k ≡ i) → Propagates complement more assumed (edge_literal s i)
+        each more assumed sw aw ih i (inl old) = ih i (on.told.0.kept i old)
+        each more assumed sw aw ih i (inr e) = subst (λ j. Propagates complement more assumed (edge_literal s j)) e (on.told.1 more assumed sw aw ih)
+
+-- the loop ends
+pub going_ends : (s : ExplanationSetting) (n : Notes) (x y : TermId) (stated : List SignedClaim) → n.stated ≡ stated → n.needed ≡ [] → Going s (literal_claimed s.table (Equality x y)) n → IsCollected s n.steps x y stated
+going_ends s n x y stated is empty g = record {
+  shown = g.shown n.steps (all_denied s.table stated) (λ c i. i) (λ m i. subst (λ zs. Contains (all_denied s.table zs) m) is i) (λ i need. absurd (none i (subst (λ l. Contains l i) empty need)));
   held = subst (All (IsDenial s)) is g.held;
 }

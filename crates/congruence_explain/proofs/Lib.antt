@@ -1,7 +1,7 @@
 -- The lemmas of this crate.
 pub mod Terms
 pub mod Logging
-pub mod Marks
+pub mod Needed
 pub mod Shown
 pub mod Facts
 pub mod Along

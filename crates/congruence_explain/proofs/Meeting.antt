@@ -1,5 +1,5 @@
 -- Terms with one head, whose arguments are linked.
-use Rattle.std.proofs.Common.{◌≡◌, ◌≢◌, ℕ, suc, ◌<◌, ◌==◌, ◌⊎◌, inl, inr, Bool, true, false, List, [], ◌∷◌, ◌++◌, map, length, get_or, if◌then◌else◌, refl, sym, ap, ◌∙◌, subst, arith}
+use Rattle.std.proofs.Common.{◌≡◌, ◌≢◌, ℕ, suc, ◌<◌, ◌==◌, ◌⊎◌, inl, inr, true, false, List, [], ◌∷◌, ◌++◌, map, length, get_or, if◌then◌else◌, refl, sym, ap, ◌∙◌, subst, arith}
 use Rattle.std.specs.Prelude.{All, Contains, Some, Option}
 use Rattle.std.proofs.lemmas.Bool.{cases_eq}
 use Rattle.std.proofs.lemmas.Bool.Decides.{nat_tests}
@@ -182,7 +182,7 @@ module _ (t : TableView) (ts : Truths) (v : ForestState) (f : Facts) (b : IsBasi
               reasons = map term_denied (map (claim_as_term t) (all_unequal (x ∷ xs) ys))
 
       -- and shows what the edge says
-      pub arguments_shown : (needed after : List Bool) (steps mid steps_after : List (List Literal))
+      pub arguments_shown : (needed after : List ℕ) (steps mid steps_after : List (List Literal))
           → TellsPairs (setting t ts v) (record { needed = needed; steps = steps; stated = [] }) (record { needed = after; steps = mid; stated = [] }) xs ys
           → steps_after ≡ mid ++ map (claim_as_literal t) arguments_clause ∷ []
           → TellsEdge (setting t ts v) k (record { needed = needed; steps = steps; stated = [] }) (record { needed = after; steps = steps_after; stated = [] })
@@ -194,7 +194,7 @@ module _ (t : TableView) (ts : Truths) (v : ForestState) (f : Facts) (b : IsBasi
           let pairs = told k (omega arith) roots_linked in
           let more = grows_steps k after mid steps_after (map (claim_as_literal t) arguments_clause ∷ []) [] is in (
             grows_both k old one new pairs.0 more,
-            subst (λ z. ShowsLiteral s k new (literal_claimed t z)) (sym says_equal)
-                (shows_last s k new (all_unequal xs ys) (equality_claim a c) (subst (λ zs. Contains zs (map (claim_as_literal t) arguments_clause)) (sym is) (Contains-push mid (map (claim_as_literal t) arguments_clause)))
-                (shows_each s k k one new more (all_unequal xs ys) pairs.1)),
+            subst (λ z. ShowsLiteral s new (literal_claimed t z)) (sym says_equal)
+                (shows_last s new (all_unequal xs ys) (equality_claim a c) (subst (λ zs. Contains zs (map (claim_as_literal t) arguments_clause)) (sym is) (Contains-push mid (map (claim_as_literal t) arguments_clause)))
+                (shows_each s k one new more (all_unequal xs ys) pairs.1)),
           )

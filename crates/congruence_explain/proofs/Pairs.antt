@@ -28,13 +28,13 @@ linked_apart terms t v x y d (inl e) = absurd (d e)
 linked_apart terms t v x y d (inr h) = h
 
 pub same_pair : (s : ExplanationSetting) (n : Notes) (x y : TermId) → x.0 ≡ y.0 → TellsPairs s n n (x ∷ []) (y ∷ [])
-same_pair s n x y e = λ k le linked. (grows_none k n, subst (ShowsDenied s k n) (sym (unequal_same x y e)) (All-nil (λ m. ShowsLiteral s k n (complement (claim_as_literal s.table m)))))
+same_pair s n x y e = λ k le linked. (grows_none k n, subst (ShowsDenied s n) (sym (unequal_same x y e)) (All-nil (λ m. ShowsLiteral s n (complement (claim_as_literal s.table m)))))
 
 pub one_pair : (s : ExplanationSetting) (old new : Notes) (x y : TermId) → x.0 ≢ y.0 → TellsPair s old new x y → TellsPairs s old new (x ∷ []) (y ∷ [])
 one_pair s old new x y d told = λ k le linked.
     let both : Linked (older s.edges k) x.0 y.0 = cc in
     let one = told k le both in
-    (one.0, subst (ShowsDenied s k new) (sym (unequal_other x y d)) (All-cons (λ m. ShowsLiteral s k new (complement (claim_as_literal s.table m))) (unequal x y) [] one.1 (All-nil (λ m. ShowsLiteral s k new (complement (claim_as_literal s.table m))))))
+    (one.0, subst (ShowsDenied s new) (sym (unequal_other x y d)) (All-cons (λ m. ShowsLiteral s new (complement (claim_as_literal s.table m))) (unequal x y) [] one.1 (All-nil (λ m. ShowsLiteral s new (complement (claim_as_literal s.table m))))))
 
 -- linked in each place
 pub linked_at : (es : List Edge) (xs ys : List TermId) (d : TermId) → roots es xs ≡ roots es ys → (i : ℕ) → i < length xs → Linked es (get_or xs i d).0 (get_or ys i d).0
@@ -70,7 +70,7 @@ unequal_all xs ys i h clause so =
 
 -- the first pairs, and one more
 pub pairs_none : (s : ExplanationSetting) (n : Notes) (xs ys : List TermId) (clause : List SignedClaim) → clause ≡ [] → TellsClause s n n xs ys clause
-pairs_none s n xs ys clause e = λ k le linked. (grows_none k n, subst (ShowsDenied s k n) (sym e) (All-nil (λ m. ShowsLiteral s k n (complement (claim_as_literal s.table m)))))
+pairs_none s n xs ys clause e = λ k le linked. (grows_none k n, subst (ShowsDenied s n) (sym e) (All-nil (λ m. ShowsLiteral s n (complement (claim_as_literal s.table m)))))
 
 pub pairs_more : (s : ExplanationSetting) (a b c : Notes) (xs ys : List TermId) (i : ℕ) (d : TermId) → i < length xs → (clause after : List SignedClaim) → after ≡ clause ++ all_unequal (get_or xs i d ∷ []) (get_or ys i d ∷ [])
     → TellsClause s a b xs ys clause → TellsPairs s b c (get_or xs i d ∷ []) (get_or ys i d ∷ []) → TellsClause s a c xs ys after
@@ -79,5 +79,5 @@ pairs_more s a b c xs ys i d h clause after is first one = λ k le linked.
     let both : roots (older s.edges k) (get_or xs i d ∷ []) ≡ roots (older s.edges k) (get_or ys i d ∷ []) = ap (λ n. n ∷ []) (linked_at (older s.edges k) xs ys d linked i h) in
     let o = one k le both in (
       grows_both k a b c f.0 o.0,
-      subst (ShowsDenied s k c) (sym is) (All-append (λ m. ShowsLiteral s k c (complement (claim_as_literal s.table m))) clause (all_unequal (get_or xs i d ∷ []) (get_or ys i d ∷ [])) (shows_each s k k b c o.0 clause f.1) o.1),
+      subst (ShowsDenied s c) (sym is) (All-append (λ m. ShowsLiteral s c (complement (claim_as_literal s.table m))) clause (all_unequal (get_or xs i d ∷ []) (get_or ys i d ∷ [])) (shows_each s k b c o.0 clause f.1) o.1),
     )

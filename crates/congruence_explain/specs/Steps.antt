@@ -1,6 +1,6 @@
 -- What the steps of an explanation derive.
-use Rattle.std.specs.Prelude.{◌≡◌, ℕ, ◌+◌, ◌<◌, ◌≤◌, ◌⊎◌, Bool, true, false, not, List, [], ◌∷◌, ◌++◌, map, length}
-use Rattle.std.specs.Prelude.{drop, All, Contains, slice_index_or, slice_set}
+use Rattle.std.specs.Prelude.{◌≡◌, ℕ, ◌<◌, ◌≤◌, ◌⊎◌, true, false, not, List, [], ◌∷◌, ◌++◌, map, length}
+use Rattle.std.specs.Prelude.{drop, All, Contains}
 use Rattle.spec_sorts.specs.Terms.{Term}
 use Rattle.spec_sorts.specs.Literals.{Literal, literals_of, complement}
 use Rattle.spec_proofs.specs.Resolution.{Derives as Propagates, IsWithin}
@@ -81,57 +81,55 @@ pub record ExplanationSetting : Type 0 where
 abbrev pub setting : TableView → Truths → ForestState → ExplanationSetting
 setting t ts v = record { table = t; truths = ts; edges = v.edges }
 
--- What is done of an explanation: which edges are needed, the clauses that were logged, and the literals of the last
--- clause.
+-- What is done of an explanation, and what is left: the edges that are needed and not yet explained, the clauses that
+-- were logged, and the literals of the last clause.
 pub record Notes : Type 0 where
-  -- for each edge by its number whether it is needed
-  pub needed : List Bool
+  -- the numbers of the edges
+  pub needed : List ℕ
   -- the clauses
   pub steps : List (List Literal)
   -- the literals, which deny what is held
   pub stated : List SignedClaim
 
 -- what is done since the start
-abbrev pub notes : Start → Derived → List Bool → List SignedClaim → Notes
+abbrev pub notes : Start → Derived → List ℕ → List SignedClaim → Notes
 notes start now needed stated = record { needed = needed; steps = steps_since start now; stated = stated }
 
 -- what the edge of a number says
 abbrev pub edge_literal : ExplanationSetting → ℕ → Literal
 edge_literal s k = literal_claimed s.table (edge_says s.truths (numbered s.edges k))
 
--- the edge of a number is needed
-abbrev pub IsNeeded : List Bool → ℕ → Type 0
-IsNeeded needed k = slice_index_or needed k false ≡ true
-
 -- what holds where the literals are denied
 abbrev pub all_denied : TableView → List SignedClaim → List Literal
 all_denied t stated = map complement (map (claim_as_literal t) stated)
 
--- A literal is derived once what the needed ones of the k oldest edges say is, from all steps that are logged, where
--- the last clause is denied.
-abbrev pub ShowsLiteral : ExplanationSetting → ℕ → Notes → Literal → Type 0
-ShowsLiteral s k n goal = (steps : List (List Literal)) (assumed : List Literal) → IsWithin n.steps steps
+-- A literal is derived once what the needed edges say is, from all steps that are logged, where the last clause is
+-- denied.
+abbrev pub ShowsLiteral : ExplanationSetting → Notes → Literal → Type 0
+ShowsLiteral s n goal = (steps : List (List Literal)) (assumed : List Literal) → IsWithin n.steps steps
     → IsWithin (all_denied s.table n.stated) assumed
-    → ((i : ℕ) → i < k → IsNeeded n.needed i → Propagates complement steps assumed (edge_literal s i))
+    → ((i : ℕ) → Contains n.needed i → Propagates complement steps assumed (edge_literal s i))
     → Propagates complement steps assumed goal
 
 -- More of the k oldest edges is needed, and more is logged and stated.
 pub record NotesGrow (k : ℕ) (old new : Notes) : Type 0 where
-  -- there are as many marks
-  pub count : length new.needed ≡ length old.needed
   -- what was needed is
-  pub kept : (j : ℕ) → IsNeeded old.needed j → IsNeeded new.needed j
-  -- newer edges are as they were
-  pub same : (j : ℕ) → k ≤ j → slice_index_or new.needed j false ≡ slice_index_or old.needed j false
+  pub kept : IsWithin old.needed new.needed
+  -- what came is of the k oldest edges
+  pub older : (j : ℕ) → Contains new.needed j → Contains old.needed j ⊎ (j < k)
   -- the steps are there
   pub steps : IsWithin old.steps new.steps
-  -- and so do the literals
+  -- and so are the literals
   pub stated : IsWithin old.stated new.stated
 
--- the edges of these numbers are marked
-abbrev pub marked : List Bool → List ℕ → List Bool
-marked needed [] = needed
-marked needed (k ∷ ks) = marked (slice_set needed k true) ks
+-- Numbers of edges that came among others.
+pub record AddsEdges (old more new : List ℕ) : Type 0 where
+  -- those that were there are there
+  pub kept : IsWithin old new
+  -- those that came too
+  pub there : IsWithin more new
+  -- and no others
+  pub no_others : (k : ℕ) → Contains new k → Contains old k ⊎ Contains more k
 
 -- the numbers of a path's edges
 abbrev pub edges_on : List PathStep → List ℕ
@@ -140,17 +138,17 @@ edges_on path = map (λ (s : PathStep). s.edge) path
 -- that two terms are equality_claim is shown, whichever of the oldest edges link them
 abbrev pub TellsPair : ExplanationSetting → Notes → Notes → TermId → TermId → Type 0
 TellsPair s old new x y = (k : ℕ) → k ≤ length s.edges → Linked (older s.edges k) x.0 y.0
-    → NotesGrow k old new × ShowsLiteral s k new (literal_claimed s.table (Equality x y))
+    → NotesGrow k old new × ShowsLiteral s new (literal_claimed s.table (Equality x y))
 
 -- what a clause denies is shown
-abbrev pub ShowsDenied : ExplanationSetting → ℕ → Notes → List SignedClaim → Type 0
-ShowsDenied s k n clause = All (λ m. ShowsLiteral s k n (complement (claim_as_literal s.table m))) clause
+abbrev pub ShowsDenied : ExplanationSetting → Notes → List SignedClaim → Type 0
+ShowsDenied s n clause = All (λ m. ShowsLiteral s n (complement (claim_as_literal s.table m))) clause
 
 -- what a clause denies of terms that are linked to others, one by one, is shown, whichever of the oldest edges link
 -- them
 abbrev pub TellsClause : ExplanationSetting → Notes → Notes → List TermId → List TermId → List SignedClaim → Type 0
 TellsClause s old new xs ys clause = (k : ℕ) → k ≤ length s.edges → roots (older s.edges k) xs
-    ≡ roots (older s.edges k) ys → NotesGrow k old new × ShowsDenied s k new clause
+    ≡ roots (older s.edges k) ys → NotesGrow k old new × ShowsDenied s new clause
 
 -- so it is of all that differ
 abbrev pub TellsPairs : ExplanationSetting → Notes → Notes → List TermId → List TermId → Type 0
@@ -158,7 +156,7 @@ TellsPairs s old new xs ys = TellsClause s old new xs ys (all_unequal xs ys)
 
 -- what the edge of a number says is shown
 abbrev pub TellsEdge : ExplanationSetting → ℕ → Notes → Notes → Type 0
-TellsEdge s k old new = NotesGrow k old new × ShowsLiteral s k new (edge_literal s k)
+TellsEdge s k old new = NotesGrow k old new × ShowsLiteral s new (edge_literal s k)
 
 -- the clauses by which a literal's term is equality_claim to its truth value: the truth value, and that the term has it
 abbrev pub decision : TableView → Truths → Lit → List (List Literal)
@@ -181,20 +179,21 @@ apart t ts =
 abbrev pub IsDenial : ExplanationSetting → SignedClaim → Type 0
 IsDenial s m = (l : Lit) × (k : ℕ) × (k < length s.edges) × ((numbered s.edges k).label ≡ Held l) × (m ≡ denied l)
 
--- What is so once all edges but the k oldest are explained.
-pub record Going (s : ExplanationSetting) (k : ℕ) (goal : Literal) (n : Notes) : Type 0 where
-  -- there is a mark for each edge
-  pub count : length n.needed ≡ length s.edges
-  -- what a needed newer edge says is shown by those before it
-  pub explained : (j : ℕ) → k ≤ j → j < length s.edges → IsNeeded n.needed j → ShowsLiteral s j n (edge_literal s j)
-  -- what is to be explained is shown by all
-  pub shown : ShowsLiteral s (length s.edges) n goal
+-- What is so while edges are explained.
+pub record Going (s : ExplanationSetting) (goal : Literal) (n : Notes) : Type 0 where
+  -- those that are needed are edges
+  pub there : All (λ k. k < length s.edges) n.needed
+  -- what is to be explained is shown by what they say
+  pub shown : ShowsLiteral s n goal
   -- the last clause denies held literals alone
   pub held : All (IsDenial s) n.stated
 
--- one edge more is explained
-abbrev pub GoesOn : ExplanationSetting → ℕ → Notes → Notes → Type 0
-GoesOn s k old new = (goal : Literal) → Going s (k + 1) goal old → Going s k goal new
+-- One edge more is explained, by older ones.
+pub record GoesOn (s : ExplanationSetting) (k : ℕ) (old new : Notes) : Type 0 where
+  -- what it says is shown
+  pub told : TellsEdge s k old new
+  -- the last clause denies held literals alone, if it did
+  pub held : All (IsDenial s) old.stated → All (IsDenial s) new.stated
 
 -- That two terms are equality_claim is derived, where the last clause is denied, which denies held literals alone.
 pub record IsCollected (s : ExplanationSetting) (steps : List (List Literal)) (x y : TermId)

@@ -1,6 +1,6 @@
 //! Why an edge is there, as steps.
 
-ghost use Rattle.std.specs.Prelude.{◌≡◌, ℕ, ◌<◌, true, false, Bool, List, [], ◌∷◌, ◌++◌, length, All, IfOk, OnOk};
+ghost use Rattle.std.specs.Prelude.{◌≡◌, ℕ, ◌<◌, true, false, List, [], ◌∷◌, ◌++◌, length, All, IfOk, OnOk};
 ghost use Rattle.spec_sorts.specs.Subsets.{arguments_of};
 ghost use Rattle.term_core.specs.Tables.{term_at, IsIn, clause_at};
 ghost use Rattle.explain_forest.specs.declared.types.Edge.{Edge as EdgeView};
@@ -20,6 +20,7 @@ use explain_forest::Forest;
 use no_memory::NoMemory;
 use proof_log::ProofLog;
 use std::alloc::Global;
+use std::collections::BTreeSet;
 use term_core::{Lit, TermId, TermTable};
 
 /// Copies the arguments of a term.
@@ -42,19 +43,17 @@ fn tell_arguments(
     forest: &Forest,
     truths: Truths,
     k: u64,
-    needed: &mut [bool],
+    needed: &mut BTreeSet<u64>,
 ) -> Result<(), NoMemory>
     ghost start: { Start }
     requires derives { Explains start (derived table.old log.old) }
     requires basis { IsBasis start.table truths forest.now.now start.facts }
     requires k { k < length forest.now.now.edges }
     requires label { IsByArguments forest.now.now.edges k }
-    requires count { length needed.old ≡ length forest.now.now.edges }
     ensures derives { Explains start (derived table.new log.new) }
-    ensures count { length needed.new ≡ length needed.old }
     ensures told { OnOk result (TellsEdge (setting start.table truths forest.now.now) k
-        (notes start (derived table.old log.old) needed.old [])
-        (notes start (derived table.new log.new) needed.new [])) }
+        (notes start (derived table.old log.old) needed.old.keys [])
+        (notes start (derived table.new log.new) needed.new.keys [])) }
 {
     table.ids_are_unique();
     let edge = forest.edge(k);
@@ -114,7 +113,7 @@ fn tell_held(
     requires positive { joins edge.a edge.b l.term (truth_of truths l.positive) ≡ false → l.positive ≡ true }
     ensures derives { Explains start (derived table.new log.new) }
     ensures stated { OnOk result (stated.new.items ≡ stated.old.items ++ denied l ∷ []) }
-    ensures told { OnOk result ((es : List EdgeView) (k : ℕ) (needed : List Bool) → numbered es k ≡ edge
+    ensures told { OnOk result ((es : List EdgeView) (k : ℕ) (needed : List ℕ) → numbered es k ≡ edge
         → TellsEdge (record { table = start.table; truths = truths; edges = es }) k
         (notes start (derived table.old log.old) needed stated.old.items)
         (notes start (derived table.new log.new) needed stated.new.items)) }
@@ -127,7 +126,7 @@ fn tell_held(
     Ok(())
 }
 
-/// Explains the edge of a number, if it is needed.
+/// Explains the edge of a number. The edges that this depends on are older.
 pub(crate) fn turn(
     alloc: Global,
     table: &mut TermTable,
@@ -135,23 +134,18 @@ pub(crate) fn turn(
     forest: &Forest,
     truths: Truths,
     k: u64,
-    needed: &mut [bool],
+    needed: &mut BTreeSet<u64>,
     stated: &mut Vec<SignedClaim>,
 ) -> Result<(), NoMemory>
     ghost start: { Start }
     requires derives { Explains start (derived table.old log.old) }
     requires basis { IsBasis start.table truths forest.now.now start.facts }
     requires k { k < length forest.now.now.edges }
-    requires count { length needed.old ≡ length forest.now.now.edges }
     ensures derives { Explains start (derived table.new log.new) }
-    ensures count { length needed.new ≡ length needed.old }
     ensures on { OnOk result (GoesOn (setting start.table truths forest.now.now) k
-        (notes start (derived table.old log.old) needed.old stated.old.items)
-        (notes start (derived table.new log.new) needed.new stated.new.items)) }
+        (notes start (derived table.old log.old) needed.old.keys stated.old.items)
+        (notes start (derived table.new log.new) needed.new.keys stated.new.items)) }
 {
-    if !needed[k as usize] {
-        return Ok(());
-    }
     let edge = forest.edge(k);
     match edge.label {
         Label::Arguments(_, _) => {

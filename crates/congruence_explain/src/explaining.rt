@@ -167,8 +167,9 @@ fn explained(
 /// Conditions: the log is right over the table, the edges of the forest represent the facts, and these have the conflict. With each
 /// listed term its arguments are listed.
 ///
-/// It takes time and memory in proportion to the edges of the forest, the paths that it tells, and the arguments of the applications on
-/// them. `NoMemory` comes where a list, a term or a step finds no memory; then table and log are as they were.
+/// It takes time and memory in proportion to the paths that it tells, and the arguments of the applications on them. Its time is also that
+/// of the climbs which find the paths, and each edge on a path takes the logarithm of how many edges wait to be explained. `NoMemory`
+/// comes where a set, a list, a term or a step finds no memory; then table and log are as they were.
 /// Source: Nieuwenhuis and Oliveras, Information and Computation 205, 2007; Alethe specification, rules of equality.
 pub fn explain(
     alloc: Global,

@@ -5,7 +5,7 @@ ghost use Rattle.spec_equality.specs.Reasons.{equal as equal_terms};
 ghost use Rattle.term_core.specs.Tables.{term_at, IsIn};
 ghost use Rattle.congruence_explain.specs.Claims.{IsClaimIn, IsOneEquality, denied_step, all_unequal, no_term_id};
 ghost use Rattle.congruence_explain.specs.Basis.{IsBasis, AreLinkedIn, AreLinkedOr};
-ghost use Rattle.congruence_explain.specs.Steps.{Start, derived, spoken, Explains, setting, notes, marked, edges_on, TellsPair, TellsPairs};
+ghost use Rattle.congruence_explain.specs.Steps.{Start, derived, spoken, Explains, setting, notes, AddsEdges, edges_on, TellsPair, TellsPairs};
 
 use crate::claims::{Claim, SignedClaim, claim_of, equality, unequality};
 use crate::putting::put_alone;
@@ -15,19 +15,18 @@ use explain_forest::{Forest, PathStep};
 use no_memory::NoMemory;
 use proof_log::ProofLog;
 use std::alloc::Global;
+use std::collections::BTreeSet;
 use term_core::{Head, TermId, TermTable};
 
-/// Denies what the edges of a path say, and marks these as needed.
+/// Denies what the edges of a path say, and puts these among the edges that are needed.
 fn deny_path(
     alloc: Global,
     truths: Truths,
     path: &[PathStep],
-    needed: &mut [bool],
+    needed: &mut BTreeSet<u64>,
 ) -> Result<Vec<SignedClaim>, NoMemory>
-    requires there { All (λ s. s.edge < length needed.old) path.now }
-    ensures count { length needed.new ≡ length needed.old }
     ensures clause { IfOk result (λ c. c.items ≡ map (denied_step truths) path.now) }
-    ensures needed { OnOk result (needed.new ≡ marked needed.old (edges_on path.now)) }
+    ensures needed { OnOk result (AddsEdges needed.old.keys (edges_on path.now) needed.new.keys) }
 {
     let mut clause = Vec::new(alloc);
     'path: for s in path {
@@ -35,7 +34,7 @@ fn deny_path(
             claim: claim_of(truths, s.label, s.from, s.to),
             positive: false,
         })?;
-        needed[s.edge as usize] = true;
+        needed.insert(s.edge)?;
     }
     Ok(clause)
 }
@@ -66,7 +65,7 @@ fn is_claimed(table: &TermTable, clause: &[SignedClaim], x: TermId, y: TermId) -
     }
 }
 
-/// Logs that two linked terms are equal, and marks the edges between them as needed.
+/// Logs that two linked terms are equal, and puts the edges between them among those that are needed.
 ///
 /// The step is one by `eq_transitive`, for a term with itself by `eq_reflexive`. There is none where the path is an edge that says so.
 pub(crate) fn tell(
@@ -77,18 +76,16 @@ pub(crate) fn tell(
     truths: Truths,
     x: TermId,
     y: TermId,
-    needed: &mut [bool],
+    needed: &mut BTreeSet<u64>,
 ) -> Result<(), NoMemory>
     ghost start: { Start }
     requires derives { Explains start (derived table.old log.old) }
     requires basis { IsBasis start.table truths forest.now.now start.facts }
     requires linked { AreLinkedIn (spoken start) start.table forest.now.now x y }
-    requires count { length needed.old ≡ length forest.now.now.edges }
     ensures derives { Explains start (derived table.new log.new) }
-    ensures count { length needed.new ≡ length needed.old }
     ensures told { OnOk result (TellsPair (setting start.table truths forest.now.now)
-        (notes start (derived table.old log.old) needed.old [])
-        (notes start (derived table.new log.new) needed.new []) x y) }
+        (notes start (derived table.old log.old) needed.old.keys [])
+        (notes start (derived table.new log.new) needed.new.keys []) x y) }
 {
     forest.paths_lead();
     let path = forest.explain(x, y)?;
@@ -110,20 +107,18 @@ fn tell_pair(
     truths: Truths,
     x: TermId,
     y: TermId,
-    needed: &mut [bool],
+    needed: &mut BTreeSet<u64>,
     clause: &mut Vec<SignedClaim>,
 ) -> Result<(), NoMemory>
     ghost start: { Start }
     requires derives { Explains start (derived table.old log.old) }
     requires basis { IsBasis start.table truths forest.now.now start.facts }
     requires linked { AreLinkedOr (spoken start) start.table forest.now.now x y }
-    requires count { length needed.old ≡ length forest.now.now.edges }
     ensures derives { Explains start (derived table.new log.new) }
-    ensures count { length needed.new ≡ length needed.old }
     ensures clause { OnOk result (clause.new.items ≡ clause.old.items ++ all_unequal (x ∷ []) (y ∷ [])) }
     ensures told { OnOk result (TellsPairs (setting start.table truths forest.now.now)
-        (notes start (derived table.old log.old) needed.old [])
-        (notes start (derived table.new log.new) needed.new []) (x ∷ []) (y ∷ [])) }
+        (notes start (derived table.old log.old) needed.old.keys [])
+        (notes start (derived table.new log.new) needed.new.keys []) (x ∷ []) (y ∷ [])) }
 {
     if x.0 == y.0 {
         return Ok(());
@@ -142,7 +137,7 @@ pub(crate) fn tell_pairs(
     truths: Truths,
     xs: &[TermId],
     ys: &[TermId],
-    needed: &mut [bool],
+    needed: &mut BTreeSet<u64>,
 ) -> Result<Vec<SignedClaim>, NoMemory>
     ghost start: { Start }
     requires derives { Explains start (derived table.old log.old) }
@@ -150,13 +145,11 @@ pub(crate) fn tell_pairs(
     requires lengths { length xs.now ≡ length ys.now }
     requires linked { (i : ℕ) → i < length xs.now → AreLinkedOr (spoken start) start.table forest.now.now
         (get_or xs.now i no_term_id) (get_or ys.now i no_term_id) }
-    requires count { length needed.old ≡ length forest.now.now.edges }
     ensures derives { Explains start (derived table.new log.new) }
-    ensures count { length needed.new ≡ length needed.old }
     ensures clause { IfOk result (λ c. c.items ≡ all_unequal xs.now ys.now) }
     ensures told { OnOk result (TellsPairs (setting start.table truths forest.now.now)
-        (notes start (derived table.old log.old) needed.old [])
-        (notes start (derived table.new log.new) needed.new []) xs.now ys.now) }
+        (notes start (derived table.old log.old) needed.old.keys [])
+        (notes start (derived table.new log.new) needed.new.keys []) xs.now ys.now) }
 {
     let mut clause = Vec::new(alloc);
     'pairs: for i in 0..xs.len() {

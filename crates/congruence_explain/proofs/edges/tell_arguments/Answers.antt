@@ -19,7 +19,7 @@ arguments_of-requires g c =
     let f = g.start.facts in
     let b = c.requires.1.0 in
     let lt = c.requires.1.1.0 in
-    let label = c.requires.1.1.1.0 in
+    let label = c.requires.1.1.1 in
     let a_is = ap (λ e. e.a) c.edge-edge.ensures in
     let b_is = ap (λ e. e.b) c.edge-edge.ensures in
     (ends_in t ts v f b k lt label c.edge-edge.result.a c.edge-edge.result.b a_is b_is c.args.table.now c.requires.0.table).0
@@ -33,7 +33,7 @@ arguments_of-requires-2 g c =
     let f = g.start.facts in
     let b = c.requires.1.0 in
     let lt = c.requires.1.1.0 in
-    let label = c.requires.1.1.1.0 in
+    let label = c.requires.1.1.1 in
     let a_is = ap (λ e. e.a) c.edge-edge.ensures in
     let b_is = ap (λ e. e.b) c.edge-edge.ensures in
     (ends_in t ts v f b k lt label c.edge-edge.result.a c.edge-edge.result.b a_is b_is c.args.table.now c.requires.0.table).1
@@ -47,7 +47,7 @@ tell_pairs-requires g c =
     let f = g.start.facts in
     let b = c.requires.1.0 in
     let lt = c.requires.1.1.0 in
-    let label = c.requires.1.1.1.0 in
+    let label = c.requires.1.1.1 in
     let a_is = ap (λ e. e.a) c.edge-edge.ensures in
     let b_is = ap (λ e. e.b) c.edge-edge.ensures in
     let m = meet_at t ts v f b k lt label in
@@ -57,7 +57,7 @@ tell_pairs-requires g c =
     let more = c.requires.0.table in
     let xs_are = c.deref.ensures.value ∙ arguments_same t ts v f b k lt label u more c.ids_are_unique.ensures m.one m.one_there c.edge-edge.result.a (m.one_is ∙ sym a_is) c.in_ok-xs.xs.items c.in_ok-xs.ensures.there c.in_ok-xs.ensures.means in
     let ys_are = c.deref-2.ensures.value ∙ arguments_same t ts v f b k lt label u more c.ids_are_unique.ensures m.other m.other_there c.edge-edge.result.b (m.other_is ∙ sym b_is) c.in_ok-ys.ys.items c.in_ok-ys.ensures.there c.in_ok-ys.ensures.means in
-    (c.requires.0, (c.requires.1.0, (as_many t ts v f b k lt label xs ys xs_are ys_are, (each_linked t ts v f b k lt label xs ys xs_are ys_are, c.requires.1.1.1.1))))
+    (c.requires.0, (c.requires.1.0, (as_many t ts v f b k lt label xs ys xs_are ys_are, each_linked t ts v f b k lt label xs ys xs_are ys_are)))
 
 pub put_alone-requires : goal.put_alone-requires
 put_alone-requires g c =
@@ -68,7 +68,7 @@ put_alone-requires g c =
     let f = g.start.facts in
     let b = c.requires.1.0 in
     let lt = c.requires.1.1.0 in
-    let label = c.requires.1.1.1.0 in
+    let label = c.requires.1.1.1 in
     let a_is = ap (λ e. e.a) c.edge-edge.ensures in
     let b_is = ap (λ e. e.b) c.edge-edge.ensures in
     let m = meet_at t ts v f b k lt label in
@@ -100,7 +100,7 @@ returns-clause-told g c =
     let f = g.start.facts in
     let b = c.requires.1.0 in
     let lt = c.requires.1.1.0 in
-    let label = c.requires.1.1.1.0 in
+    let label = c.requires.1.1.1 in
     let a_is = ap (λ e. e.a) c.edge-edge.ensures in
     let b_is = ap (λ e. e.b) c.edge-edge.ensures in
     let m = meet_at t ts v f b k lt label in
@@ -117,5 +117,5 @@ returns-clause-told g c =
     let old = steps_since g.start (derived c.args.table.now c.args.log.now) in
     let mid = steps_since g.start (derived c.tell_pairs.new.table c.tell_pairs.new.log) in
     let new = steps_since g.start (derived c.put_alone.new.table c.put_alone.new.log) in
-    arguments_shown t ts v f b k lt label xs ys xs_are ys_are x y a_is b_is c.args.needed.now c.tell_pairs.new.needed old mid new c.in_ok-clause.ensures.told
+    arguments_shown t ts v f b k lt label xs ys xs_are ys_are x y a_is b_is c.args.needed.now.keys c.tell_pairs.new.needed.keys old mid new c.in_ok-clause.ensures.told
     (c.in_ok-put_alone.ensures.put.last ∙ ap (λ ss. mid ++ map (claim_as_literal t) ss ∷ []) whole)

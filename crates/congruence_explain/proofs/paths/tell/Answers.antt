@@ -7,7 +7,7 @@ use Rattle.explain_forest.specs.Forest.{path}
 use Rattle.term_clauses.proofs.Arguments.{Widens-self}
 use Rattle.congruence_explain.specs.declared.claims.SignedClaim.{SignedClaim}
 use Rattle.congruence_explain.specs.Claims.{IsOneEquality, IsClaimIn, IsClaimOf, claim_as_term, claim_as_literal, denied_step}
-use Rattle.congruence_explain.specs.Steps.{derived, spoken, setting, steps_since, marked, edges_on}
+use Rattle.congruence_explain.specs.Steps.{derived, spoken, setting, steps_since, AddsEdges, edges_on}
 use Rattle.congruence_explain.proofs.Terms.{claims_in}
 use Rattle.congruence_explain.proofs.Logging.{start_wide, claims_wide}
 use Rattle.congruence_explain.proofs.Along.{path_clause, steps_in, path_in, path_right, tells_path, one_equality_back, tells_edge_alone}
@@ -27,9 +27,9 @@ put_alone-requires g c =
     let b = c.requires.1.0 in (
       c.requires.0,
       (
-        subst (λ (ss : List SignedClaim). All (λ s. IsClaimOf (spoken g.start) t s.claim) ss) (sym whole) (path_in t ts v f b x y c.requires.1.1.0),
+        subst (λ (ss : List SignedClaim). All (λ s. IsClaimOf (spoken g.start) t s.claim) ss) (sym whole) (path_in t ts v f b x y c.requires.1.1),
         subst (λ (ss : List SignedClaim). IsRight c.rule_of_path.result [] none (map (claim_as_term t) ss)) (sym whole)
-            (subst (λ r. IsRight r [] none (map (claim_as_term t) (path_clause ts (path v.edges x.0 y.0) x y))) (sym c.rule_of_path.ensures) (path_right t ts v f b x y c.requires.1.1.0)),
+            (subst (λ r. IsRight r [] none (map (claim_as_term t) (path_clause ts (path v.edges x.0 y.0) x y))) (sym c.rule_of_path.ensures) (path_right t ts v f b x y c.requires.1.1)),
       ),
     )
 
@@ -45,8 +45,8 @@ returns-clause-told g c =
     c.deref-3.ensures.value ∙ c.in_ok-push.ensures.items ∙ (λ i. (c.in_ok-clause.ensures.clause ∙ ap (map (denied_step ts)) told) i ++ c.equality.ensures i ∷ []) in
     let old = derived c.args.table.now c.args.log.now in
     let new = derived c.put_alone.new.table c.put_alone.new.log in
-    tells_path (setting t ts v) c.args.needed.now c.deny_path.new.needed (steps_since g.start old) (steps_since g.start new) x y c.requires.1.1.1
-    (c.in_ok-clause.ensures.needed ∙ ap (λ ss. marked c.args.needed.now (edges_on ss)) told)
+    tells_path (setting t ts v) c.args.needed.now.keys c.deny_path.new.needed.keys (steps_since g.start old) (steps_since g.start new) x y
+    (subst (λ ss. AddsEdges c.args.needed.now.keys (edges_on ss) c.deny_path.new.needed.keys) told c.in_ok-clause.ensures.needed)
     (c.in_ok-put_alone.ensures.put.last ∙ ap (λ ss. steps_since g.start old ++ map (claim_as_literal t) ss ∷ []) whole)
 
 pub is_claimed-requires : goal.is_claimed-requires
@@ -72,7 +72,7 @@ returns-then-is_claimed-clause-told g c =
     let told = c.deref.ensures.value ∙ c.in_ok-path.ensures in
     let whole : c.deref-2.result.now ≡ steps = c.deref-2.ensures.value ∙ c.in_ok-clause.ensures.clause ∙ ap (map (denied_step ts)) told in
     let q = subst (λ (ss : List SignedClaim). IsOneEquality u ss x y) whole (c.is_claimed.ensures c.if-is_claimed.true) in
-    let says_so = one_equality_back t u (start_wide g.start u c.args.log.now c.requires.0) steps (claims_in (spoken g.start) t steps (steps_in t ts v g.start.facts c.requires.1.0 x y)) x y c.requires.1.1.0.one.0 c.requires.1.1.0.other.0 q in
+    let says_so = one_equality_back t u (start_wide g.start u c.args.log.now c.requires.0) steps (claims_in (spoken g.start) t steps (steps_in t ts v g.start.facts c.requires.1.0 x y)) x y c.requires.1.1.one.0 c.requires.1.1.other.0 q in
     let here = steps_since g.start (derived u c.args.log.now) in
-    tells_edge_alone (setting t ts v) c.args.needed.now c.deny_path.new.needed here here x y c.requires.1.1.1
-    (c.in_ok-clause.ensures.needed ∙ ap (λ ss. marked c.args.needed.now (edges_on ss)) told) refl q.one q.clause_is says_so
+    tells_edge_alone (setting t ts v) c.args.needed.now.keys c.deny_path.new.needed.keys here here x y
+    (subst (λ ss. AddsEdges c.args.needed.now.keys (edges_on ss) c.deny_path.new.needed.keys) told c.in_ok-clause.ensures.needed) refl q.one q.clause_is says_so
