@@ -3,10 +3,10 @@
 The repository whose crates are compared is that of --top, this one where none is given.
 
 --scripts N   `bench/compare/commands.py` foretells the first fault of each command of N scripts, with line and column,
-              under a limit on terms and names, and the term that each assertion is read as. `bench/compare/values.py`
-              foretells the values of these terms under tables by chance, or the first operation that leaves 128 bits.
-              The definitions are `faults_after` and `stack_after` of `spec_commands`, and `bounded_value` of
-              `spec_sorts`.
+              under a limit on terms and names, the term that each assertion is read as, and the terms that each check
+              asks about, what it assumes among them. `bench/compare/values.py` foretells the values of the assertions'
+              terms under tables by chance, or the first operation that leaves 128 bits. The definitions are
+              `faults_after`, `stack_after` and `asked_at` of `spec_commands`, and `bounded_value` of `spec_sorts`.
 --proofs N    `bench/compare/judging.py` foretells what the commands of N proofs are read as, and the verdict on
               each. The definitions are `command_of` and `IsVerdict` of `spec_checking`.
 --models N    `bench/compare/model_rows.py` foretells the texts of N models by their tables, and values of the bodies.

@@ -25,6 +25,9 @@ mixed                  the same of scripts in which functions take and give numb
                        are changed, too
 levels                 scripts with `push`, `pop`, `reset-assertions` and `reset`, by `certify`, each proof given back to
                        `check`; each check is also asked alone, as a script of its own, and has to have the same answer
+assuming               the same of scripts whose checks assume literals, most of them with levels; what a check assumes
+                       is asserted where it is asked alone, and proofs are also given to other checks; more of the
+                       scripts are put to z3 and cvc5
 resets                 scripts in one text with `reset` between them, which have to be answered as each is alone
 
 With --only these kinds alone are run. Whether there is a model is known from truth tables, or else by trying values up
@@ -53,10 +56,10 @@ from forms import SCRIPTS, a_form
 from function_scripts import a_function_script
 from judging import predict_check
 from layout import damaged, laid_out, tree_of_item
-from level_scripts import MAKERS, a_level_script, several_scripts, single_checks
+from level_runs import assuming, levels, resets
 from mixed_scripts import a_mixed_script
 from number_scripts import a_number_script
-from others import answers_in, answers_of, are_at_odds, solvers
+from others import answers_in, answers_of, are_at_odds, may_be_asked, solvers
 from proofs import proof_of_single_steps, some_trees
 from reading import read_one
 from reasons import NONE, Limits
@@ -159,7 +162,7 @@ class Comparison:
         """Compares the answers with those of the other solvers that are on the path."""
         own = answers_in(self.run(["solve"], script)[0])
         for name, words in OTHERS.items():
-            answers = answers_of(words, script)
+            answers = answers_of(words, script) if may_be_asked(name, script) else None
             self.asked[name] += answers is not None
             if answers is not None and are_at_odds(own, answers):
                 self.tell(f"{name} answers {answers!r}, and the program {own!r}", script)
@@ -316,33 +319,6 @@ def mixed(comparison):
         comparison.solve(damaged(laid_out(script, NAMES)))
 
 
-def levels(comparison):
-    script = a_level_script()
-    comparison.count(script)
-    for number, proof in comparison.certify(script):
-        comparison.accept(script, number, proof)
-    output = comparison.run(["solve"], script)[0]
-    own = answers_in(output)
-    alone = [answer for single in single_checks(script) for answer in answers_in(comparison.run(["solve"], single)[0])]
-    if are_at_odds(own, alone):
-        comparison.tell(f"in levels {own!r}, and alone {alone!r}", script)
-    if b"(error " not in output and random.random() < SOLVED_SHARE:
-        comparison.ask_others(script)
-
-
-def resets(comparison):
-    texts = several_scripts(MAKERS)
-    joined = b"(reset)\n".join(texts)
-    word = random.choice(["solve", "certify"])
-    outputs, line = [], 0
-    for text in texts:
-        outputs.append(comparison.run([word], b"\n" * line + text)[0])
-        line += text.count(b"\n") + 1
-    output, _, errors = comparison.run([word], joined)
-    if output != b"success\n".join(outputs) or errors:
-        comparison.tell(f"{word} of all answers {output!r}, and of each {outputs!r}", joined)
-
-
 KINDS = {
     "solve well-formed": solve_well_formed,
     "solve ill-formed": solve_ill_formed,
@@ -357,6 +333,7 @@ KINDS = {
     "numbers": numbers,
     "mixed": mixed,
     "levels": levels,
+    "assuming": assuming,
     "resets": resets,
 }
 

@@ -188,6 +188,15 @@ def print_success(words):
     return row(raw(b"set-option"), raw(b":print-success"), symbol(random.choice(words)))
 
 
+def a_check(names):
+    """Makes a check, which assumes literals in some cases."""
+    if random.random() < 0.7:
+        return row(raw(b"check-sat"))
+    literals = [symbol(random.choice(names)) for _ in range(random.randint(0, 3) if names else 0)]
+    literals = [random.choice([literal, row(symbol(b"not"), literal)]) for literal in literals]
+    return row(raw(b"check-sat-assuming"), row(*literals))
+
+
 def an_assertion(names, mode, pool):
     """Makes an assertion: of a clause, of a deep term, or of any term."""
     if mode < 0.3 and names:
@@ -223,7 +232,7 @@ def a_script(bad_share):
         elif choice < 0.78:
             commands.append(an_assertion(names, mode, pool))
         elif choice < 0.95:
-            commands.append(row(raw(b"check-sat")))
+            commands.append(a_check(names))
         elif choice < 0.97:
             commands.append(print_success([b"true", b"false"]))
         else:

@@ -1,7 +1,7 @@
 """Reads scripts, command by command, as SMT-LIB 2.6 has them; terms are read by language.py."""
 
 from language import Check, Definition, Reader, State, is_name
-from reading import Fault, error_line, read_one
+from reading import THEORY, Fault, error_line, read_one
 from terms import BOOL
 
 LOGICS = (b"QF_UFLRA", b"QF_UF", b"QF_LRA", b"QF_RDL", b"ALL")
@@ -156,10 +156,33 @@ def reset(state, parts, start):
 
 
 def check_sat(_state, parts, start):
-    """Performs `check-sat`."""
+    """Performs `check-sat`, which assumes nothing."""
     if len(parts) != 1:
         raise Fault(start, b"BadShape")
-    return "check"
+    return []
+
+
+def literal(state, item):
+    """Returns the term of a literal that a check assumes: a name of sort Bool without parameters, or its negation."""
+    kind, value, start = item
+    is_negated = kind == "list" and len(value) == 2 and value[0][:2] == ("sym", b"not")
+    name_kind, name, place = value[1] if is_negated else item
+    if name_kind != "sym" or name in THEORY:
+        raise Fault(start, b"NotLiteral")
+    if name not in state.functions:
+        raise Fault(place, b"UnknownSymbol")
+    if name not in state.propositions():
+        raise Fault(start, b"NotLiteral")
+    return state.reader().term({}, item)
+
+
+def check_sat_assuming(state, parts, start):
+    """Performs `check-sat-assuming`; returns the terms of its literals."""
+    if len(parts) != 2 or parts[1][0] != "list":
+        raise Fault(start, b"BadShape")
+    assumed = [literal(state, item) for item in parts[1][1]]
+    state.require_room(start, 0, assumed)
+    return assumed
 
 
 def echo(_state, parts, start):
@@ -196,11 +219,15 @@ STATEMENTS = {
     b"push": push,
     b"pop": pop,
     b"check-sat": check_sat,
+    b"check-sat-assuming": check_sat_assuming,
 }
 
 
 def perform(state, item):
-    """Performs a command; returns `success`, `unsupported`, `check`, `exit` or a line, or raises its first fault."""
+    """Performs a command, or raises its first fault.
+
+    It returns `success`, `unsupported`, `exit` or a line, and of a check the terms that it assumes.
+    """
     kind, parts, start = item
     if kind != "list" or not parts:
         raise Fault(start, b"BadShape")
@@ -235,8 +262,8 @@ def read_script(text, limit=2**24):
             continue
         if answer == "unsupported":
             answers.append(b"unsupported\n")
-        elif answer == "check":
-            answers.append(state.at_check())
+        elif isinstance(answer, list):
+            answers.append(state.at_check(answer))
         elif isinstance(answer, bytes):
             answers.append(answer)
         elif state.options[b":print-success"]:

@@ -309,9 +309,19 @@ class State:
         """Returns a reader of terms for one command, which may define a name of its own."""
         return Reader(self, own)
 
-    def at_check(self):
-        """Returns what is current now, at a check, apart from what later commands state."""
-        return Check(self)
+    def at_check(self, assumed):
+        """Returns what is current now, at a check that assumes terms, apart from what later commands state."""
+        return Check(self, assumed)
+
+    def propositions(self):
+        """Returns the names of sort Bool without parameters, declared and defined."""
+        return [name for name, known in self.functions.items() if self.is_proposition(known)]
+
+    def is_proposition(self, known):
+        """Tells whether what a name is has no parameters, and the sort Bool."""
+        if isinstance(known, Definition):
+            return not known.parameters and self.terms.sorts[known.term] == BOOL
+        return known == ([], BOOL)
 
     def new_function(self, item):
         """Returns a name that no function and no theory has."""
@@ -334,13 +344,16 @@ class State:
 
 
 class Check(State):
-    """What is current at a check: its assertions, its declared symbols in their order, and its answer."""
+    """What is current at a check: what it asks about, its declared symbols in their order, and its answer.
 
-    def __init__(self, state):
+    Its assertions are those of all levels, and after them what the check assumes.
+    """
+
+    def __init__(self, state, assumed):
         super().__init__(state.limit)
         self.terms = state.terms
         self.sorts, self.functions = dict(state.sorts), dict(state.functions)
-        self.assertions = list(state.assertions)
+        self.assertions = [*state.assertions, *assumed]
         self.order = [name for name, known in self.functions.items() if not isinstance(known, Definition)]
 
     @cached_property

@@ -11,6 +11,7 @@ from function_scripts import a_function_script
 from language import State
 from mixed_scripts import a_mixed_script
 from number_scripts import a_number_script
+from printed_proofs import printed
 from reading import Fault, read_one
 from scripts import a_session
 
@@ -94,13 +95,24 @@ def a_level_script():
     return b"\n".join(texts) + b"\n"
 
 
+def assumed_by(word, text):
+    """Returns assertions of the literals that a check assumes."""
+    if word != b"check-sat-assuming":
+        return []
+    _, parts, _ = read_one(text, 0)[0]
+    return [b"(assert " + printed(literal) + b")" for literal in parts[1][1]]
+
+
 def single_checks(script, limit=2**24):
-    """Returns for each check of a script a script of its own: the commands that count there, and the check."""
+    """Returns for each check of a script a script of its own: the commands that count there, and the check.
+
+    What a check assumes is asserted there.
+    """
     state, open_levels, singles = State(limit), [[]], []
     for word, text in commands_of(script):
         before = len(state.levels)
         try:
-            perform(state, read_one(text, 0)[0])
+            answer = perform(state, read_one(text, 0)[0])
         except Fault:
             continue
         if word in (b"reset", b"reset-assertions"):
@@ -110,8 +122,8 @@ def single_checks(script, limit=2**24):
         open_levels += [[] for _ in range(len(state.levels) - before)]
         if word in DECLARING or word == b"assert":
             open_levels[-1].append(text)
-        if word == b"check-sat":
-            live = [text for level in open_levels for text in level]
+        if isinstance(answer, list):
+            live = [text for level in open_levels for text in level] + assumed_by(word, text)
             singles.append(b"\n".join([b"(set-option :print-success false)", *live, b"(check-sat)\n"]))
     return singles
 

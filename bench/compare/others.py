@@ -14,6 +14,11 @@ def solvers():
     return {name: [path, *COMMANDS[name]] for name, path in found.items() if path}
 
 
+def may_be_asked(name, script):
+    """Tells whether a script means to a solver what it means here: z3 keeps declarations after `reset-assertions`."""
+    return name != "z3" or b"reset-assertions" not in script
+
+
 def answers_in(output):
     """Returns the lines of an output that answer checks."""
     return [line for line in output.split(b"\n") if line in ANSWERS]

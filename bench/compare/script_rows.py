@@ -4,8 +4,8 @@ import random
 import re
 
 import faulty
-from antt import declared, lines_written, listed, outcome_written, read, term_written, world_written, written
-from commands import read_script
+from antt import declared, lines_written, listed, outcome_written, read, term_written, world_written
+from commands import checks_of, read_script
 from scripts import a_script, an_arithmetic_script
 from values import Values, some_tables
 
@@ -36,6 +36,18 @@ v{seed} = refl
 """
 
 
+def asked_row(seed, number, check, lines):
+    """Returns the statement of the terms that a check asks about, those that it assumes after the others."""
+    functions = declared(check.functions)
+    terms = listed(term_written(check.terms, t, functions) for t in check.assertions)
+    return f"""
+-- what check {number} of the script of seed {seed} asks about
+pub c{seed}_{number} : asked_at {number} ({lines}) ≡ Some {terms}
+unfolding commands_on_literals
+c{seed}_{number} = refl
+"""
+
+
 def faults_in(answers):
     """Returns the line, the column and the name of each fault of a command; a check has none."""
     return FAULT.findall(b"".join(answer for answer in answers if isinstance(answer, bytes)))
@@ -61,6 +73,10 @@ pub s{seed} : faults_of {limit} ({lines}) ≡ {wanted}[]
 unfolding commands_on_literals faults_after
 s{seed} = refl
 """
-    if state.assertions and limit == 100:
-        text += terms_row(seed, state, lines)
-    return text, {"scripts": 1, "faults": len(faults), "terms": len(state.assertions) if limit == 100 else 0}
+    counts = {"scripts": 1, "faults": len(faults)}
+    if limit == 100:
+        checks = checks_of(answers)
+        text += terms_row(seed, state, lines) if state.assertions else ""
+        text += "".join(asked_row(seed, number, check, lines) for number, check in enumerate(checks, 1))
+        counts |= {"terms": len(state.assertions), "checks": len(checks)}
+    return text, counts

@@ -2,6 +2,7 @@
 
 import random
 
+from assumed import a_check
 from faulty import NUMERALS, ODD_TERMS, command_of_a_script
 
 NAMES = [b"p", b"q", b"x", b"y", b"a", b"b", b"f", b"g", b"h", b"|a b|", b"n"]
@@ -155,6 +156,13 @@ class Maker:
         self.functions.setdefault(name, (list(bound.values()), result))
         return b"(define-fun " + name + b" (" + parameters + b") " + result + b" " + body + b")"
 
+    def check(self):
+        """Makes a check, which assumes literals in some cases."""
+        if random.random() < 0.7:
+            return b"(check-sat)"
+        names = [name for name, known in self.functions.items() if known == ([], b"Bool")]
+        return a_check(names, self.share)
+
     def command(self):
         """Makes a command."""
         choice = random.random()
@@ -165,7 +173,7 @@ class Maker:
         if choice < 0.85:
             return b"(assert " + self.of_sort(b"Bool", random.choice([1, 3, 6, 10]), {}) + b")"
         if choice < 0.93:
-            return b"(check-sat)"
+            return self.check()
         return random.choice(
             [
                 b"(set-logic QF_UF)",
@@ -226,7 +234,7 @@ def a_session(share):
         if choice < 0.5:
             lines.append(an_assertion(maker))
         else:
-            lines.append(b"(check-sat)" if choice < 0.8 else random.choice(OTHERS))
+            lines.append(maker.check() if choice < 0.8 else random.choice(OTHERS))
     if random.random() < share:
         lines.insert(random.randint(0, len(lines)), a_script(share).split(b"\n")[-2])
     return b"\n".join([*lines, b"(check-sat)"]) + b"\n"
