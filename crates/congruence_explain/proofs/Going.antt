@@ -65,7 +65,7 @@ edge_with s k needed after steps steps_after stated h = (
   shows_stated s after steps_after stated (edge_literal s k) h.1,
 )
 
--- an edge is told, and the last clause denies more
+-- an edge is explained, and the last clause denies more
 pub goes_on : (s : ExplanationSetting) (k : ℕ) (old new : Notes) (more : List SignedClaim) → new.stated ≡ old.stated ++ more → All (IsDenial s) more → TellsEdge s k old new → GoesOn s k old new
 goes_on s k old new more is denials told = record { told = told; held = λ h. subst (All (IsDenial s)) (sym is) (All-append (IsDenial s) old.stated more h denials) }
 

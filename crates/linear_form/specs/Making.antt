@@ -42,12 +42,12 @@ abbrev pub FailsBy : {A : Type 0} → Answer A → FormStop → Type 0
 FailsBy a (stops.Wide w) = a ≡ Err (overflow w)
 FailsBy a stops.Memory = Unit {0}
 
--- what was to be made was made, or why it was not is told
+-- what was to be made was made, or the error says why it was not
 abbrev pub Comes : {A : Type 0} → Answer A → Result (Unit {0}) FormStop → A → Type 0
 Comes a (Ok u) new = a ≡ Ok new
 Comes a (Err s) new = FailsBy a s
 
--- what was to be made is returned, or why it was not is told
+-- what was to be made is returned, or the error says why it was not
 abbrev pub ReturnsMade : {A B : Type 0} → Answer A → Result B FormStop → (B → A) → Type 0
 ReturnsMade a (Ok b) meant = a ≡ Ok (meant b)
 ReturnsMade a (Err s) meant = FailsBy a s

@@ -38,7 +38,7 @@ third = record {
       else always (truth false);
 }
 
--- answers that are told apart
+-- answers that differ
 abbrev pub sat : Found
 sat = model third
 
@@ -206,7 +206,7 @@ unfolding commands_on_literals answers_of value_question valued bounded_value fo
     times gcd numeral compare
 values_told = refl
 
--- the first term is told of which an operation leaves the bound
+-- the first term is given of which an operation leaves the bound
 pub values_too_wide : replies x_declared (sat ∷ [])
     (codes "(get-value (x (* 100000000000000000000 (* 100000000000000000000 x))))")
     ≡ Some (Err (record { offset = 14; fault = ValueWide })) ∷ []
