@@ -15,5 +15,5 @@ mod sorted;
 mod splitting;
 mod walk;
 
-pub use reads::{FunctionParts, Room, define, term, terms};
+pub use reads::{FunctionParts, Room, define, term, terms, terms_of_any_sort};
 pub use sorted::find_room;

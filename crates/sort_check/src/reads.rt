@@ -1,15 +1,18 @@
 //! Reads terms and definitions under a scope.
 
-ghost use Rattle.std.specs.Prelude.{OnErr};
+ghost use Rattle.std.specs.Prelude.{[], OnErr};
 ghost use Rattle.spec_sorts.specs.Signatures.{Signature};
+ghost use Rattle.spec_reading.specs.Reading.{readings};
 ghost use Rattle.smt_sexpr.specs.Items.{trees_meant, tree_meant};
 ghost use Rattle.term_core.specs.Symbols.{HasSortIn, sort_meant};
 ghost use Rattle.term_reader.specs.Names.{setting_meant};
 ghost use Rattle.term_reader.specs.Scopes.{HasSignature, ScopeMeans};
 ghost use Rattle.sort_check.specs.Reads.{room_meant, parts_meant, roomy_reading, roomy_readings, roomy_definitions, store, StoreGrows, IsSame, EndsTerm, EndsTerms, EndsDefinition};
 
+use crate::bindings::Bindings;
 use crate::defining::read_definition;
 use crate::sorted::{read_term, read_terms};
+use crate::walk::read;
 use smt_sexpr::{Trees, Word};
 use std::alloc::Global;
 use term_core::{Sort, TermId, TermTable};
@@ -115,6 +118,41 @@ pub fn terms(
     let names = scope.len();
     match read_terms(alloc, table, scope, setting, sort, trees, room) {
         Ok(ids) => Ok(ids),
+        Err(stop) => {
+            table.cut(count);
+            scope.back(sorts, names);
+            Err(stop)
+        }
+    }
+}
+
+/// Reads trees as terms, each of any sort, one after the other, as `term` does: what one defines is known in those after
+/// it. There is no limit on names and terms.
+///
+/// - `Fault` is the first fault, with its offset, as there; `WrongSort` comes in a term alone, and `Full` never.
+/// - `Memory` may come at any allocation, and says nothing of the text.
+///
+/// After each of these table and scope are as they were. Time goes with the text and the terms that it is read as, and
+/// nothing recurses. Source: SMT-LIB 2.6, sections 3.6 and 4.2.6.
+pub fn terms_of_any_sort(
+    alloc: Global,
+    table: &mut TermTable,
+    scope: &mut Scope,
+    setting: Setting<'_>,
+    trees: Trees<'_>,
+) -> Result<Vec<TermId>, ReadError>
+    requires { HasSignature table.old scope.old }
+    ensures ends { (s : Signature) → ScopeMeans table.old scope.old s → EndsTerms s (store table.new scope.new)
+        (readings (setting_meant setting.entry) s [] (trees_meant trees.entry)) result }
+    ensures grows { StoreGrows (store table.old scope.old) (store table.new scope.new) }
+    ensures same { OnErr result (IsSame (store table.old scope.old) (store table.new scope.new)) }
+{
+    scope.each_name_means_something();
+    let count = table.len();
+    let sorts = scope.sorts_len();
+    let names = scope.len();
+    match read(alloc, table, scope, setting, Bindings::new(alloc), trees) {
+        Ok((ids, _)) => Ok(ids),
         Err(stop) => {
             table.cut(count);
             scope.back(sorts, names);
