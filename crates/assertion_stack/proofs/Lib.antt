@@ -4,6 +4,8 @@ pub mod SortLists
 pub mod Lasts
 pub mod Labelled
 pub mod PrintedTrees
+pub mod RowEnds
+pub mod WrittenColumns
 pub mod Growing
 pub mod Naming
 pub mod Cuts

@@ -29,6 +29,10 @@ open_left_push (d ∷ cs) c = omega (arith, open_left_push cs c)
 abbrev pub Left : (all out : List ℕ) → Trees → List Cursor → Type 0
 Left all out ts cs = all ≡ out ++ (printed_all ts ++ printed_open cs)
 
+-- nothing is printed yet
+pub left_begins : (out : List ℕ) (ts : Trees) (cs : List Cursor) → cs ≡ [] → Left (out ++ printed_all ts) out ts cs
+left_begins out ts cs e = ap (λ x. out ++ x) (sym (append-nil (printed_all ts)) ∙ ap (λ ds. printed_all ts ++ printed_open ds) (sym e))
+
 module _ (all out : List ℕ) (ts : Trees) (cs : List Cursor) (h : Left all out ts cs) where
   -- no list is open
   pub left_ends : None ≡ split_first ts → length cs ≡ 0 → all ≡ out

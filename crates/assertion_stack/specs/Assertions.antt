@@ -1,11 +1,54 @@
 -- What the list of assertions holds, and how they are written.
-use Rattle.std.specs.Prelude.{ℕ, List, [], ◌∷◌, map}
+use Rattle.std.specs.Prelude.{◌≡◌, ℕ, List, [], ◌∷◌, length, map, Option, Some, None, option_map}
 use Rattle.spec_text.specs.Trees.{Tree, Trees, none, more, offset_of}
 use Rattle.spec_text.specs.Printed.{printed}
 use Rattle.spec_commands.specs.Labels.{label_of}
 use Rattle.spec_commands.specs.Stack.{Assertion}
 use Rattle.term_core.specs.declared.ids.TermId.{TermId}
-use Rattle.assertion_stack.specs.declared.assertions.Written.{Written}
+use Rattle.assertion_stack.specs.declared.assertions.Written as code_written
+
+-- How an assertion is written.
+pub record Written : Type 0 where
+  -- its text, as it is printed
+  pub text : List ℕ
+  -- the offset of its first byte
+  pub at : ℕ
+  -- the first name that it gives to the whole term
+  pub label : Option (List ℕ)
+
+-- what the code lends of an assertion
+abbrev pub written_meant : code_written.Written → Written
+written_meant w = record { text = w.text.now; at = w.at; label = option_map (λ b. b.now) w.label }
+
+-- what no assertion's place means
+abbrev pub no_written : Written
+no_written = record { text = []; at = 0; label = None }
+
+-- how a label is held: nothing where there is none, else a byte before it
+abbrev pub label_row : Option (List ℕ) → List ℕ
+label_row None = []
+label_row (Some name) = 58 ∷ name
+
+-- the label that is held so
+abbrev pub row_label : List ℕ → Option (List ℕ)
+row_label [] = None
+row_label (mark ∷ name) = Some name
+
+-- how assertions are written that are held in such columns
+abbrev pub written_in : List (List ℕ) → List ℕ → List (List ℕ) → List Written
+written_in [] ps ls = []
+written_in (t ∷ ts) [] ls = []
+written_in (t ∷ ts) (p ∷ ps) [] = []
+written_in (t ∷ ts) (p ∷ ps) (l ∷ ls) = record { text = t; at = p; label = row_label l } ∷ written_in ts ps ls
+
+-- Each of the columns has as many as there are assertions.
+pub record AreColumns (n : ℕ) (texts : List (List ℕ)) (places : List ℕ) (labels : List (List ℕ)) : Type 0 where
+  -- texts
+  pub texts_long : length texts ≡ n
+  -- offsets
+  pub places_long : length places ≡ n
+  -- labels
+  pub labels_long : length labels ≡ n
 
 -- Asserted terms, with what is written for them.
 pub record AssertionsView : Type 0 where

@@ -3,6 +3,7 @@
 pub mod Views
 pub mod Assertions
 pub mod Printing
+pub mod Rows
 pub mod Levels
 pub mod Stacks
 pub mod LiteralSymbols

@@ -1,5 +1,5 @@
--- What is left to print of a tree, where lists of it are open.
-use Rattle.std.specs.Prelude.{ℕ, ◌+◌, List, [], ◌∷◌, ◌++◌}
+-- What is left to print of a tree, where lists of it are open, and what stays of what was printed before.
+use Rattle.std.specs.Prelude.{◌≡◌, ℕ, ◌+◌, List, [], ◌∷◌, ◌++◌, length, take}
 use Rattle.spec_text.specs.Trees.{Trees, none, more}
 use Rattle.spec_text.specs.Printed.{printed_all}
 use Rattle.smt_sexpr.specs.declared.items.Trees.{Trees as Cursor}
@@ -20,3 +20,7 @@ printed_open (c ∷ cs) = printed_open cs ++ (41 ∷ printed_after (trees_meant 
 abbrev pub open_left : List Cursor → ℕ
 open_left [] = 0
 open_left (c ∷ cs) = 1 + sizes (trees_meant c) + open_left cs
+
+-- what was there is still there, before what comes after it
+abbrev pub KeepsFront : List ℕ → List ℕ → Type 0
+KeepsFront old new = take (length old) new ≡ old

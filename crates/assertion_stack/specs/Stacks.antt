@@ -3,6 +3,7 @@ use Rattle.std.specs.Prelude.{◌≡◌, ℕ, true, List, [], ◌∷◌, ◌++�
 use Rattle.spec_text.specs.Places.{IsPlaceOf}
 use Rattle.spec_text.specs.Answers.{Answer}
 use Rattle.spec_text.specs.Bytes.{Name}
+use Rattle.spec_commands.specs.Commands.{Command, SetOption, SetInfo, Echo, Exit}
 use Rattle.spec_commands.specs.Stack.{Options, Assertion, Stack, Effect, done, unsupported, check, say, leave, Taken}
 use Rattle.spec_commands.specs.Stack.{signature_of, assertions_of, terms_asserted}
 use Rattle.smt_lexer.specs.declared.Refused.{Refused}
@@ -15,12 +16,11 @@ use Rattle.term_core.specs.Tables.{TableView, AreIn, clause_at}
 use Rattle.term_reader.specs.Building.{KeepsTable}
 use Rattle.term_reader.specs.declared.scope.Function.{Function}
 use Rattle.term_reader.specs.declared.faults.ReadError.{ReadError}
-use Rattle.assertion_stack.specs.declared.assertions.Written.{Written}
 use Rattle.assertion_stack.specs.declared.options.Options.{Options as CodeOptions}
 use Rattle.assertion_stack.specs.declared.stack.Stack.{Stack as CodeStack}
 use Rattle.assertion_stack.specs.declared.stack.Effect.{Effect as CodeEffect}
 use Rattle.assertion_stack.specs.declared.stack.Effect.TheVariants as effects
-use Rattle.assertion_stack.specs.Assertions.{offsets_of}
+use Rattle.assertion_stack.specs.Assertions.{Written, offsets_of}
 use Rattle.assertion_stack.specs.Views.{Fails}
 use Rattle.assertion_stack.specs.Levels.{Contents, States, mark_at, cut_to, AreMarked}
 
@@ -131,3 +131,11 @@ abbrev pub KeepsAtCheck : {E : Type 0} → Result CodeEffect E → OverTable →
 KeepsAtCheck (Ok (effects.Check at a)) old new =
     KeepsTable old.table new.table × (new.stack ≡ record old.stack { started = true })
 KeepsAtCheck _ old new = Unit {0}
+
+-- a command that states nothing leaves the table
+abbrev pub KeepsTableAt : Answer Command → TableView → TableView → Type 0
+KeepsTableAt (Ok (SetOption k v)) old new = new ≡ old
+KeepsTableAt (Ok SetInfo) old new = new ≡ old
+KeepsTableAt (Ok (Echo text)) old new = new ≡ old
+KeepsTableAt (Ok Exit) old new = new ≡ old
+KeepsTableAt _ old new = Unit {0}

@@ -1,6 +1,6 @@
 //! Assertions and definitions of functions: the commands that read terms.
 
-ghost use Rattle.std.specs.Prelude.{◌≡◌, ℕ, true, Some, IfOk, OnErr, OnOk};
+ghost use Rattle.std.specs.Prelude.{◌≡◌, ℕ, true, Some, OnErr, OnOk};
 ghost use Rattle.spec_commands.specs.Commands.{Assert, DefineFun};
 ghost use Rattle.spec_commands.specs.Stack.{Stack as ScriptStack, performed};
 ghost use Rattle.smt_sexpr.specs.Items.{tree_meant};
@@ -9,14 +9,11 @@ ghost use Rattle.smt_command.specs.Commands.{parts_view};
 ghost use Rattle.assertion_stack.specs.Assertions.{as_written};
 ghost use Rattle.assertion_stack.specs.Stacks.{over_table, HasStack, IsStack, Performs, with_asserted};
 
-use crate::assertions::Written;
-use crate::labels::label;
 use crate::names::in_script;
-use crate::printing::print;
 use crate::stack::{Effect, Stack};
 use no_memory::NoMemory;
 use smt_command::FunctionText;
-use smt_sexpr::{Trees, offset};
+use smt_sexpr::Trees;
 use sort_check::{Room, define, term};
 use std::alloc::Global;
 use term_core::{Sort, TermId, TermTable};
@@ -32,19 +29,6 @@ pub(crate) fn room(stack: &Stack, at: u64) -> Room
     }
 }
 
-/// Notes how the first tree is written: as it is printed, from where, and under which label.
-fn written(alloc: Global, tree: Trees<'_>) -> Result<Written, NoMemory>
-    ensures { IfOk result (λ w. w ≡ as_written (tree_meant tree.entry)) }
-{
-    let text = print(alloc, tree)?;
-    let label = label(alloc, tree)?;
-    Ok(Written {
-        text,
-        at: offset(tree),
-        label,
-    })
-}
-
 /// Puts the term of a number among the assertions, as the first tree is written.
 fn add_written(
     stack: &mut Stack,
@@ -55,8 +39,7 @@ fn add_written(
     ensures added { OnOk result (stack.new ≡ with_asserted stack.old id (as_written (tree_meant tree.entry))) }
     ensures same { OnErr result (stack.new ≡ stack.old) }
 {
-    let written = written(alloc, tree)?;
-    stack.assertions.add(id, written)?;
+    stack.assertions.add(alloc, id, tree)?;
     stack.started = true;
     Ok(())
 }

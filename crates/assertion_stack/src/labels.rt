@@ -1,17 +1,14 @@
 //! The labels of assertions.
 
-ghost use Rattle.std.specs.Prelude.{◌≡◌, option_map, IfOk};
+ghost use Rattle.std.specs.Prelude.{◌≡◌, option_map};
 ghost use Rattle.spec_sorts.specs.Forms.{a_keyword, named_words};
 ghost use Rattle.spec_commands.specs.Labels.{names_given, first_name_of, label_of};
 ghost use Rattle.smt_sexpr.specs.Items.{trees_meant, tree_meant};
 ghost use Rattle.term_reader.specs.Forms.{next_meant};
 ghost use Rattle.sort_check.specs.Naming.{wanted_word, next_word, listed_word};
 
-use no_memory::NoMemory;
 use smt_sexpr::{Trees, View, look, split};
-use std::alloc::Global;
 use term_reader::{ListForm, NextAttribute, list_form, next_after};
-use world_io::Bytes;
 
 /// Finds the name that the first tree is, where one is wanted there.
 fn name_wanted<'a>(next: NextAttribute, item: Trees<'a>) -> Option<&'a [u8]>
@@ -63,25 +60,11 @@ fn list_label<'a>(inside: Trees<'a>) -> Option<&'a [u8]>
 }
 
 /// Finds the label of the first tree.
-fn label_in<'a>(tree: Trees<'a>) -> Option<&'a [u8]>
+pub(crate) fn label_in<'a>(tree: Trees<'a>) -> Option<&'a [u8]>
     ensures { option_map (λ b. b.now) result ≡ label_of (tree_meant tree.entry) }
 {
     match look(tree) {
         View::Atom(_, _, _) => None,
         View::List(_, inside, _) => list_label(inside),
-    }
-}
-
-/// Copies the label of the first tree, where it has one.
-pub(crate) fn label(alloc: Global, tree: Trees<'_>) -> Result<Option<Bytes>, NoMemory>
-    ensures { IfOk result (λ l. l ≡ label_of (tree_meant tree.entry)) }
-{
-    match label_in(tree) {
-        None => Ok(None),
-        Some(name) => {
-            let mut copy = Vec::new(alloc);
-            copy.extend_from_slice(name)?;
-            Ok(Some(Bytes::from(copy)))
-        }
     }
 }

@@ -17,6 +17,7 @@ mod marks;
 mod names;
 mod options;
 mod printing;
+mod rows;
 mod settings;
 mod stack;
 
@@ -25,4 +26,5 @@ pub use assuming::Assumed;
 pub use leveling::LEVEL_LIMIT;
 pub use marks::{Mark, Marks};
 pub use options::Options;
+pub use printing::print;
 pub use stack::{Effect, Stack, TERM_LIMIT};

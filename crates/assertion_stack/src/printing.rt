@@ -3,7 +3,7 @@
 ghost use Rattle.std.specs.Prelude.{◌≡◌, ◌∷◌, ◌++◌, IfOk, OnOk};
 ghost use Rattle.spec_text.specs.Printed.{printed_word, printed_all, printed};
 ghost use Rattle.smt_sexpr.specs.Items.{trees_meant, tree_meant};
-ghost use Rattle.assertion_stack.specs.Printing.{printed_after};
+ghost use Rattle.assertion_stack.specs.Printing.{printed_after, KeepsFront};
 
 use no_memory::NoMemory;
 use smt_lexer::bars_of;
@@ -25,8 +25,9 @@ fn marks_of<'a>(kind: Kind, bytes: &'a [u8]) -> (&'a [u8], &'a [u8])
 
 /// Puts a space last, where trees come.
 fn add_gap(out: &mut Vec<u8>, trees: Trees<'_>) -> Result<(), NoMemory>
-    ensures { OnOk result (out.new.items ++ printed_all (trees_meant trees.entry)
+    ensures added { OnOk result (out.new.items ++ printed_all (trees_meant trees.entry)
         ≡ out.old.items ++ printed_after (trees_meant trees.entry)) }
+    ensures keeps { KeepsFront out.old.items out.new.items }
 {
     match split(trees) {
         None => Ok(()),
@@ -39,7 +40,8 @@ fn add_gap(out: &mut Vec<u8>, trees: Trees<'_>) -> Result<(), NoMemory>
 
 /// Puts a word last.
 fn add_word(out: &mut Vec<u8>, kind: Kind, bytes: &[u8]) -> Result<(), NoMemory>
-    ensures { OnOk result (out.new.items ≡ out.old.items ++ printed_word kind bytes.now) }
+    ensures added { OnOk result (out.new.items ≡ out.old.items ++ printed_word kind bytes.now) }
+    ensures keeps { KeepsFront out.old.items out.new.items }
 {
     let (before, behind) = marks_of(kind, bytes);
     out.extend_from_slice(before)?;
@@ -50,8 +52,9 @@ fn add_word(out: &mut Vec<u8>, kind: Kind, bytes: &[u8]) -> Result<(), NoMemory>
 
 /// Ends a list, before the trees that are after it.
 fn end_list(out: &mut Vec<u8>, after: Trees<'_>) -> Result<(), NoMemory>
-    ensures { OnOk result (out.new.items ++ printed_all (trees_meant after.entry)
+    ensures added { OnOk result (out.new.items ++ printed_all (trees_meant after.entry)
         ≡ out.old.items ++ (41 ∷ printed_after (trees_meant after.entry))) }
+    ensures keeps { KeepsFront out.old.items out.new.items }
 {
     out.push(b')')?;
     add_gap(out, after)
@@ -59,34 +62,35 @@ fn end_list(out: &mut Vec<u8>, after: Trees<'_>) -> Result<(), NoMemory>
 
 /// Puts an atom last, before the trees that are after it.
 fn add_atom(out: &mut Vec<u8>, kind: Kind, bytes: &[u8], after: Trees<'_>) -> Result<(), NoMemory>
-    ensures { OnOk result (out.new.items ++ printed_all (trees_meant after.entry)
+    ensures added { OnOk result (out.new.items ++ printed_all (trees_meant after.entry)
         ≡ out.old.items ++ (printed_word kind bytes.now ++ printed_after (trees_meant after.entry))) }
+    ensures keeps { KeepsFront out.old.items out.new.items }
 {
     add_word(out, kind, bytes)?;
     add_gap(out, after)
 }
 
-/// Prints trees, one after the other.
+/// Prints trees, one after the other, after what is there.
 ///
-/// Lists that are open are in a row, so nothing recurses. `NoMemory` may come at any byte.
-fn print_all(alloc: Global, trees: Trees<'_>) -> Result<Bytes, NoMemory>
-    ensures { IfOk result (λ b. b ≡ printed_all (trees_meant trees.entry)) }
+/// Lists that are open are in a row, so nothing recurses. `NoMemory` may come at any byte; then a part may be printed.
+fn print_all(alloc: Global, out: &mut Vec<u8>, trees: Trees<'_>) -> Result<(), NoMemory>
+    ensures added { OnOk result (out.new.items ≡ out.old.items ++ printed_all (trees_meant trees.entry)) }
+    ensures keeps { KeepsFront out.old.items out.new.items }
 {
-    let mut out = Vec::new(alloc);
     let mut open = Vec::new(alloc);
     let mut rest = trees;
     'trees: loop {
         let Some((first, others)) = split(rest) else {
             let Some(outer) = open.pop() else {
-                return Ok(Bytes::from(out));
+                return Ok(());
             };
-            end_list(&mut out, outer)?;
+            end_list(out, outer)?;
             rest = outer;
             continue;
         };
         match look(first) {
             View::Atom(_, kind, bytes) => {
-                add_atom(&mut out, kind, bytes, others)?;
+                add_atom(out, kind, bytes, others)?;
                 rest = others;
             }
             View::List(_, inside, _) => {
@@ -98,15 +102,27 @@ fn print_all(alloc: Global, trees: Trees<'_>) -> Result<Bytes, NoMemory>
     }
 }
 
+/// Prints the first tree, as `print` does, after what is there.
+///
+/// `NoMemory` may come at any byte; then a part may be printed.
+pub(crate) fn print_to(alloc: Global, out: &mut Vec<u8>, tree: Trees<'_>) -> Result<(), NoMemory>
+    ensures added { OnOk result (out.new.items ≡ out.old.items ++ printed (tree_meant tree.entry)) }
+    ensures keeps { KeepsFront out.old.items out.new.items }
+{
+    match split(tree) {
+        None => Ok(()),
+        Some((first, _)) => print_all(alloc, out, first),
+    }
+}
+
 /// Prints the first tree, as `smt_sexpr::print` does: one space is between two trees of a list and none inside its
 /// parentheses, white space and comments are left out, and a symbol has bars only where it is none without them.
 ///
 /// `NoMemory` may come at any byte. Source: SMT-LIB 2.6, sections 3.1 and 3.2.
-pub(crate) fn print(alloc: Global, tree: Trees<'_>) -> Result<Bytes, NoMemory>
+pub fn print(alloc: Global, tree: Trees<'_>) -> Result<Bytes, NoMemory>
     ensures { IfOk result (λ b. b ≡ printed (tree_meant tree.entry)) }
 {
-    match split(tree) {
-        None => Ok(Bytes::from(Vec::new(alloc))),
-        Some((first, _)) => print_all(alloc, first),
-    }
+    let mut out = Vec::new(alloc);
+    print_to(alloc, &mut out, tree)?;
+    Ok(Bytes::from(out))
 }

@@ -1,11 +1,13 @@
 //! The stack of a script: its names, assertions and options, and what each command makes of them.
 
-ghost use Rattle.std.specs.Prelude.{◌≡◌, ℕ, [], length, OnErr};
+ghost use Rattle.std.specs.Prelude.{◌≡◌, ℕ, ◌<◌, [], length, slice_index_or, Ok, OnErr};
+ghost use Rattle.spec_commands.specs.Commands.{command_of};
 ghost use Rattle.spec_commands.specs.Stack.{Stack as ScriptStack, empty_stack, performed, step};
 ghost use Rattle.smt_command.specs.Commands.{command_view};
 ghost use Rattle.smt_sexpr.specs.Items.{tree_of};
 ghost use Rattle.term_core.specs.Tables.{TableView};
-ghost use Rattle.assertion_stack.specs.Stacks.{over_table, HasStack, IsStack, Performs, Steps, KeepsAtCheck};
+ghost use Rattle.assertion_stack.specs.Assertions.{no_written, written_meant};
+ghost use Rattle.assertion_stack.specs.Stacks.{over_table, HasStack, IsStack, Performs, Steps, KeepsAtCheck, KeepsTableAt};
 
 use crate::assertions::{Assertions, Written};
 use crate::assuming::Assumed;
@@ -93,14 +95,15 @@ impl Stack {
         self.assertions.as_slice()
     }
 
-    /// Lends how the asserted terms are written, in the order of `current` and one for each: the tree that was read for it,
-    /// as `smt_sexpr::print` prints it, with the names that `:named` makes in it; where it is in the script; and its label.
+    /// Lends how an asserted term is written, by its place in `current`, from 0: the tree that was read for it, as `print`
+    /// prints it, with the names that `:named` makes in it; where it is in the script; and its label.
     ///
     /// Source: SMT-LIB 2.6, sections 3.6 and 4.2.4.
-    pub fn written(&self) -> &[Written]
-        ensures { result.now ≡ self.now.assertions.written }
+    pub fn written(&self, place: usize) -> Written<'_>
+        requires { place < length self.now.assertions.ids }
+        ensures { written_meant result ≡ slice_index_or self.now.assertions.written place no_written }
     {
-        self.assertions.written()
+        self.assertions.written(place)
     }
 
     /// Counts the levels that are open above the first one.
@@ -119,9 +122,10 @@ impl Stack {
     ///   `UnknownLogic` at the name of a logic. `Full` at the parenthesis comes last.
     /// - `Memory` may come at any allocation, and says nothing of the command.
     ///
-    /// After each of these stack and table are as they were. A check changes no more than that it ends the start. Numbers of
-    /// sorts, symbols and terms that `pop`, `reset-assertions` or `reset` takes away are given again. The time goes with no
-    /// assertion that was made before, but where it is taken away. Source: SMT-LIB 2.6, sections 3.9 and 4.2.
+    /// After each of these stack and table are as they were. A check changes no more than that it ends the start.
+    /// `set-option`, `set-info`, `echo` and `exit` leave the table as it was. Numbers of sorts, symbols and terms that `pop`,
+    /// `reset-assertions` or `reset` takes away are given again. The time goes with no assertion that was made before, but
+    /// where it is taken away. Source: SMT-LIB 2.6, sections 3.9 and 4.2.
     pub fn command<'a>(
         &mut self,
         alloc: Global,
@@ -132,6 +136,7 @@ impl Stack {
         ensures steps { (limit : ℕ) (s : ScriptStack) → IsStack limit (over_table table.old self.old) s
             → Steps limit (step limit s (tree_of sexpr.now)) sexpr.now (over_table table.new self.new) result }
         ensures check { KeepsAtCheck result (over_table table.old self.old) (over_table table.new self.new) }
+        ensures settings { KeepsTableAt (command_of (tree_of sexpr.now)) table.old table.new }
         ensures same { OnErr result ((self.new ≡ self.old) × (table.new ≡ table.old)) }
     {
         spec_commands::faults_are_in_their_command();
@@ -163,6 +168,7 @@ fn perform<'a>(
     ensures performs { (limit : ℕ) (s : ScriptStack) → IsStack limit (over_table table.old stack.old) s
         → Performs limit (performed limit at s (command_view command.entry)) (over_table table.new stack.new) result }
     ensures check { KeepsAtCheck result (over_table table.old stack.old) (over_table table.new stack.new) }
+    ensures settings { KeepsTableAt (Ok (command_view command.entry)) table.old table.new }
     ensures same { OnErr result ((stack.new ≡ stack.old) × (table.new ≡ table.old)) }
 {
     match command {
