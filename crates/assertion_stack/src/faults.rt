@@ -16,8 +16,10 @@ pub(crate) fn refused(offset: u64, fault: Fault) -> ReadError
     ReadError::Fault(TermFault { offset, fault })
 }
 
-/// Gives the place of an offset that is in an s-expression; of any other offset, where the s-expression begins.
-pub(crate) fn place_in(sexpr: &Sexpr<'_>, offset: u64) -> Place
+/// Gives the place of an offset in bytes that is in an s-expression; of any other offset, where the s-expression begins.
+///
+/// It takes no memory, and time linear in the bytes from where the s-expression begins.
+pub fn place_in(sexpr: &Sexpr<'_>, offset: u64) -> Place
     ensures place { IsPlaceOf (text_of sexpr.now) result }
     ensures offset { start_of sexpr.now ≤ offset → offset < length (text_of sexpr.now) → result.offset ≡ offset }
 {

@@ -23,6 +23,7 @@ mod stack;
 
 pub use assertions::{Assertions, Written};
 pub use assuming::Assumed;
+pub use faults::place_in;
 pub use leveling::LEVEL_LIMIT;
 pub use marks::{Mark, Marks};
 pub use options::Options;
