@@ -1,6 +1,6 @@
 -- What the answers of checks mean. Source: SMT-LIB 2.6, section 4.2.5; that the text of a proof, or of a model, means
 -- so much is own.
-use Rattle.std.specs.Prelude.{◌≡◌, ◌≤◌, ◌^◌, ℕ, suc, false, List, [], ◌∷◌, ◌++◌, All}
+use Rattle.std.specs.Prelude.{◌≡◌, ◌≤◌, ◌^◌, ℕ, suc, false, List, [], ◌∷◌, ◌++◌, None, All}
 use Rattle.spec_text.specs.Readings.{is_long}
 use Rattle.spec_text.specs.Trees.{Trees, list, none, more, IsRead}
 use Rattle.spec_sorts.specs.Values.{Interpretation, Interprets}
@@ -13,7 +13,8 @@ use Rattle.spec_models.specs.declared.ResponseWord.TheVariants.{Unsat}
 use Rattle.spec_models.specs.Replies.{word_line}
 use Rattle.spec_models.specs.Models.{model_text}
 use Rattle.spec_models.specs.Meaning.{DefineAll}
-use Rattle.spec_checking.specs.Good.{IsGood}
+use Rattle.spec_checking.specs.Commands.{known_at}
+use Rattle.spec_checking.specs.Good.{AreGood, IsGood}
 use Rattle.spec_checking.specs.Accepted.{IsAccepted}
 use Rattle.spec_proof_texts.specs.ReadBack.{HaveScriptNames, numerals_in}
 use Rattle.spec_sessions.specs.Evidence.{Limits, Found, model, proof, spent, overflowed, out_of_pivots, Checked}
@@ -43,10 +44,21 @@ pub record ModelMeans (IsModel : Interpretation → Type 0) (g : Signature) (i :
   -- so the text alone says enough: whatever tables of the right sorts have the values that it defines are a model, too
   pub each : (j : Interpretation) → Interprets j (symbols_in g) → DefineAll j g (symbols_in g) definitions → IsModel j
 
+-- What the text of a proof means of a check of what commands left.
+pub record RefutationMeans (c : Check) (p : List ℕ) : Type 0 where
+  -- no interpretation is a model, however long the proof is
+  pub no_model : (i : Interpretation) → IsModelOf c i → ⊥
+  -- the commands of the text
+  pub commands : Trees
+  -- the whole text is these commands, and nothing else
+  pub read : IsWholeText p commands
+  -- they are a good proof of what is current at the check, whatever the limits of the checker are
+  pub good : AreGood None (known_at c) commands
+
 -- what was found means this of a check; that it was given up, for whatever cause, means nothing of what is asked
 abbrev pub MeansAt : Check → Found → Type 0
 MeansAt c (model i) = ModelMeans (IsModelOf c) (signature_of c.stack) i
-MeansAt c (proof p) = (i : Interpretation) → IsModelOf c i → ⊥
+MeansAt c (proof p) = RefutationMeans c p
 MeansAt c (spent n d learned) = Unit {0}
 MeansAt c (overflowed o kept) = Unit {0}
 MeansAt c (out_of_pivots n kept) = Unit {0}

@@ -27,7 +27,7 @@ use Rattle.spec_proof_texts.specs.Meaning.{AreRightLines}
 use Rattle.spec_proof_texts.specs.ReadBack.{AreScriptNames, numbers_in}
 use Rattle.spec_sessions.specs.Evidence.{Limits, Found, model, proof, spent, overflowed, out_of_pivots, IsModelOf, Justifies}
 use Rattle.spec_sessions.specs.Refutations.{IsProofOf, lines_in}
-use Rattle.spec_sessions.specs.Meaning.{ModelMeans, MeansAt, HasFewNumerals, ProofMeans, FindingMeans}
+use Rattle.spec_sessions.specs.Meaning.{ModelMeans, RefutationMeans, MeansAt, HasFewNumerals, ProofMeans, FindingMeans}
 use Rattle.spec_sessions.proofs.laws.what_is_shown_is_so.Goals as goal
 
 -- the text of each expression has its term's value
@@ -72,6 +72,11 @@ module _ (c : goal.After-printed_proofs_are_accepted) where
         } in
         sound i (λ symbols rule premises arguments clause. c.rules_are_sound.ensures symbols rule premises arguments clause i) None (known_at x) 0 read.0 all (no_fault None 0 (known_at x) read.0 read.2)
 
+    good_at : (p : List ℕ) → IsProofOf x p → RefutationMeans x p
+    good_at p h =
+        let read = c.right_lines_are_good.ensures.commands g (terms_asserted (asked x)) (lines_in x p h) names (right p h) in
+        record { no_model = proof_at p h; commands = read.0; read = subst (λ q. IsWholeText q read.0) (sym h.written) read.1; good = read.2 }
+
     model_at : (i : Interpretation) → IsModelOf x i → ModelMeans (IsModelOf x) g i
     model_at i m =
         let printed = c.model_texts_say_their_interpretation.ensures i g (symbols_in g) (each_symbol g names) m.interprets in record {
@@ -93,7 +98,7 @@ module _ (c : goal.After-printed_proofs_are_accepted) where
 
     means_at : (limits : Limits) (f : Found) → Justifies limits x f → MeansAt x f
     means_at limits (model i) h = model_at i h
-    means_at limits (proof p) h = proof_at p h
+    means_at limits (proof p) h = good_at p h
     means_at limits (spent n d learned) h = tt
     means_at limits (overflowed o kept) h = tt
     means_at limits (out_of_pivots n kept) h = tt
