@@ -7,7 +7,7 @@ use Rattle.spec_text.specs.Faults.{nesting_limit}
 use Rattle.spec_text.specs.Printed.{printed}
 use Rattle.spec_text.proofs.Printing.{moved, moved_all}
 use Rattle.spec_sorts.specs.Terms.{Sort, Truth, Number, Declared, Symbol, Head, True, False, Not, And, Or, Xor, Implies, Equal, Ite, Minus, Plus, Times, Divide, Less, AtMost, Literal, Apply, Parameter, Term}
-use Rattle.spec_sorts.specs.Signatures.{Known as Found, declared, defined as by_definition, Signature, known_as}
+use Rattle.spec_sorts.specs.Signatures.{Known as Found, declared, defined as by_definition, Signature, symbols_in, known_as}
 use Rattle.spec_checking.specs.Commands.{NamedClause}
 use Rattle.spec_checking.specs.Judging.{with_command}
 use Rattle.spec_checking.specs.Good.{AreGood}
@@ -16,11 +16,12 @@ use Rattle.spec_models.specs.Values.{trees_of, IsName}
 use Rattle.spec_models.specs.Meaning.{IsSortIn}
 use Rattle.spec_proof_texts.specs.Lines.{Argument, truth, number, symbol, defined, StepLine, Line, defines, assumes, steps, line_tree}
 use Rattle.spec_proof_texts.specs.Meaning.{Told, nothing_told, bare_term, term_told, AreTold, IsKnownHead, IsLineAfter, AreLinesAfter, AreRightLines}
-use Rattle.spec_proof_texts.specs.ReadBack.{IsWritableSort, IsWritableHead, IsWritableArgument, IsWritableLine, AreScriptNames, definitions_in, numbers_in}
+use Rattle.spec_proof_texts.specs.ReadBack.{IsWritableSort, IsWritableHead, IsWritableArgument, IsWritableLine, AreScriptNames}
+use Rattle.spec_proof_texts.proofs.Known.{numbers_in, definitions_in}
 use Rattle.spec_proof_texts.proofs.Lookups.{symbol_found, head_same, tail_same}
 use Rattle.spec_proof_texts.proofs.Room.{IsWithin, no_more}
-use Rattle.spec_proof_texts.proofs.MadeKnown.{IsKnownAfter, nothing_known}
-use Rattle.spec_proof_texts.proofs.Sizes.{definitions_more}
+use Rattle.spec_proof_texts.proofs.MadeKnown.{spare, IsKnownAfter, nothing_known}
+use Rattle.spec_proof_texts.proofs.Sizes.{definitions_more, numbers_more}
 use Rattle.spec_proof_texts.proofs.Lexed.{depth_of, AreShallow}
 use Rattle.spec_proof_texts.proofs.EachLine.{known, HasOne, Goes, HasRoom, assume_goes, step_goes, define_goes}
 
@@ -52,11 +53,6 @@ sooner_or_later l ls e = go e.earlier e.last
     go [] h = inl (record { step = e.step; is = head_same h; empty = e.empty })
     go (x ∷ xs) h = inr (record { earlier = xs; step = e.step; last = tail_same h; empty = e.empty })
 
-numbers_more : (l : Line) (ls : List Line) → numbers_in (l ∷ ls) ≡ numbers_in (l ∷ []) + numbers_in ls
-numbers_more (defines d) ls = omega arith
-numbers_more (assumes n a) ls = omega arith
-numbers_more (steps s) ls = omega arith
-
 module _ (limit : Option ℕ) (g : Signature) (asserted : List Term) (own : AreScriptNames g) where
   line_goes : (told next : Told) (s : Signature) (entries : List NamedClause) (numbers : ℕ) (h : IsKnownAfter g told s entries numbers) (l : Line) (at : ℕ) → IsLineAfter g asserted told l next → HasRoom limit g asserted own told s entries numbers h l → Goes limit g asserted told next s entries numbers l at
   line_goes told next s entries numbers h (defines d) at x room = subst (λ k. Goes limit g asserted told k s entries numbers (defines d) at) (sym x.2) (define_goes limit g asserted own told s entries numbers h d at x.0 x.1 room)
@@ -64,15 +60,15 @@ module _ (limit : Option ℕ) (g : Signature) (asserted : List Term) (own : AreS
   line_goes told next s entries numbers h (steps l) at x room = subst (λ k. Goes limit g asserted told k s entries numbers (steps l) at) (sym x.1) (step_goes limit g asserted own told s entries numbers h l at x.0 room)
 
   good_lines : (told end : Told) (s : Signature) (entries : List NamedClause) (numbers : ℕ) (lines : List Line) (at : ℕ) → IsKnownAfter g told s entries numbers → AreLinesAfter g asserted told lines end
-      → IsWithin limit (length g + (numbers + numbers_in lines) + (length told.terms + definitions_in lines) + 2)
+      → IsWithin limit (length g + (length told.terms + definitions_in lines)) → IsWithin limit (length (symbols_in g) + (numbers + numbers_in lines) + (length told.terms + definitions_in lines) + spare)
       → HasOne entries ⊎ EndsEmpty lines → AreGood limit (known asserted s entries) (moved_all at (trees_of (map line_tree lines)))
-  good_lines told end s entries numbers [] at h right within (inl one) = good_end limit (known asserted s entries) (one.1.0, one.0, one.1.1, one.1.2, one.2)
-  good_lines told end s entries numbers [] at h right within (inr e) = absurd (never_empty e)
-  good_lines told end s entries numbers (l ∷ ls) at h right within ending =
+  good_lines told end s entries numbers [] at h right names terms (inl one) = good_end limit (known asserted s entries) (one.1.0, one.0, one.1.1, one.1.2, one.2)
+  good_lines told end s entries numbers [] at h right names terms (inr e) = absurd (never_empty e)
+  good_lines told end s entries numbers (l ∷ ls) at h right names terms ending =
       let next = right.0 in
-      let x = line_goes told next s entries numbers h l at right.1 (no_more limit _ _ (omega (arith, definitions_more l ls, numbers_more l ls)) within) in
+      let x = line_goes told next s entries numbers h l at right.1 (no_more limit _ _ (omega (arith, definitions_more l ls)) names, no_more limit _ _ (omega (arith, definitions_more l ls, numbers_more l ls)) terms) in
       let place : ℕ = at + length (printed (line_tree l)) + 1 in
-      let others = good_lines next end x.later_names x.later_entries (numbers + numbers_in (l ∷ [])) ls place x.made_known right.2 (no_more limit _ _ (omega (arith, definitions_more l ls, numbers_more l ls, x.more_terms)) within) (onward x ending) in
+      let others = good_lines next end x.later_names x.later_entries (numbers + numbers_in (l ∷ [])) ls place x.made_known right.2 (no_more limit _ _ (omega (arith, definitions_more l ls, x.more_terms)) names) (no_more limit _ _ (omega (arith, definitions_more l ls, numbers_more l ls, x.more_terms)) terms) (onward x ending) in
       good_step limit (known asserted s entries) (moved at (line_tree l)) (moved_all place (trees_of (map line_tree ls))) x.command x.reads x.right (subst (λ k. AreGood limit k (moved_all place (trees_of (map line_tree ls)))) {x = known asserted x.later_names x.later_entries} {y = with_command (known asserted s entries) x.command} x.after others)
     where
       later : {next : Told} (x : Goes limit g asserted told next s entries numbers l at) → IsEmptyStep l ⊎ EndsEmpty ls → HasOne x.later_entries ⊎ EndsEmpty ls
@@ -83,8 +79,8 @@ module _ (limit : Option ℕ) (g : Signature) (asserted : List Term) (own : AreS
       onward x (inl one) = inl (one.0, x.kept one.0 one.1, one.2)
       onward x (inr e) = later x (sooner_or_later l ls e)
 
-  pub all_good : (lines : List Line) (at : ℕ) → AreRightLines g asserted lines → IsWithin limit (length g + numbers_in lines + definitions_in lines + 2) → AreGood limit (known asserted g []) (moved_all at (trees_of (map line_tree lines)))
-  all_good lines at r within = good_lines nothing_told r.end g [] 0 lines at (nothing_known g own) r.right (no_more limit _ _ (omega arith) within) (inr (record { earlier = r.earlier; step = r.step; last = r.last; empty = r.empty }))
+  pub all_good : (lines : List Line) (at : ℕ) → AreRightLines g asserted lines → IsWithin limit (length g + definitions_in lines) → IsWithin limit (length (symbols_in g) + numbers_in lines + definitions_in lines + spare) → AreGood limit (known asserted g []) (moved_all at (trees_of (map line_tree lines)))
+  all_good lines at r names terms = good_lines nothing_told r.end g [] 0 lines at (nothing_known g own) r.right (no_more limit _ _ (omega arith) names) (no_more limit _ _ (omega arith) terms) (inr (record { earlier = r.earlier; step = r.step; last = r.last; empty = r.empty }))
 
 -- the names that are printed are those of symbols
 module _ (g : Signature) (own : AreScriptNames g) where

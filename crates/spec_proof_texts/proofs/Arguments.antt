@@ -28,7 +28,7 @@ use Rattle.spec_proof_texts.specs.Lines.{Argument, truth, number, symbol, define
 use Rattle.spec_proof_texts.specs.Meaning.{Told, numbered, constant_if, bare_term, truth_term, term_told, AreTold}
 use Rattle.spec_proof_texts.specs.ReadBack.{AreScriptNames}
 use Rattle.spec_proof_texts.proofs.Lookups.{numbered_in, symbol_found, head_same, tail_same}
-use Rattle.spec_proof_texts.proofs.Known.{number_term, number_terms, among_more}
+use Rattle.spec_proof_texts.proofs.Known.{number_term, is_long_number, number_terms, among_more}
 
 -- a name that no function of a theory has
 pub no_rule : (n : Name) → (is_of_theory n ≡ true → ⊥) → look_up theory n ≡ None
@@ -58,6 +58,8 @@ pub record Holds (g : Signature) (told : Told) (us : List Term) : Type 0 where
   pub truths : (b : Bool) → Contains us (truth_term b)
   pub constants : (f : Symbol) → Contains (symbols_in g) f → Contains us (constant_term f)
   pub defined_terms : (t : Term) → Contains told.terms t → Contains us t
+  -- the numbers that are not long
+  pub numbers : (q : Fraction) → is_decimal q ≡ true → is_long_number q ≡ false → Contains us (number_term q)
 
 -- a symbol without parameters, by its term
 record Constant (g : Signature) (n : Name) (t : Term) : Type 0 where
@@ -163,11 +165,15 @@ module _ (g : Signature) (own : AreScriptNames g) (told : Told) where
   module _ (us : List Term) (holds : Holds g told us) where
     pub argument_held : (a : Argument) (items : List Argument) (t : Term) → term_told g told a ≡ Some t → Contains (us ++ number_terms (a ∷ items)) t
     argument_held (truth b) items t e = Contains-append_left us (number_terms items) t (subst (Contains us) (same_Some _ _ e) (holds.truths b))
-    argument_held (number q) items t e = go (is_decimal q) e
+    argument_held (number q) items t e = go (is_decimal q) refl e
       where
-        go : (b : Bool) → cond b (Some (number_term q)) None ≡ Some t → Contains (us ++ number_term q ∷ number_terms items) t
-        go true e = Contains-append_right us (number_term q ∷ number_terms items) t (subst (Contains (number_term q ∷ number_terms items)) (same_Some _ _ e) (first (number_term q) (number_terms items)))
-        go false e = cc
+        by : (b : Bool) → is_decimal q ≡ true → is_long_number q ≡ b → Contains (us ++ cond b (number_term q ∷ number_terms items) (number_terms items)) (number_term q)
+        by true d long = Contains-append_right us (number_term q ∷ number_terms items) (number_term q) (first (number_term q) (number_terms items))
+        by false d short = Contains-append_left us (number_terms items) (number_term q) (holds.numbers q d short)
+
+        go : (b : Bool) → is_decimal q ≡ b → cond b (Some (number_term q)) None ≡ Some t → Contains (us ++ number_terms (number q ∷ items)) t
+        go true d e = subst (Contains (us ++ number_terms (number q ∷ items))) (same_Some _ _ e) (by (is_long_number q) d refl)
+        go false d e = cc
     argument_held (symbol n) items t e =
         let c = constant_of g n t e in
         Contains-append_left us (number_terms items) t (subst (Contains us) c.term (holds.constants c.symbol_is (symbol_found g n c.symbol_is c.found).0))
@@ -177,11 +183,12 @@ module _ (g : Signature) (own : AreScriptNames g) (told : Told) where
     one_more_held (truth b) items t c = c
     one_more_held (symbol n) items t c = c
     one_more_held (defined n) items t c = c
-    one_more_held (number q) items t c = go (Contains-append_cases us (number_terms items) t c)
+    one_more_held (number q) items t c = by (is_long_number q) (Contains-append_cases us (number_terms items) t c)
       where
-        go : Contains us t ⊎ Contains (number_terms items) t → Contains (us ++ number_term q ∷ number_terms items) t
-        go (inl x) = Contains-append_left us (number_term q ∷ number_terms items) t x
-        go (inr x) = Contains-append_right us (number_term q ∷ number_terms items) t (later (number_term q) (number_terms items) t x)
+        by : (b : Bool) → Contains us t ⊎ Contains (number_terms items) t → Contains (us ++ cond b (number_term q ∷ number_terms items) (number_terms items)) t
+        by b (inl x) = Contains-append_left us (cond b (number_term q ∷ number_terms items) (number_terms items)) t x
+        by true (inr x) = Contains-append_right us (number_term q ∷ number_terms items) t (later (number_term q) (number_terms items) t x)
+        by false (inr x) = Contains-append_right us (number_terms items) t x
 
     pub arguments_held : (items : List Argument) (ts : List Term) → AreTold g told items ts → AreAmong ts (us ++ number_terms items)
     arguments_held [] [] e = λ t c. absurd (no_member t c)

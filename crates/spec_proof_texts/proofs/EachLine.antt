@@ -9,7 +9,7 @@ use Rattle.spec_text.proofs.Printing.{moved, moved_all}
 use Rattle.spec_text.proofs.AnswerLaws.{joined}
 use Rattle.spec_text.proofs.Members.{only}
 use Rattle.spec_sorts.specs.Terms.{Truth, Term, sort_of, filled}
-use Rattle.spec_sorts.specs.Signatures.{Definition, Signature, definition}
+use Rattle.spec_sorts.specs.Signatures.{Definition, Signature, symbols_in, definition}
 use Rattle.spec_sorts.specs.Literals.{Clause}
 use Rattle.spec_sorts.specs.Subsets.{arguments_of, AreAmong}
 use Rattle.spec_sorts.proofs.General.{list_of-terms_of}
@@ -32,7 +32,8 @@ use Rattle.spec_models.specs.Values.{trees_of, in_list, word_tree, reserved_tree
 use Rattle.spec_models.proofs.Parameters.{sort_read}
 use Rattle.spec_proof_texts.specs.Lines.{Argument, Reference, DefinitionLine, StepLine, Line, defines, assumes, steps, defined_name, assume_name, step_name, argument_tree, reference_tree, term_tree, line_tree}
 use Rattle.spec_proof_texts.specs.Meaning.{Told, with_definition, with_assume, with_step, AreTold, ArePremises, IsDefinition, IsAssume, IsStep}
-use Rattle.spec_proof_texts.specs.ReadBack.{AreScriptNames, definitions_in, numbers_in, numbers_among}
+use Rattle.spec_proof_texts.specs.ReadBack.{AreScriptNames}
+use Rattle.spec_proof_texts.proofs.Known.{numbers_among, numbers_in, definitions_in}
 use Rattle.spec_proof_texts.proofs.Names.{named}
 use Rattle.spec_proof_texts.proofs.MovedArguments.{moved_numbers}
 use Rattle.spec_proof_texts.proofs.Lookups.{entry, head_same, tail_same}
@@ -40,7 +41,7 @@ use Rattle.spec_proof_texts.proofs.Arguments.{argument_read, arguments_held, ter
 use Rattle.spec_proof_texts.proofs.Heads.{compound_read}
 use Rattle.spec_proof_texts.proofs.CommandShapes.{defining, parts, sorted_read, assume_read, step_read, bare_step, given_step, full_step, both_step, define_read}
 use Rattle.spec_proof_texts.proofs.Room.{IsWithin, no_more, has_place}
-use Rattle.spec_proof_texts.proofs.MadeKnown.{IsKnownAfter, with_numbers, numbers_closed, numbers_few, assume_known, step_known, definition_known, new_assume, new_step, new_definition, sort_known, references_read, references_are_symbols}
+use Rattle.spec_proof_texts.proofs.MadeKnown.{spare, IsKnownAfter, with_numbers, numbers_closed, numbers_few, assume_known, step_known, definition_known, new_assume, new_step, new_definition, sort_known, references_read, references_are_symbols}
 
 -- what is known, by the names and the entries up to here
 abbrev pub known : List Term → Signature → List NamedClause → Known
@@ -94,14 +95,14 @@ module _ (limit : Option ℕ) (g : Signature) (asserted : List Term) (own : AreS
 
   -- there is room for a line more
   abbrev pub HasRoom : Line → Type 0
-  HasRoom l = IsWithin limit (length g + (numbers + numbers_in (l ∷ [])) + (length told.terms + definitions_in (l ∷ [])) + 2)
+  HasRoom l = IsWithin limit (length g + (length told.terms + definitions_in (l ∷ []))) × IsWithin limit (length (symbols_in g) + (numbers + numbers_in (l ∷ [])) + (length told.terms + definitions_in (l ∷ [])) + spare)
 
   -- and so for terms that are printed so
   told_fit : (l : Line) (items : List Argument) (ts : List Term) (at : ℕ) → HasRoom l → numbers_among items ≤ numbers_in (l ∷ []) → AreTold g told items ts → room limit at s ts ≡ Ok tt
   told_fit l items ts at within le e =
       has_place limit at s ts (with_numbers g told s entries numbers h items) (arguments_held g own told h.among h.holds items ts e) (numbers_closed g told s entries numbers h items)
-      (no_more limit _ _ (omega (arith, h.count)) within)
-      (no_more limit _ _ (omega (arith, numbers_few g told s entries numbers h items, le)) within)
+      (no_more limit _ _ (omega (arith, h.count)) within.0)
+      (no_more limit _ _ (omega (arith, numbers_few g told s entries numbers h items, le)) within.1)
 
   -- the literals of a clause are read
   literals_read : (items : List Argument) (ts : List Term) → AreTold g told items ts → All (λ t. sort_of t ≡ Truth) ts → (at : ℕ) → literals_in s (moved_all at (trees_of (map argument_tree items))) ≡ Ok (record { made = []; terms = ts })
@@ -234,5 +235,5 @@ module _ (limit : Option ℕ) (g : Signature) (asserted : List Term) (own : AreS
       roomy x e f k i =
           let st = then_known x e f k in
           has_place limit i (s ++ definition x ∷ []) (x.term ∷ []) st.among (λ u c. subst (Contains st.among) (sym k ∙ only x.term u c) (st.holds.defined_terms t (Contains-push told.terms t))) st.closed
-          (no_more limit _ _ (omega (arith, h.count, length-append s (definition x ∷ []))) within)
-          (no_more limit _ _ (omega (arith, st.few, length-append told.terms (t ∷ []))) within)
+          (no_more limit _ _ (omega (arith, h.count, length-append s (definition x ∷ []))) within.0)
+          (no_more limit _ _ (omega (arith, st.few, length-append told.terms (t ∷ []))) within.1)

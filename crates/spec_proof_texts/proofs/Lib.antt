@@ -6,10 +6,10 @@ pub mod Names
 mod MovedArguments
 pub mod Written
 pub mod Lexed
-mod Numerals
 pub mod Lookups
 pub mod Room
 pub mod Known
+mod ShortNumbers
 pub mod Arguments
 pub mod Heads
 pub mod CommandShapes

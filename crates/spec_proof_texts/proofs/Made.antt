@@ -56,11 +56,26 @@ pub function_name : (w : Setting) (g : Signature) (taken : Name → Bool) (x : W
 function_name w g taken x n bare e free = record { not_kept = (fresh_name w taken x n bare e).1; own = (or_parts (is_of_theory n) (is_some (known_as g n)) free).0 }
 
 -- the symbols with a declaration more
-symbols_push : (s : Signature) (d : Declaration) → symbols_in (s ++ d ∷ []) ≡ symbols_in s ++ symbols_in (d ∷ [])
+pub symbols_push : (s : Signature) (d : Declaration) → symbols_in (s ++ d ∷ []) ≡ symbols_in s ++ symbols_in (d ∷ [])
 symbols_push [] d = refl
 symbols_push (of_sort m u ∷ s) d = symbols_push s d
 symbols_push (of_function (declared f) ∷ s) d = ap (λ fs. f ∷ fs) (symbols_push s d)
 symbols_push (of_function (defined x) ∷ s) d = symbols_push s d
+
+-- and with definitions
+pub symbols_same : (s : Signature) (ds : List Definition) → symbols_in (with_definitions s ds) ≡ symbols_in s
+symbols_same [] [] = refl
+symbols_same [] (d ∷ ds) = symbols_same [] ds
+symbols_same (of_sort m u ∷ s) ds = symbols_same s ds
+symbols_same (of_function (declared f) ∷ s) ds = ap (λ fs. f ∷ fs) (symbols_same s ds)
+symbols_same (of_function (defined x) ∷ s) ds = symbols_same s ds
+
+-- no more symbols than names
+pub few_symbols : (s : Signature) → length (symbols_in s) ≤ length s
+few_symbols [] = omega arith
+few_symbols (of_sort m u ∷ s) = omega (arith, few_symbols s)
+few_symbols (of_function (declared f) ∷ s) = omega (arith, few_symbols s)
+few_symbols (of_function (defined x) ∷ s) = omega (arith, few_symbols s)
 
 -- what a sort is called stays so, with more names that come after
 pub sort_more : (g h : Signature) (n : Name) (s : Sort) → sort_as g n ≡ Some s → sort_as (g ++ h) n ≡ Some s

@@ -2,7 +2,7 @@
 use Rattle.std.proofs.Common.{◌≡◌, inl, inr, ℕ, zero, suc, ◌+◌, Bool, true, false, cond, List, [], ◌∷◌, ◌++◌, length, map, All, Option, Some, None, Contains, refl, sym, ap, ◌∙◌, subst, length-append, arith}
 use Rattle.std.specs.Prelude.{◌⊎◌, ◌≤◌, Ok, codes}
 use Rattle.std.specs.Str.{bytes_eq}
-use Rattle.std.proofs.lemmas.List.Elements.{All-cons, All-map, All-contains, Contains-push, Contains-push_cases, Contains-append_left}
+use Rattle.std.proofs.lemmas.List.Elements.{All-cons, All-map, All-append, All-contains, Contains-push, Contains-push_cases, Contains-append_left, Contains-append_right}
 use Rattle.std.proofs.lemmas.List.{length-map}
 use Rattle.spec_text.specs.Bytes.{Name, among as is_among}
 use Rattle.spec_text.specs.Printed.{printed}
@@ -10,7 +10,7 @@ use Rattle.spec_text.proofs.Printing.{moved, moved_all}
 use Rattle.spec_text.proofs.AnswerLaws.{joined}
 use Rattle.spec_text.proofs.Members.{first, later, none as no_member, to_image}
 use Rattle.spec_sorts.specs.Terms.{Sort, Truth, Number, Declared, True, False, Term, of, constant_term, filled}
-use Rattle.spec_sorts.specs.Signatures.{Definition, Known as Found, declared, defined as by_definition, of_sort, of_function, Signature, known_as, sort_as, is_some, symbols_in, definition}
+use Rattle.spec_sorts.specs.Signatures.{Definition, Known as Found, declared, defined as by_definition, Signature, known_as, sort_as, is_some, symbols_in, definition}
 use Rattle.spec_sorts.proofs.Signatures.{sort_same}
 use Rattle.spec_sorts.specs.Literals.{Clause}
 use Rattle.spec_sorts.specs.Subsets.{arguments_of, AreAmong, IsClosed}
@@ -22,12 +22,17 @@ use Rattle.spec_models.specs.Values.{trees_of, numeral}
 use Rattle.spec_models.specs.Meaning.{IsSortIn}
 use Rattle.spec_proof_texts.specs.Lines.{Argument, Reference, assumed, stepped, defined_name, assume_name, step_name, reference_name, reference_tree}
 use Rattle.spec_proof_texts.specs.Meaning.{Told, nothing_told, with_definition, with_assume, with_step, numbered, truth_term, clause_told, ArePremises}
-use Rattle.spec_proof_texts.specs.ReadBack.{AreScriptNames, numbers_among}
+use Rattle.spec_proof_texts.specs.ReadBack.{AreScriptNames}
 use Rattle.spec_proof_texts.proofs.Lookups.{extended, not_extended, numbered_push, numbered_next, function_push, stays, entry, clause_push, told_apart, entry_unfound, head_same, tail_same}
-use Rattle.spec_proof_texts.proofs.Known.{number_terms, number_terms_count, closed_numbers, closed_more}
+use Rattle.spec_proof_texts.proofs.Known.{number_term, number_terms, numbers_among, closed_numbers, closed_more}
+use Rattle.spec_proof_texts.proofs.ShortNumbers.{short_numbers, short_count, short_there, short_bare}
 use Rattle.spec_proof_texts.proofs.Arguments.{IsDefinedAs, Knows, Holds}
 
--- A signature and entries are those that lines make known, after which so many numbers were printed.
+-- the truth values, and the numbers of few bytes
+abbrev pub spare : ℕ
+spare = 177158
+
+-- A signature and entries are those that lines make known, after which so many long numbers were printed.
 pub record IsKnownAfter (g : Signature) (told : Told) (s : Signature) (entries : List NamedClause) (numbers : ℕ) : Type 0 where
   pub knows : Knows g told s
   pub count : length s ≡ length g + length told.terms
@@ -38,26 +43,29 @@ pub record IsKnownAfter (g : Signature) (told : Told) (s : Signature) (entries :
   pub among : List Term
   pub closed : IsClosed among
   pub holds : Holds g told among
-  pub few : length among ≤ length g + numbers + length told.terms + 2
+  pub few : length among ≤ length (symbols_in g) + numbers + length told.terms + spare
+
+-- the symbols of a signature before no arguments
+abbrev constants : Signature → List Term
+constants g = map constant_term (symbols_in g)
 
 -- the leaves that are known at first
 abbrev leaves : Signature → List Term
-leaves g = of True [] ∷ of False [] ∷ map constant_term (symbols_in g)
+leaves g = of True [] ∷ of False [] ∷ constants g ++ short_numbers
 
 abbrev IsLeaf : Term → Type 0
 IsLeaf t = arguments_of t ≡ []
 
 leaves_bare : (g : Signature) → All IsLeaf (leaves g)
-leaves_bare g = All-cons IsLeaf (of True []) (of False [] ∷ map constant_term (symbols_in g)) refl (All-cons IsLeaf (of False []) (map constant_term (symbols_in g)) refl (All-map IsLeaf constant_term (symbols_in g) (λ k d lt. refl)))
+leaves_bare g =
+    let constants_bare = All-map IsLeaf constant_term (symbols_in g) (λ k d lt. refl) in
+    All-cons IsLeaf (of True []) (of False [] ∷ constants g ++ short_numbers) refl (All-cons IsLeaf (of False []) (constants g ++ short_numbers) refl (All-append IsLeaf (constants g) short_numbers constants_bare short_bare))
 
 leaves_closed : (g : Signature) → IsClosed (leaves g)
 leaves_closed g t h u k = absurd (no_member u (subst (λ us. Contains us u) (All-contains IsLeaf (leaves g) t (leaves_bare g) h) k))
 
-symbols_count : (g : Signature) → length (symbols_in g) ≤ length g
-symbols_count [] = omega arith
-symbols_count (of_sort n s ∷ g) = omega (arith, symbols_count g)
-symbols_count (of_function (declared f) ∷ g) = omega (arith, symbols_count g)
-symbols_count (of_function (by_definition d) ∷ g) = omega (arith, symbols_count g)
+others_there : (g : Signature) (t : Term) → Contains (constants g ++ short_numbers) t → Contains (leaves g) t
+others_there g t c = later (of True []) (of False [] ∷ constants g ++ short_numbers) t (later (of False []) (constants g ++ short_numbers) t c)
 
 -- no term has a name at first
 pub nothing_known : (g : Signature) → AreScriptNames g → IsKnownAfter g nothing_told g [] 0
@@ -71,10 +79,11 @@ nothing_known g own = record {
   closed = leaves_closed g;
   holds = record {
     truths = truth_there;
-    constants = λ f c. later (of True []) (of False [] ∷ map constant_term (symbols_in g)) (constant_term f) (later (of False []) (map constant_term (symbols_in g)) (constant_term f) (to_image constant_term (symbols_in g) f c));
+    constants = λ f c. others_there g (constant_term f) (Contains-append_left (constants g) short_numbers (constant_term f) (to_image constant_term (symbols_in g) f c));
     defined_terms = λ t c. absurd (no_member t c);
+    numbers = λ q d short. others_there g (number_term q) (Contains-append_right (constants g) short_numbers (number_term q) (short_there q d short));
   };
-  few = omega (arith, symbols_count g, length-map (symbols_in g) constant_term);
+  few = omega (arith, length-map (symbols_in g) constant_term, length-append (constants g) short_numbers, short_count);
 }
   where
     none_numbered : {A : Type 0} (n : ℕ) → None ≡ numbered {A = A} [] n
@@ -86,8 +95,8 @@ nothing_known g own = record {
     go (suc n) o e = subst (λ x. IsDefinedAs x None) (sym e) tt
 
     truth_there : (b : Bool) → Contains (leaves g) (truth_term b)
-    truth_there true = first (of True []) (of False [] ∷ map constant_term (symbols_in g))
-    truth_there false = later (of True []) (of False [] ∷ map constant_term (symbols_in g)) (of False []) (first (of False []) (map constant_term (symbols_in g)))
+    truth_there true = first (of True []) (of False [] ∷ constants g ++ short_numbers)
+    truth_there false = later (of True []) (of False [] ∷ constants g ++ short_numbers) (of False []) (first (of False []) (constants g ++ short_numbers))
 
 -- what is found under the next number is what comes next
 pub next_is : {A : Type 0} (p : Name) (xs : List A) (c : A) (n m : ℕ) (o : Option A) → n ≡ length xs + 1 → o ≡ numbered xs m → extended o (bytes_eq (p ++ numeral n) (p ++ numeral m)) c ≡ numbered (xs ++ c ∷ []) m
@@ -119,10 +128,11 @@ module _ (g : Signature) (told : Told) (s : Signature) (entries : List NamedClau
     truths = λ b. Contains-append_left h.among (number_terms items) (truth_term b) (h.holds.truths b);
     constants = λ f c. Contains-append_left h.among (number_terms items) (constant_term f) (h.holds.constants f c);
     defined_terms = λ t c. Contains-append_left h.among (number_terms items) t (h.holds.defined_terms t c);
+    numbers = λ q d short. Contains-append_left h.among (number_terms items) (number_term q) (h.holds.numbers q d short);
   }
 
-  pub numbers_few : (items : List Argument) → length (with_numbers items) ≤ length g + (numbers + numbers_among items) + length told.terms + 2
-  numbers_few items = omega (arith, h.few, length-append h.among (number_terms items), number_terms_count items)
+  pub numbers_few : (items : List Argument) → length (with_numbers items) ≤ length (symbols_in g) + (numbers + numbers_among items) + length told.terms + spare
+  numbers_few items = omega (arith, h.few, length-append h.among (number_terms items))
 
   pub assume_known : (n : ℕ) (a : Argument) (c : Clause) → n ≡ length told.assumes + 1 → IsKnownAfter g (with_assume told c) s (entries ++ entry (assume_name n) c ∷ []) (numbers + numbers_among (a ∷ []))
   assume_known n a c is = record {
@@ -133,7 +143,7 @@ module _ (g : Signature) (told : Told) (s : Signature) (entries : List NamedClau
     steps = λ m. clause_push entries (assume_name n) (step_name m) c ∙ not_extended (clause_of entries (step_name m)) c ∙ h.steps m;
     among = with_numbers (a ∷ []);
     closed = numbers_closed (a ∷ []);
-    holds = let k = numbers_hold (a ∷ []) in record { truths = k.truths; constants = k.constants; defined_terms = k.defined_terms };
+    holds = let k = numbers_hold (a ∷ []) in record { truths = k.truths; constants = k.constants; defined_terms = k.defined_terms; numbers = k.numbers };
     few = numbers_few (a ∷ []);
   }
 
@@ -146,7 +156,7 @@ module _ (g : Signature) (told : Told) (s : Signature) (entries : List NamedClau
     steps = λ m. clause_push entries (step_name n) (step_name m) c ∙ next_is (codes "t") told.steps c n m (clause_of entries (step_name m)) is (h.steps m);
     among = with_numbers items;
     closed = numbers_closed items;
-    holds = let k = numbers_hold items in record { truths = k.truths; constants = k.constants; defined_terms = k.defined_terms };
+    holds = let k = numbers_hold items in record { truths = k.truths; constants = k.constants; defined_terms = k.defined_terms; numbers = k.numbers };
     few = numbers_few items;
   }
 
@@ -170,6 +180,7 @@ module _ (g : Signature) (told : Told) (s : Signature) (entries : List NamedClau
       truths = λ b. Contains-append_left (with_numbers items) (t ∷ []) (truth_term b) ((numbers_hold items).truths b);
       constants = λ f c. Contains-append_left (with_numbers items) (t ∷ []) (constant_term f) ((numbers_hold items).constants f c);
       defined_terms = λ u c. defined_more u (Contains-push_cases told.terms t u c);
+      numbers = λ q d short. Contains-append_left (with_numbers items) (t ∷ []) (number_term q) ((numbers_hold items).numbers q d short);
     };
     few = omega (arith, numbers_few items, length-append (with_numbers items) (t ∷ []), length-append told.terms (t ∷ []));
   }

@@ -21,7 +21,7 @@ use Rattle.spec_text.proofs.AnswerLaws.{answer, went}
 use Rattle.spec_text.proofs.ShapeLaws.{Holds, holds_in_turn}
 use Rattle.spec_sorts.specs.Terms.{Sort, Truth, Number, Declared, same_sort, sort_of}
 use Rattle.spec_sorts.specs.Theory.{look_up}
-use Rattle.spec_sorts.specs.Signatures.{Definition, Declaration, of_sort, of_function, declared, Signature, sort_as, is_some, definition}
+use Rattle.spec_sorts.specs.Signatures.{Definition, Declaration, of_sort, of_function, declared, Signature, sort_as, is_some, symbols_in, definition}
 use Rattle.spec_sorts.specs.Signatures as signatures
 use Rattle.spec_sorts.specs.Forms.{is_name, are_named}
 use Rattle.spec_reading.specs.Names.{Setting, script, new_name, is_sort, is_function}
@@ -39,7 +39,7 @@ use Rattle.spec_models.specs.Values.{IsName}
 use Rattle.spec_models.specs.Meaning.{IsSortIn}
 use Rattle.spec_proof_texts.specs.ReadBack.{AreScriptNames}
 use Rattle.spec_proof_texts.proofs.Weights.{weight, weight_all}
-use Rattle.spec_proof_texts.proofs.Made.{IsScriptName, fresh_name, function_name, definition_named, symbol_named, sort_in_more, sort_push_sort, sort_named_new, nothing_named, text_named, text_few}
+use Rattle.spec_proof_texts.proofs.Made.{IsScriptName, symbols_push, symbols_same, fresh_name, function_name, definition_named, symbol_named, sort_in_more, sort_push_sort, sort_named_new, nothing_named, text_named, text_few}
 use Rattle.spec_proof_texts.proofs.Lookups.{extended}
 
 -- a symbol's name can be printed
@@ -105,7 +105,7 @@ IsNewName x = IsWord x.kind x.bytes × (is_name x.kind ≡ true)
 abbrev Prints : ℕ → Command → Type 0
 Prints size (DeclareSort x) = IsNewName x × (5 ≤ size)
 Prints size (DefineSort x t) = 5 ≤ size
-Prints size (DeclareFun x ts t) = IsNewName x × (5 ≤ size)
+Prints size (DeclareFun x ts t) = IsNewName x × (11 ≤ size)
 Prints size (DefineFun d) = weight d.body + 5 ≤ size
 Prints size (Assert t) = weight t ≤ size
 Prints size c = Unit {0}
@@ -114,8 +114,8 @@ Prints size c = Unit {0}
 abbrev least : Verb → ℕ
 least declares_sort = 5
 least defines_sort = 5
-least declares_const = 5
-least declares_fun = 5
+least declares_const = 11
+least declares_fun = 11
 least defines_fun = 5
 least v = 0
 
@@ -142,15 +142,15 @@ unfolding define_sort
 defined_sort_prints us =
     in_turn (Prints (weight_all us + 5)) (first_name us) _ λ x. in_turn (Prints (weight_all us + 5)) (first_list x.1) _ λ ps. in_turn (Prints (weight_all us + 5)) (no_tree ps.0) _ λ none_there. in_turn (Prints (weight_all us + 5)) (only_tree ps.1) _ λ sort. omega arith
 
-constant_prints : (us : Trees) → HaveWords us → Holds (Prints (weight_all us + 5)) (declare_const us)
+constant_prints : (us : Trees) → HaveWords us → Holds (Prints (weight_all us + 11)) (declare_const us)
 unfolding declare_const
 constant_prints us h =
-    holds_in_turn (NameFits (weight_all us)) (Prints (weight_all us + 5)) (first_name us) _ (name_fits us h) λ x k. in_turn (Prints (weight_all us + 5)) (only_tree x.1) _ λ sort. ((k.word, k.name), omega arith)
+    holds_in_turn (NameFits (weight_all us)) (Prints (weight_all us + 11)) (first_name us) _ (name_fits us h) λ x k. in_turn (Prints (weight_all us + 11)) (only_tree x.1) _ λ sort. ((k.word, k.name), omega arith)
 
-function_prints : (us : Trees) → HaveWords us → Holds (Prints (weight_all us + 5)) (declare_fun us)
+function_prints : (us : Trees) → HaveWords us → Holds (Prints (weight_all us + 11)) (declare_fun us)
 unfolding declare_fun
 function_prints us h =
-    holds_in_turn (NameFits (weight_all us)) (Prints (weight_all us + 5)) (first_name us) _ (name_fits us h) λ x k. in_turn (Prints (weight_all us + 5)) (first_list x.1) _ λ ps. in_turn (Prints (weight_all us + 5)) (only_tree ps.1) _ λ sort. ((k.word, k.name), omega arith)
+    holds_in_turn (NameFits (weight_all us)) (Prints (weight_all us + 11)) (first_name us) _ (name_fits us h) λ x k. in_turn (Prints (weight_all us + 11)) (first_list x.1) _ λ ps. in_turn (Prints (weight_all us + 11)) (only_tree ps.1) _ λ sort. ((k.word, k.name), omega arith)
 
 definition_prints : (us : Trees) → HaveWords us → Holds (Prints (weight_all us + 5)) (define_fun us)
 unfolding define_fun
@@ -275,26 +275,33 @@ sorts_are g (more t ts) ss h e =
 pub record IsNamed (size : ℕ) (g : Signature) : Type 0 where
   pub names : AreScriptNames g
   pub few : 5 * length g ≤ size
+  -- a symbol takes a longer keyword than other names
+  pub symbols : 11 * length (symbols_in g) ≤ size
 
 -- and so it is up to each level
 abbrev pub Named : ℕ → Property
 Named size g assertions = IsNamed size g
 
 more_named : (size extra : ℕ) (g : Signature) → IsNamed size g → IsNamed (size + extra) g
-more_named size extra g h = record { names = h.names; few = omega (arith, h.few) }
+more_named size extra g h = record { names = h.names; few = omega (arith, h.few); symbols = omega (arith, h.symbols) }
 
 pub each_more_named : (size extra : ℕ) (s : Stack) → AtEachLevel (Named size) s → AtEachLevel (Named (size + extra)) s
 each_more_named size extra s h = each_weaker (Named size) (Named (size + extra)) (λ g assertions k. more_named size extra g k) s h
 
 -- a declaration more
-one_more : (size extra : ℕ) (g : Signature) (d : Declaration) → 5 ≤ extra → AreScriptNames (g ++ d ∷ []) → IsNamed size g → IsNamed (size + extra) (g ++ d ∷ [])
-one_more size extra g d some names h = record { names = names; few = omega (arith, h.few, some, length-append g (d ∷ [])) }
+one_more : (size extra : ℕ) (g : Signature) (d : Declaration) → 5 ≤ extra → 11 * length (symbols_in (d ∷ [])) ≤ extra → AreScriptNames (g ++ d ∷ []) → IsNamed size g → IsNamed (size + extra) (g ++ d ∷ [])
+one_more size extra g d some long names h = record {
+  names = names;
+  few = omega (arith, h.few, some, length-append g (d ∷ []));
+  symbols = omega (arith, h.symbols, long, ap length (symbols_push g d), length-append (symbols_in g) (symbols_in (d ∷ [])));
+}
 
 -- definitions more
 several_more : (size extra : ℕ) (g : Signature) (ds : List Definition) → 5 * length ds ≤ extra → AreScriptNames (signatures.with_definitions g ds) → IsNamed size g → IsNamed (size + extra) (signatures.with_definitions g ds)
 several_more size extra g ds few names h = record {
   names = names;
   few = omega (arith, h.few, few, length-append g (map definition ds), length-map ds definition);
+  symbols = omega (arith, h.symbols, ap length (symbols_same g ds));
 }
 
 -- the name that a command declares
@@ -352,11 +359,11 @@ module _ (limit size extra : ℕ) where
   -- each command adds such names
   command_named : (parts : ℕ) → parts ≤ extra → (c : Command) → Prints parts c → IsCarried limit (Named size) (Named (size + extra)) c
   command_named parts le (DeclareSort x) p = λ g assertions n e h.
-      one_more size extra g (of_sort n (Declared n)) (omega (arith, p.1, le)) (sort_named_new g n (Declared n) (declared_sort g n (name_of (is_sort g) x n p.0 e) (not_taken script (is_sort g) x n e)) h.names) h
+      one_more size extra g (of_sort n (Declared n)) (omega (arith, p.1, le)) (omega arith) (sort_named_new g n (Declared n) (declared_sort g n (name_of (is_sort g) x n p.0 e) (not_taken script (is_sort g) x n e)) h.names) h
   command_named parts le (DefineSort x t) p = λ g assertions n sort e f h.
-      one_more size extra g (of_sort n sort) (omega (arith, p, le)) (sort_named_new g n sort (sort_in_more g (of_sort n sort ∷ []) sort (sort_is g t sort h.names f)) h.names) h
+      one_more size extra g (of_sort n sort) (omega (arith, p, le)) (omega arith) (sort_named_new g n sort (sort_in_more g (of_sort n sort ∷ []) sort (sort_is g t sort h.names f)) h.names) h
   command_named parts le (DeclareFun x ts t) p = λ g assertions f e is_parameters is_result h.
-      one_more size extra g (of_function (declared f)) (omega (arith, p.1, le))
+      one_more size extra g (of_function (declared f)) (omega (arith, p.1, le)) (omega (arith, p.1, le))
       (symbol_named g f (function_name script g (is_function g) x f.name refl e (not_taken script (is_function g) x f.name e)) (unknown g f.name (not_taken script (is_function g) x f.name e)) (record { name = name_of (is_function g) x f.name p.0 e; parameters = sorts_are g ts f.parameters h.names is_parameters; result = sort_is g t f.result h.names is_result }) h.names) h
   command_named parts le (DefineFun q) p = λ g assertions ds e h.
       several_more size extra g ds (omega (arith, (definitions_both g q ds e).1, p, le)) ((definitions_both g q ds e).0 h.names) h
@@ -366,7 +373,7 @@ module _ (limit size extra : ℕ) where
 
 -- nothing is declared at first
 none_named : (size : ℕ) → IsNamed size []
-none_named size = record { names = nothing_named; few = omega arith }
+none_named size = record { names = nothing_named; few = omega arith; symbols = omega arith }
 
 pub empty_named : AtEachLevel (Named 0) empty_stack
 empty_named = each_empty (Named 0) (none_named 0)

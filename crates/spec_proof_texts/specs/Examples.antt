@@ -15,7 +15,6 @@ use Rattle.spec_proof_texts.specs.Lines.{Line, truth, symbol, defined, assumed, 
 use Rattle.spec_proof_texts.specs.Lines.{proof_text}
 use Rattle.spec_proof_texts.specs.Meaning.{Told}
 use Rattle.spec_proof_texts.specs.Plans.{Plan, lines_of, counted, counted_inferences}
-use Rattle.spec_proof_texts.specs.ReadBack.{numerals_in}
 
 -- the proof of `contradiction`: p and its negation are assumed
 abbrev pub refutation : List Line
@@ -147,8 +146,3 @@ pub numbers_in_place : printed_all
     ∷ []))) ≡ codes "0 12 0.025 (/ 1 3) (/ (- 1) 2)"
 unfolding numeral places has_decimal literal_text
 numbers_in_place = refl
-
--- one with a decimal is one word that is a number, and a quotient has two
-pub numerals_in_place : numerals_in (trees_of (map literal_tree (over 1 40 ∷ over 1 3 ∷ []))) ≡ 3
-unfolding places has_decimal
-numerals_in_place = refl

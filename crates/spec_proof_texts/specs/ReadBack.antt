@@ -1,9 +1,6 @@
 -- What is read back of a printed proof, and the names of a script under which it is.
-use Rattle.std.specs.Prelude.{◌≡◌, ℕ, suc, ◌+◌, true, List, [], ◌∷◌, All, Contains, Some, None}
-use Rattle.spec_text.specs.declared.Kind.{Kind}
-use Rattle.spec_text.specs.declared.Kind.TheVariants.{Numeral, Decimal}
+use Rattle.std.specs.Prelude.{◌≡◌, true, List, [], All, Contains, Some, None}
 use Rattle.spec_text.specs.Bytes.{Name}
-use Rattle.spec_text.specs.Trees.{Tree, Trees, atom, list, none, more}
 use Rattle.spec_sorts.specs.Terms.{Sort, Declared, Symbol, Head, Apply, Term}
 use Rattle.spec_sorts.specs.Theory.{is_of_theory}
 use Rattle.spec_sorts.specs.Signatures.{declared, Signature, known_as, sort_as, symbols_in}
@@ -14,7 +11,7 @@ use Rattle.spec_checking.specs.Commands.{Known}
 use Rattle.spec_models.specs.Values.{IsName}
 use Rattle.spec_models.specs.Meaning.{IsSortIn, IsSymbolIn}
 use Rattle.spec_proof_texts.specs.Meaning.{AreSpelled}
-use Rattle.spec_proof_texts.specs.Lines.{Argument, number, symbol, DefinitionLine, Line, defines, assumes, steps}
+use Rattle.spec_proof_texts.specs.Lines.{Argument, symbol, DefinitionLine, Line, defines, assumes, steps}
 
 -- a sort whose name can be written
 abbrev pub IsWritableSort : Sort → Type 0
@@ -62,44 +59,6 @@ pub record AreScriptNames (g : Signature) : Type 0 where
 -- the names of a stack are such names, up to each level
 abbrev pub HaveScriptNames : Stack → Type 0
 HaveScriptNames s = AtEachLevel (λ g assertions. AreScriptNames g) s
-
--- how many of the lines are definitions
-abbrev pub definitions_in : List Line → ℕ
-definitions_in [] = 0
-definitions_in (defines d ∷ lines) = suc (definitions_in lines)
-definitions_in (assumes n a ∷ lines) = definitions_in lines
-definitions_in (steps s ∷ lines) = definitions_in lines
-
--- how many of the arguments are numbers
-abbrev pub numbers_among : List Argument → ℕ
-numbers_among [] = 0
-numbers_among (number q ∷ items) = suc (numbers_among items)
-numbers_among (a ∷ items) = numbers_among items
-
--- how many numbers are printed in lines
-abbrev pub numbers_in : List Line → ℕ
-numbers_in [] = 0
-numbers_in (defines d ∷ lines) = numbers_among d.arguments + numbers_in lines
-numbers_in (assumes n a ∷ lines) = numbers_among (a ∷ []) + numbers_in lines
-numbers_in (steps s ∷ lines) = numbers_among s.literals + numbers_in lines
-
--- how many numbers a word is: a numeral and a decimal are one each, and any other word is none
-abbrev pub numerals_by : Kind → ℕ
-numerals_by Numeral = 1
-numerals_by Decimal = 1
-numerals_by k = 0
-
--- how many numbers are in what is read: each numeral and each decimal counts, as often as it is there
-abbrev mutual
-  -- in a tree
-  pub numerals_of : Tree → ℕ
-  numerals_of (atom at k n) = numerals_by k
-  numerals_of (list at ts end) = numerals_in ts
-
-  -- in trees, one after the other
-  pub numerals_in : Trees → ℕ
-  numerals_in none = 0
-  numerals_in (more t ts) = numerals_of t + numerals_in ts
 
 -- what is known before a proof under a signature, where terms are asserted
 abbrev pub known_before : Signature → List Term → Known

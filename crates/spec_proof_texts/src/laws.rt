@@ -1,6 +1,6 @@
 //! What the definitions imply. Each law is a function whose contract is the law; it computes nothing.
 
-ghost use Rattle.std.specs.Prelude.{◌≡◌, ℕ, ◌+◌, ◌*◌, ◌≤◌, ◌^◌, true, false, List, [], ◌∷◌, ◌++◌, length, map, All, Some, None, Ok, codes};
+ghost use Rattle.std.specs.Prelude.{◌≡◌, ℕ, ◌+◌, ◌*◌, ◌≤◌, true, false, List, [], ◌∷◌, ◌++◌, length, map, All, Some, None, Ok, codes};
 ghost use Rattle.spec_text.specs.Bytes.{is_digit};
 ghost use Rattle.spec_text.specs.Lexicon.{Consists, IsNumeral};
 ghost use Rattle.spec_text.specs.Lexemes.{Lexeme, lexemes_from};
@@ -25,7 +25,6 @@ ghost use Rattle.spec_proof_texts.specs.Meaning.{AreGiven, AreRightLines};
 ghost use Rattle.spec_proof_texts.specs.Plans.{Plan, lines_of, IsPlan};
 ghost use Rattle.spec_proof_texts.specs.Printable.{IsPrintable, ArePrintable, AllConcludeOver, IsReadable};
 ghost use Rattle.spec_proof_texts.specs.ReadBack.{IsWritableLine, AreScriptNames, HaveScriptNames, known_before};
-ghost use Rattle.spec_proof_texts.specs.ReadBack.{definitions_in, numbers_in, numerals_in};
 
 /// States that the lines of an inference that is derived from terms and has the empty clause are a proof from these
 /// terms.
@@ -64,25 +63,19 @@ pub fn printed_proofs_are_read()
         × SameTrees (trees_of (map line_tree lines)) commands }
 {}
 
-/// States that each number that is printed is in the text, as a numeral or a decimal at the least. So the text has
-/// no fewer of these than numbers are printed in its lines.
-pub fn printed_numbers_are_numerals()
-    ensures writable { (lines : List Line) (commands : Trees) → All IsWritableLine lines
-        → IsWholeText (proof_text lines) commands → numbers_in lines ≤ numerals_in commands }
-    ensures right { (g : Signature) (asserted : List Term) (lines : List Line) (commands : Trees) → AreScriptNames g
-        → AreRightLines g asserted lines → IsWholeText (proof_text lines) commands
-        → numbers_in lines ≤ numerals_in commands }
-{}
-
 /// States that lines which are right under the names of a script are read back, the whole of their text, as good
-/// commands. So it is within a limit where there is room for the names, the numbers and what is defined, all together.
+/// commands. A definition has 23 bytes or more. A number of more than five bytes takes seven, with the blank before it;
+/// shorter ones and the truth values are at most 177,158. So the commands are within a limit with room for the names: the
+/// script's, and one for each 23 bytes of the text. It also has room for the terms: the script's symbols, those 177,158,
+/// and one for each seven bytes.
 pub fn right_lines_are_good()
     ensures commands { (g : Signature) (asserted : List Term) (lines : List Line) → AreScriptNames g
         → AreRightLines g asserted lines
         → (commands : Trees) × IsWholeText (proof_text lines) commands
         × AreGood None (known_before g asserted) commands }
     ensures within { (limit : ℕ) (g : Signature) (asserted : List Term) (lines : List Line) → AreScriptNames g
-        → AreRightLines g asserted lines → length g + numbers_in lines + definitions_in lines + 2 ≤ limit
+        → AreRightLines g asserted lines → 23 * length g + length (proof_text lines) ≤ 23 * limit
+        → 7 * (length (symbols_in g) + 177158) + length (proof_text lines) ≤ 7 * limit
         → (commands : Trees) × IsWholeText (proof_text lines) commands
         × AreGood (Some limit) (known_before g asserted) commands }
 {}
@@ -96,13 +89,15 @@ pub fn commands_leave_script_names()
         → HaveScriptNames d.stack }
 {}
 
-/// States that the names at a check of a script can be printed, and that they are no more than a fifth of the bytes that
-/// may be read.
+/// States that the names at a check of a script can be printed. They are no more than a fifth of the bytes that may be
+/// read, and declared symbols no more than an eleventh, by the keywords that make them.
 pub fn checks_have_script_names()
     ensures names { (limit : ℕ) (script : List ℕ) (k : ℕ) (c : Check) → IsCurrent limit script k c
         → AreScriptNames (signature_of c.stack) }
     ensures few { (limit : ℕ) (script : List ℕ) (k : ℕ) (c : Check) → IsCurrent limit script k c
         → 5 * length (signature_of c.stack) ≤ text_limit }
+    ensures symbols { (limit : ℕ) (script : List ℕ) (k : ℕ) (c : Check) → IsCurrent limit script k c
+        → 11 * length (symbols_in (signature_of c.stack)) ≤ text_limit }
 {}
 
 /// States that lines which are right under what is current at a check of a script, whatever the limit on terms is, are a
@@ -118,15 +113,15 @@ pub fn printed_proofs_are_good()
     checks_have_script_names();
 }
 
-/// States that such lines are an accepted proof of the check, alone and after the answer `unsat`. The text is no longer
-/// than it may be, and no more than 2^18 numbers are printed in it. Then there is room for all names and terms.
+/// States that such lines are an accepted proof of the check, alone and after the answer `unsat`, where the text is no
+/// longer than it may be. Then there is room for all names and terms.
 pub fn printed_proofs_are_accepted()
     ensures alone { (script : List ℕ) (k : ℕ) (c : Check) (lines : List Line) → IsCurrent term_limit script k c
         → AreRightLines (signature_of c.stack) (terms_asserted (asked c)) lines
-        → is_long (proof_text lines) ≡ false → numbers_in lines ≤ 2 ^ 18 → IsAccepted script k (proof_text lines) }
+        → is_long (proof_text lines) ≡ false → IsAccepted script k (proof_text lines) }
     ensures answered { (script : List ℕ) (k : ℕ) (c : Check) (lines : List Line) → IsCurrent term_limit script k c
         → AreRightLines (signature_of c.stack) (terms_asserted (asked c)) lines
-        → is_long (codes "unsat\n" ++ proof_text lines) ≡ false → numbers_in lines ≤ 2 ^ 18
+        → is_long (codes "unsat\n" ++ proof_text lines) ≡ false
         → IsAccepted script k (codes "unsat\n" ++ proof_text lines) }
 {
     checks_have_script_names();

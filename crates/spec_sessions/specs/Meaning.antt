@@ -1,6 +1,6 @@
 -- What the answers of checks mean. Source: SMT-LIB 2.6, section 4.2.5; that the text of a proof, or of a model, means
 -- so much is own.
-use Rattle.std.specs.Prelude.{◌≡◌, ◌≤◌, ◌^◌, ℕ, suc, false, List, [], ◌∷◌, ◌++◌, None, All}
+use Rattle.std.specs.Prelude.{◌≡◌, ℕ, suc, false, List, [], ◌∷◌, ◌++◌, None, All}
 use Rattle.spec_text.specs.Readings.{is_long}
 use Rattle.spec_text.specs.Trees.{Trees, list, none, more, IsRead}
 use Rattle.spec_sorts.specs.Values.{Interpretation, Interprets}
@@ -16,7 +16,7 @@ use Rattle.spec_models.specs.Meaning.{DefineAll}
 use Rattle.spec_checking.specs.Commands.{known_at}
 use Rattle.spec_checking.specs.Good.{AreGood, IsGood}
 use Rattle.spec_checking.specs.Accepted.{IsAccepted}
-use Rattle.spec_proof_texts.specs.ReadBack.{HaveScriptNames, numerals_in}
+use Rattle.spec_proof_texts.specs.ReadBack.{HaveScriptNames}
 use Rattle.spec_sessions.specs.Evidence.{Limits, Found, model, proof, spent, overflowed, out_of_pivots, Checked}
 use Rattle.spec_sessions.specs.Evidence.{IsModelOf, Justifies}
 
@@ -63,23 +63,16 @@ MeansAt c (spent n d learned) = Unit {0}
 MeansAt c (overflowed o kept) = Unit {0}
 MeansAt c (out_of_pivots n kept) = Unit {0}
 
--- the text of a proof has no more than 2^18 numerals and decimals, so that there is room for all that it names; a text
--- without numbers has none
-abbrev pub HasFewNumerals : List ℕ → Type 0
-HasFewNumerals p = (commands : Trees) × IsWholeText p commands × (numerals_in commands ≤ 2 ^ 18)
-
 -- What the text of a proof means of the k-th check of a text that is run under a limit on terms and names.
 pub record ProofMeans (limit : ℕ) (text : List ℕ) (k : ℕ) (p : List ℕ) : Type 0 where
   -- no interpretation makes true what is asked there, however long the proof is
   pub no_model : HasNoModel limit text k
   -- it is good of that check, whatever the limits of the checker are
   pub good : IsGood limit text k p
-  -- it is accepted of that check, if it is no longer than a text may be and has few numbers, and the limit is that of
-  -- the checker
-  pub accepted : limit ≡ term_limit → is_long p ≡ false → HasFewNumerals p → IsAccepted text k p
+  -- it is accepted of that check, if it is no longer than a text may be and the limit is that of the checker
+  pub accepted : limit ≡ term_limit → is_long p ≡ false → IsAccepted text k p
   -- so it is after the line of the answer
-  pub answered : limit ≡ term_limit → is_long (word_line Unsat ++ p) ≡ false → HasFewNumerals p
-      → IsAccepted text k (word_line Unsat ++ p)
+  pub answered : limit ≡ term_limit → is_long (word_line Unsat ++ p) ≡ false → IsAccepted text k (word_line Unsat ++ p)
 
 -- what was found means this of the k-th check of a text
 abbrev pub FindingMeans : Limits → (text : List ℕ) → ℕ → Check → Found → Type 0

@@ -21,9 +21,9 @@ pub fn transcripts_need_a_prefix_alone()
 /// States what the answer of a check means. Take a check of what commands left, with names that can be printed. A model
 /// makes true what is asked, and so does each interpretation with the values that its printed text defines. Where there
 /// is a proof, no interpretation does, however long it is; and its text is a good proof of what is current there,
-/// whatever the limits of the checker are. Of a check of a text it means the same. There a proof is accepted if its text
-/// is not too long and has no more than 2^18 numerals and decimals, where the limit on terms is that of the checker.
-/// That a check was given up means nothing of what it asks.
+/// whatever the limits of the checker are. Of a check of a text it means the same. There a proof is accepted if it is
+/// not too long, where the limit on terms is that of the checker. That a check was given up means nothing of what it
+/// asks.
 pub fn what_is_shown_is_so()
     ensures at { (limits : Limits) (c : Check) (f : Found) → IsKeptCheck limits.terms c → Justifies limits c f
         → MeansAt c f }
@@ -39,7 +39,6 @@ pub fn what_is_shown_is_so()
     spec_proof_texts::laws::checks_have_script_names();
     spec_proof_texts::laws::planned_lines_are_right();
     spec_proof_texts::laws::right_lines_are_good();
-    spec_proof_texts::laws::printed_numbers_are_numerals();
     spec_proof_texts::laws::printed_proofs_are_good();
     spec_proof_texts::laws::printed_proofs_are_accepted();
 }

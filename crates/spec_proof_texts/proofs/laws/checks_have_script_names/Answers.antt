@@ -22,3 +22,7 @@ returns-clause-names c = λ limit script k check current. (named limit script k 
 pub returns-clause-few : goal.returns-clause-few
 returns-clause-few c = λ limit script k check current.
     omega (arith, (named limit script k check current).few, front_weight (kept script) current.commands current.read.rest current.read.trees.split, length-take text_limit script)
+
+pub returns-clause-symbols : goal.returns-clause-symbols
+returns-clause-symbols c = λ limit script k check current.
+    omega (arith, (named limit script k check current).symbols, front_weight (kept script) current.commands current.read.rest current.read.trees.split, length-take text_limit script)

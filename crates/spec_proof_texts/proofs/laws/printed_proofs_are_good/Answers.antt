@@ -21,7 +21,7 @@ good_at limit script k c current own lines right text at read = record {
   current = current;
   commands = commands_at at lines;
   read = read;
-  good = all_good None (signature_of c.stack) (terms_asserted (asked c)) own lines (at + 1 + 1) right tt;
+  good = all_good None (signature_of c.stack) (terms_asserted (asked c)) own lines (at + 1 + 1) right tt tt;
 }
 
 pub returns-clause-alone : goal.returns-clause-alone

@@ -1,5 +1,5 @@
 -- That what is shown is so.
-use Rattle.std.proofs.Common.{◌≡◌, ◌≤◌, ◌^◌, ℕ, List, [], ◌++◌, All, None, get_or, refl, sym, ap, ◌∙◌, subst, arith}
+use Rattle.std.proofs.Common.{◌≡◌, ℕ, List, [], ◌++◌, All, None, get_or, refl, sym, ap, ◌∙◌, subst}
 use Rattle.std.proofs.lemmas.List.Elements.{All-nil, All-map, Contains-get_or}
 use Rattle.spec_sorts.specs.Values.{is_true, Interpretation}
 use Rattle.spec_sorts.specs.WellSorted.{IsFormulaOver}
@@ -24,10 +24,10 @@ use Rattle.spec_models.specs.Replies.{word_line}
 use Rattle.spec_models.specs.Meaning.{IsSymbolIn}
 use Rattle.spec_proof_texts.specs.Lines.{proof_text}
 use Rattle.spec_proof_texts.specs.Meaning.{AreRightLines}
-use Rattle.spec_proof_texts.specs.ReadBack.{AreScriptNames, numbers_in}
+use Rattle.spec_proof_texts.specs.ReadBack.{AreScriptNames}
 use Rattle.spec_sessions.specs.Evidence.{Limits, Found, model, proof, spent, overflowed, out_of_pivots, IsModelOf, Justifies}
 use Rattle.spec_sessions.specs.Refutations.{IsProofOf, lines_in}
-use Rattle.spec_sessions.specs.Meaning.{ModelMeans, RefutationMeans, MeansAt, HasFewNumerals, ProofMeans, FindingMeans}
+use Rattle.spec_sessions.specs.Meaning.{ModelMeans, RefutationMeans, MeansAt, ProofMeans, FindingMeans}
 use Rattle.spec_sessions.proofs.laws.what_is_shown_is_so.Goals as goal
 
 -- the text of each expression has its term's value
@@ -54,12 +54,6 @@ module _ (c : goal.After-printed_proofs_are_accepted) where
     right : (p : List ℕ) (h : IsProofOf x p) → AreRightLines g (terms_asserted (asked x)) (lines_in x p h)
     right p h =
         c.planned_lines_are_right.ensures g h.terms (terms_asserted (asked x)) h.derivation h.number h.plan h.printable h.over h.right h.derived h.empty h.planned
-
-    -- where the text has few numbers, few are printed
-    few_printed : (p : List ℕ) (h : IsProofOf x p) → HasFewNumerals p → numbers_in (lines_in x p h) ≤ 2 ^ 18
-    few_printed p h (commands, whole, few) =
-        let whole_now = subst (λ (q : List ℕ). IsWholeText q commands) h.written whole in
-        omega (arith, few, c.printed_numbers_are_numerals.ensures.right g (terms_asserted (asked x)) (lines_in x p h) commands names (right p h) whole_now)
 
     proof_at : (p : List ℕ) → IsProofOf x p → (i : Interpretation) → IsModelOf x i → ⊥
     proof_at p h i m =
@@ -116,14 +110,14 @@ module _ (c : goal.After-printed_proofs_are_accepted) where
       of_proof p h = record {
         no_model = λ i m. proof_at p h i (is_model i m);
         good = subst (IsGood limit text k) (sym h.written) (c.printed_proofs_are_good.ensures.alone limit text k x (lines_in x p h) current (right p h));
-        accepted = λ e short few.
+        accepted = λ e short.
             let here = subst (λ n. IsCurrent n text k x) e current in
-            let accepted = c.printed_proofs_are_accepted.ensures.alone text k x (lines_in x p h) here (right p h) (sym (ap is_long h.written) ∙ short) (few_printed p h few) in
+            let accepted = c.printed_proofs_are_accepted.ensures.alone text k x (lines_in x p h) here (right p h) (sym (ap is_long h.written) ∙ short) in
             subst (IsAccepted text k) (sym h.written) accepted;
-        answered = λ e short few.
+        answered = λ e short.
             let here = subst (λ n. IsCurrent n text k x) e current in
             let whole : word_line Unsat ++ p ≡ word_line Unsat ++ proof_text (lines_in x p h) = ap (λ q. word_line Unsat ++ q) h.written in
-            let accepted = c.printed_proofs_are_accepted.ensures.answered text k x (lines_in x p h) here (right p h) (sym (ap is_long whole) ∙ short) (few_printed p h few) in
+            let accepted = c.printed_proofs_are_accepted.ensures.answered text k x (lines_in x p h) here (right p h) (sym (ap is_long whole) ∙ short) in
             subst (IsAccepted text k) (sym whole) accepted;
       }
 
