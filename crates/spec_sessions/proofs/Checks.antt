@@ -1,16 +1,19 @@
 -- That the checks that are answered are those of the script.
-use Rattle.std.proofs.Common.{◌≡◌, ℕ, suc, Bool, List, [], ◌∷◌, ◌++◌, length, ◌+◌, Option, Some, refl, sym, ap, ◌∙◌, subst, arith}
+use Rattle.std.proofs.Common.{◌≡◌, ℕ, suc, Bool, List, [], ◌∷◌, ◌++◌, length, ◌+◌, Option, Some, None, refl, sym, ap, ◌∙◌, subst, arith}
 use Rattle.std.specs.Prelude.{Ok, Err}
 use Rattle.spec_text.specs.Answers.{Answer}
-use Rattle.spec_text.specs.Trees.{Trees, none, more}
+use Rattle.spec_text.specs.Trees.{Tree, Trees, none, more, offset_of}
 use Rattle.spec_commands.specs.Commands.{command_of}
 use Rattle.spec_commands.specs.Stack.{Stack, Effect, done, unsupported, check, say, leave, Taken, step}
 use Rattle.spec_commands.specs.Checks.{Check, after_effect, after_command, current_at}
 use Rattle.spec_sessions.specs.Evidence.{Limits, Checked, Justifies}
 use Rattle.spec_sessions.specs.States.{State, states_nothing}
-use Rattle.spec_sessions.specs.Responses.{Response, state_after, Answered, AnswersBy, Responds}
+use Rattle.spec_sessions.specs.Questions.{Question, question_of}
+use Rattle.spec_sessions.specs.Replies.{Reply, says, not_known}
+use Rattle.spec_sessions.specs.Responses.{Response, state_after, Answered, AnswersBy, Responds, response_of, answer_to, AnswersTree}
 use Rattle.spec_sessions.specs.Transcripts.{Follows, Begins, with_check, checks_in}
 use Rattle.spec_sessions.specs.Meaning.{AnswerSays, AllSay}
+use Rattle.spec_sessions.proofs.NoCommands.{question_is_no_command}
 
 -- nothing has no part
 no_part : (before : List Checked) (c : Checked) (after : List Checked) → [] ≡ before ++ c ∷ after → ⊥
@@ -57,13 +60,30 @@ module _ (limits : Limits) where
         subst (λ x. Follows x (Begins limits a.state ts) given → with_check x (checks_in given) ≡ before ++ c ∷ after → Is s.stack (suc (length before)) ts c) (sym is)
         (subst (λ n. Begins limits n ts given → checks_in given ≡ before ++ c ∷ after → Is s.stack (suc (length before)) ts c) (sym same) (λ runs e. rest s given runs before c after e))
 
+    -- after a question all else is as before it
+    at_reply : (x : Answer Reply) (s : State) (before : List Checked) (c : Checked) (after : List Checked) → Follows (response_of x) (Begins limits s ts) given → with_check (response_of x) (checks_in given) ≡ before ++ c ∷ after → Is s.stack (suc (length before)) ts c
+    at_reply (Ok (says lines)) s before c after runs e = rest s given runs before c after e
+    at_reply (Ok not_known) s before c after runs e = rest s given runs before c after e
+    at_reply (Err f) s before c after runs e = rest s given runs before c after e
+
+    -- by what a tree is
+    at_tree : (s : State) (t : Tree) (asked : Option (Answer Question)) → question_of t ≡ asked → (a : Answered) → AnswersTree limits s t asked a → (before : List Checked) (c : Checked) (after : List Checked) → Follows a.response (Begins limits a.state ts) given → with_check a.response (checks_in given) ≡ before ++ c ∷ after
+        → (after_command s.stack (suc (length before)) (step limits.terms s.stack t) (λ next n. current_at limits.terms next n ts) ≡ Some c.check) × Justifies limits c.check c.found
+    at_tree s t None is a answers before c after = at_command s (states_nothing (command_of t)) (step limits.terms s.stack t) a answers before c after
+    at_tree s t (Some asked) is a (response, same) before c after =
+        let x = answer_to limits s (offset_of t) asked in
+        let no = question_is_no_command limits.terms s.stack t asked is in
+        subst (λ (o : Answer Taken). Follows a.response (Begins limits a.state ts) given → with_check a.response (checks_in given) ≡ before ++ c ∷ after → (after_command s.stack (suc (length before)) o (λ next n. current_at limits.terms next n ts) ≡ Some c.check) × Justifies limits c.check c.found) (sym no.1)
+        (subst (λ r. Follows r (Begins limits a.state ts) given → with_check r (checks_in given) ≡ before ++ c ∷ after → Is s.stack (suc (length before)) ts c) (sym response)
+        (subst (λ m. Follows (response_of x) (Begins limits m ts) given → with_check (response_of x) (checks_in given) ≡ before ++ c ∷ after → Is s.stack (suc (length before)) ts c) (sym same) (at_reply x s before c after)))
+
   -- each check that is answered is that of its number
   pub each_is_its_check : (ts : Trees) → AreAll ts
   unfolding Begins current_at
   each_is_its_check none s [] runs before c after e = absurd (no_part before c after e)
   each_is_its_check none s (a ∷ given) runs before c after e = absurd runs
   each_is_its_check (more t ts) s [] runs before c after e = absurd (no_part before c after e)
-  each_is_its_check (more t ts) s (a ∷ given) runs before c after e = at_command ts (each_is_its_check ts) given s (states_nothing (command_of t)) (step limits.terms s.stack t) a runs.0 before c after runs.1 e
+  each_is_its_check (more t ts) s (a ∷ given) runs before c after e = at_tree ts (each_is_its_check ts) given s t (question_of t) refl a runs.0 before c after runs.1 e
 
 -- what each of the checks says by its place, all of them say
 pub all_say : (limits : Limits) (text : List ℕ) (cs : List Checked) (k : ℕ) → ((before : List Checked) (c : Checked) (after : List Checked) → cs ≡ before ++ c ∷ after → AnswerSays limits text (suc (k + length before)) c) → AllSay limits text k cs

@@ -1,11 +1,11 @@
 -- Answers that are computed are those of the commands, if what was found shows what it should.
-use Rattle.std.proofs.Common.{◌≡◌, ℕ, Bool, ◌||◌, List, [], ◌∷◌, ◌++◌, length, All, Some, None, refl, ap, ◌∙◌, arith}
+use Rattle.std.proofs.Common.{◌≡◌, ℕ, Bool, ◌||◌, List, [], ◌∷◌, ◌++◌, length, All, Option, Some, None, refl, ap, ◌∙◌, subst, arith}
 use Rattle.std.specs.Prelude.{Ok, Err}
 use Rattle.std.specs.List.{list_any}
 use Rattle.std.proofs.lemmas.List.Elements.{All-nil, All-cons, All-head, All-tail}
 use Rattle.spec_text.specs.Answers.{Answer}
 use Rattle.spec_text.specs.Readings.{kept, IsReadUpTo}
-use Rattle.spec_text.specs.Trees.{Trees, none, more}
+use Rattle.spec_text.specs.Trees.{Tree, Trees, none, more, offset_of}
 use Rattle.spec_sorts.specs.Terms.{Symbol}
 use Rattle.spec_sorts.specs.Values.{Value, HasSort, IsTableOf}
 use Rattle.spec_commands.specs.Commands.{command_of}
@@ -13,9 +13,12 @@ use Rattle.spec_commands.specs.Stack.{Stack, Effect, done, unsupported, check, s
 use Rattle.spec_commands.specs.Checks.{Check, after_effect, after_command, current_at}
 use Rattle.spec_sessions.specs.Evidence.{Checked, Found, IsModelOf, Justifies, Limits, model, proof}
 use Rattle.spec_sessions.specs.States.{State, first_state, states_nothing}
-use Rattle.spec_sessions.specs.Responses.{Mode, Response, success, not_supported, answered, echoed, state_after, Answered, AnswersBy, is_rejected}
-use Rattle.spec_sessions.specs.Transcripts.{Follows, Runs, answers_text, closing, closing_text, is_fault, IsTranscript, checks_in}
-use Rattle.spec_sessions.specs.Examples.{next_found, later_found, answers_after, answers_by, answers_of, always, tables}
+use Rattle.spec_sessions.specs.Responses.{Mode, Response, success, not_supported, answered, echoed, state_after, Answered, AnswersBy, response_of, answer_to, AnswersTree, is_rejected}
+use Rattle.spec_sessions.specs.Questions.{Question, question_of}
+use Rattle.spec_sessions.specs.Replies.{Reply, says, not_known}
+use Rattle.spec_sessions.specs.Transcripts.{Follows, Runs, answers_text, closing, closing_text, is_fault, IsTranscript, with_check, checks_in}
+use Rattle.spec_sessions.specs.Examples.{next_found, later_found, answers_after, answers_by, answers_tree, answers_of, always, tables}
+use Rattle.spec_sessions.proofs.NoCommands.{question_is_no_command}
 
 -- the first of checks, where there is one
 abbrev pub first_of : List Checked → Checked
@@ -50,10 +53,10 @@ module _ (limits : Limits) where
   one_check (c ∷ []) e h = All-cons IsJustified c [] h (All-nil IsJustified)
   one_check (c ∷ d ∷ ds) e h = absurd (omega (arith, e))
 
-  -- these are answers of a command and of those after it
-  abbrev AreAnswers : State → Bool → Answer Taken → Trees → List Answered → Type 0
-  AreAnswers s keeps o ts [] = ⊥
-  AreAnswers s keeps o ts (a ∷ given) = AnswersBy limits s keeps o a × Follows a.response (Runs limits a.state ts) given
+  -- these are the answer of a tree, of which this is so, and those of the trees after it
+  abbrev AreAnswers : (Answered → Type 0) → Trees → List Answered → Type 0
+  AreAnswers P ts [] = ⊥
+  AreAnswers P ts (a ∷ given) = P a × Follows a.response (Runs limits a.state ts) given
 
   abbrev AreAll : Trees → Type 0
   AreAll ts = (s : State) (fs : List Found) → All IsJustified (checks_in (answers_of limits s ts fs)) → Runs limits s ts (answers_of limits s ts fs)
@@ -66,7 +69,7 @@ module _ (limits : Limits) where
     abbrev others : State → List Found → List Answered
     others from fs = answers_of limits from ts fs
 
-    by_effect : (fs : List Found) (x : Effect) → AreAll ts → All IsJustified (checks_in (answers_after x n next fs others)) → AreAnswers s keeps (Ok (record { effect = x; stack = n })) ts (answers_after x n next fs others)
+    by_effect : (fs : List Found) (x : Effect) → AreAll ts → All IsJustified (checks_in (answers_after x n next fs others)) → AreAnswers (AnswersBy limits s keeps (Ok (record { effect = x; stack = n }))) ts (answers_after x n next fs others)
     by_effect fs done rest h = ((refl, refl), rest (next success) fs h)
     by_effect fs unsupported rest h = ((refl, refl), rest (next not_supported) fs h)
     by_effect fs (check place assumptions) rest h =
@@ -76,22 +79,31 @@ module _ (limits : Limits) where
     by_effect fs (say text) rest h = ((refl, refl), rest (next (echoed text)) fs h)
     by_effect fs leave rest h = ((refl, refl), refl)
 
-  by_command : (s : State) (keeps : Bool) (ts : Trees) (fs : List Found) (o : Answer Taken) → AreAll ts → All IsJustified (checks_in (answers_by s keeps o fs (λ next later. answers_of limits next ts later))) → AreAnswers s keeps o ts (answers_by s keeps o fs (λ next later. answers_of limits next ts later))
+  by_command : (s : State) (keeps : Bool) (ts : Trees) (fs : List Found) (o : Answer Taken) → AreAll ts → All IsJustified (checks_in (answers_by s keeps o fs (λ next later. answers_of limits next ts later))) → AreAnswers (AnswersBy limits s keeps o) ts (answers_by s keeps o fs (λ next later. answers_of limits next ts later))
   by_command s keeps ts fs (Ok d) rest h = by_effect s keeps d.stack ts fs d.effect rest h
   by_command s keeps ts fs (Err f) rest h = ((refl, refl), rest s fs h)
 
-  run_of : (s : State) (keeps : Bool) (o : Answer Taken) (t : Trees) (given : List Answered) → AreAnswers s keeps o t given → (P : List Answered → Type 0) → ((a : Answered) (later : List Answered) → AnswersBy limits s keeps o a × Follows a.response (Runs limits a.state t) later → P (a ∷ later)) → P given
-  run_of s keeps o t [] h P f = absurd h
-  run_of s keeps o t (a ∷ later) h P f = f a later h
+  -- after a question all else is answered in the same state
+  by_reply : (x : Answer Reply) (s : State) (ts : Trees) (fs : List Found) → AreAll ts → All IsJustified (with_check (response_of x) (checks_in (answers_of limits s ts fs))) → Follows (response_of x) (Runs limits s ts) (answers_of limits s ts fs)
+  by_reply (Ok (says lines)) s ts fs rest h = rest s fs h
+  by_reply (Ok not_known) s ts fs rest h = rest s fs h
+  by_reply (Err f) s ts fs rest h = rest s fs h
+
+  by_tree : (s : State) (t : Tree) (asked : Option (Answer Question)) (ts : Trees) (fs : List Found) → AreAll ts → All IsJustified (checks_in (answers_tree limits s t asked fs (λ next later. answers_of limits next ts later))) → AreAnswers (AnswersTree limits s t asked) ts (answers_tree limits s t asked fs (λ next later. answers_of limits next ts later))
+  by_tree s t None ts fs rest h = by_command s (states_nothing (command_of t)) ts fs (step limits.terms s.stack t) rest h
+  by_tree s t (Some asked) ts fs rest h = ((refl, refl), by_reply (answer_to limits s (offset_of t) asked) s ts fs rest h)
+
+  run_of : (Q : Answered → Type 0) (ts : Trees) (given : List Answered) → AreAnswers Q ts given → (P : List Answered → Type 0) → ((a : Answered) (later : List Answered) → Q a × Follows a.response (Runs limits a.state ts) later → P (a ∷ later)) → P given
+  run_of Q ts [] h P f = absurd h
+  run_of Q ts (a ∷ later) h P f = f a later h
 
   runs_of : (ts : Trees) → AreAll ts
   unfolding Runs answers_of
   runs_of none s fs h = refl
   runs_of (more t ts) s fs h =
-      let o = step limits.terms s.stack t in
-      let keeps = states_nothing (command_of t) in
-      let given = answers_by s keeps o fs (λ next later. answers_of limits next ts later) in
-      run_of s keeps o ts given (by_command s keeps ts fs o (runs_of ts) h) (Runs limits s (more t ts)) (λ a later x. x)
+      let asked = question_of t in
+      let given = answers_tree limits s t asked fs (λ next later. answers_of limits next ts later) in
+      run_of (AnswersTree limits s t asked) ts given (by_tree s t asked ts fs (runs_of ts) h) (Runs limits s (more t ts)) (λ a later x. x)
 
   -- the transcript of a text that is read to its end
   pub transcript_of : (mode : Mode) (text : List ℕ) (commands : Trees) (fs : List Found) → IsReadUpTo text commands None → All IsJustified (checks_in (answers_of limits first_state commands fs))
@@ -117,7 +129,19 @@ module _ (limits : Limits) where
   first_by_command s keeps (Ok d) ts fs c e rest = first_by_effect s keeps d.stack ts d.effect fs c e (λ m same h. rest m (ap (λ n. current_at limits.terms n 1 ts) same ∙ h))
   first_by_command s keeps (Err f) ts fs c e rest = rest s e
 
+  first_by_reply : (x : Answer Reply) (s : State) (given : List Answered) (fs : List Found) (c : Check) → IsFirst fs c given → IsFirst fs c (record { response = response_of x; state = s } ∷ given)
+  first_by_reply (Ok (says lines)) s given fs c h = h
+  first_by_reply (Ok not_known) s given fs c h = h
+  first_by_reply (Err f) s given fs c h = h
+
+  first_by_tree : (s : State) (t : Tree) (asked : Option (Answer Question)) → question_of t ≡ asked → (ts : Trees) (fs : List Found) (c : Check) → after_command s.stack 1 (step limits.terms s.stack t) (λ next n. current_at limits.terms next n ts) ≡ Some c → ((m : State) → current_at limits.terms m.stack 1 ts ≡ Some c → IsFirst fs c (answers_of limits m ts fs)) → IsFirst fs c (answers_tree limits s t asked fs (λ next later. answers_of limits next ts later))
+  first_by_tree s t None is ts fs c e rest = first_by_command s (states_nothing (command_of t)) (step limits.terms s.stack t) ts fs c e rest
+  first_by_tree s t (Some asked) is ts fs c e rest =
+      let no = question_is_no_command limits.terms s.stack t asked is in
+      first_by_reply (answer_to limits s (offset_of t) asked) s (answers_of limits s ts fs) fs c
+      (rest s (subst (λ (o : Answer Taken). after_command s.stack 1 o (λ next n. current_at limits.terms next n ts) ≡ Some c) no.1 e))
+
   pub first_check : (s : State) (ts : Trees) (fs : List Found) (c : Check) → current_at limits.terms s.stack 1 ts ≡ Some c → IsFirst fs c (answers_of limits s ts fs)
   unfolding answers_of current_at
   first_check s none fs c e = cc
-  first_check s (more t ts) fs c e = first_by_command s (states_nothing (command_of t)) (step limits.terms s.stack t) ts fs c e (λ m later. first_check m ts fs c later)
+  first_check s (more t ts) fs c e = first_by_tree s t (question_of t) refl ts fs c e (λ m later. first_check m ts fs c later)

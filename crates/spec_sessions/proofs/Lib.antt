@@ -1,4 +1,6 @@
 -- Lemmas on runs.
+pub mod NoCommands
+pub mod Offsets
 pub mod Checks
 pub mod Running
 pub mod Computed

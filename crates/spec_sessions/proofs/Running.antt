@@ -11,7 +11,7 @@ use Rattle.spec_text.specs.Readings.{depth, AreTrees, StopsAt, EndsTrees, kept, 
 use Rattle.spec_text.proofs.Stopping.{stop_of}
 use Rattle.spec_sessions.specs.Evidence.{Limits}
 use Rattle.spec_sessions.specs.States.{State, first_state}
-use Rattle.spec_sessions.specs.Responses.{Mode, Response, success, not_supported, answered, echoed, ended, rejected, Answered, Answers, response_text, is_rejected, is_end}
+use Rattle.spec_sessions.specs.Responses.{Mode, Response, success, not_supported, answered, echoed, ended, replied, rejected, Answered, Answers, response_text, is_rejected, is_end}
 use Rattle.spec_sessions.specs.Transcripts.{Follows, Runs, Begins, answers_text, closing_by, closing, closing_text, is_fault, IsTranscript, IsBegun}
 
 -- no tree comes first
@@ -32,6 +32,7 @@ follows_on not_supported P given e h = h
 follows_on (answered f) P given e h = h
 follows_on (echoed s) P given e h = h
 follows_on ended P given e h = cc
+follows_on (replied lines) P given e h = h
 follows_on (rejected f) P given e h = h
 
 -- after one that does, nothing
@@ -41,6 +42,7 @@ follows_none not_supported P e = cc
 follows_none (answered f) P e = cc
 follows_none (echoed s) P e = cc
 follows_none ended P e = refl
+follows_none (replied lines) P e = cc
 follows_none (rejected f) P e = cc
 
 -- after a response nothing need be answered yet
@@ -51,6 +53,7 @@ follows_nothing not_supported limits s ts = tt
 follows_nothing (answered f) limits s ts = tt
 follows_nothing (echoed text) limits s ts = tt
 follows_nothing ended limits s ts = refl
+follows_nothing (replied lines) limits s ts = tt
 follows_nothing (rejected f) limits s ts = tt
 
 -- what follows in one way follows in another that is weaker
@@ -60,6 +63,7 @@ follows_weaker not_supported P Q given f h = f h
 follows_weaker (answered x) P Q given f h = f h
 follows_weaker (echoed s) P Q given f h = f h
 follows_weaker ended P Q given f h = h
+follows_weaker (replied lines) P Q given f h = f h
 follows_weaker (rejected x) P Q given f h = f h
 
 -- what all commands are answered, the first of them are

@@ -1,10 +1,11 @@
 -- Small scripts with what is written for them, where so much was found at their checks.
-use Rattle.std.specs.Prelude.{◌++◌, ◌≡◌, refl, ◌^◌, pos, ℕ, Bool, true, false, List, [], ◌∷◌, Ok, Err, codes}
+use Rattle.std.specs.Prelude.{◌++◌, ◌≡◌, refl, ◌^◌, pos, ℕ, Bool, true, false, List, [], ◌∷◌, Option, Some, None}
+use Rattle.std.specs.Prelude.{Ok, Err, codes}
 use Rattle.std.specs.Prelude.{if◌then◌else◌}
 use Rattle.std.specs.Str.{bytes_eq}
 use Rattle.spec_text.specs.Bytes.{among}
 use Rattle.spec_text.specs.Answers.{Answer}
-use Rattle.spec_text.specs.Trees.{Trees, none, more}
+use Rattle.spec_text.specs.Trees.{Tree, Trees, none, more, offset_of}
 use Rattle.spec_numbers.specs.Fractions.{zero_fraction, whole, gcd, times}
 use Rattle.spec_numbers.specs.Bounds.{Overflow, is_small, fits, multiplied}
 use Rattle.spec_numbers.specs.declared.Op.TheVariants.{Mul}
@@ -18,7 +19,8 @@ use Rattle.spec_simplex.specs.Overflows.{IsOverflow}
 use Rattle.spec_sessions.specs.Evidence.{Limits, Kept, Found, proof, overflowed, out_of_pivots}
 use Rattle.spec_sessions.specs.States.{State, states_nothing}
 use Rattle.spec_sessions.specs.Responses.{certify, Response, success, not_supported, answered, echoed, ended, rejected}
-use Rattle.spec_sessions.specs.Responses.{Answered, state_after, text_for}
+use Rattle.spec_sessions.specs.Responses.{Answered, state_after, response_of, answer_to, text_for}
+use Rattle.spec_sessions.specs.Questions.{Question, question_of}
 
 -- what is meant by default
 abbrev pub limits : Limits
@@ -55,11 +57,18 @@ abbrev pub answers_by : State → Bool → Answer Taken → List Found → (Stat
 answers_by s keeps (Ok d) fs rest = answers_after d.effect d.stack (state_after keeps s d.stack) fs rest
 answers_by s keeps (Err f) fs rest = record { response = rejected f; state = s } ∷ rest s fs
 
+-- what a tree is answered in a state, where it asks this or is a command, and what those after it are
+abbrev pub answers_tree : Limits → State → Tree → Option (Answer Question) → List Found
+    → (State → List Found → List Answered) → List Answered
+answers_tree l s t (Some asked) fs rest =
+    record { response = response_of (answer_to l s (offset_of t) asked); state = s } ∷ rest s fs
+answers_tree l s t None fs rest =
+    answers_by s (states_nothing (command_of t)) (step l.terms s.stack t) fs rest
+
 -- what commands are answered from a state on
 unfoldable pub answers_of : Limits → State → Trees → List Found → List Answered
 answers_of l s none fs = []
-answers_of l s (more t ts) fs =
-    answers_by s (states_nothing (command_of t)) (step l.terms s.stack t) fs (λ next later. answers_of l next ts later)
+answers_of l s (more t ts) fs = answers_tree l s t (question_of t) fs (λ next later. answers_of l next ts later)
 
 -- a value without rows
 abbrev pub always : Value → Table
@@ -107,7 +116,7 @@ abbrev pub refusals_written : List ℕ
 refusals_written = lines (
     codes "(error \"2:9: WrongSort\")" ∷
     codes "(error \"3:9: UnknownSymbol\")" ∷
-    codes "(error \"4:2: UnknownCommand\")" ∷
+    codes "(error \"4:1: WrongMode\")" ∷
     codes "(error \"5:12: UnknownLogic\")" ∷
     codes "(error \"7:1: WrongMode\")" ∷
     codes "sat" ∷ [])
@@ -138,6 +147,32 @@ numbers_written = lines (
     codes "(error \"7:12: NotLinear\")" ∷
     codes "sat" ∷
     codes "sat" ∷ [])
+
+-- a model and values that are asked for, in their mode and outside it, with their option and without it
+abbrev pub asked_for : List ℕ
+asked_for = lines (
+    codes "(set-option :print-success false)" ∷
+    codes "(declare-const x Real)(get-model)" ∷
+    codes "(check-sat)(get-model)" ∷
+    codes "(set-option :produce-models true)" ∷
+    codes "(get-model)" ∷
+    codes "(get-value (x (< x |x|)))(get-value (y))" ∷
+    codes "(get-info :name)(get-info :zz)(get-option :produce-models)" ∷ [])
+
+-- what is written for it
+abbrev pub asked_for_written : List ℕ
+asked_for_written = lines (
+    codes "(error \"2:23: WrongMode\")" ∷
+    codes "sat" ∷
+    codes "(error \"3:12: NotEnabled\")" ∷
+    codes "(" ∷
+    codes "  (define-fun x () Real 0)" ∷
+    codes ")" ∷
+    codes "((x 0) ((< x x) false))" ∷
+    codes "(error \"6:38: UnknownSymbol\")" ∷
+    codes "(:name \"smt_cli\")" ∷
+    codes "unsupported" ∷
+    codes "true" ∷ [])
 
 -- strings, and the option that is turned off between them
 abbrev pub strings : List ℕ

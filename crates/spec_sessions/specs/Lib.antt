@@ -2,11 +2,11 @@
 pub mod Refutations
 pub mod Evidence
 pub mod States
+pub mod Questions
+pub mod Replies
 pub mod Responses
 pub mod Transcripts
 pub mod Meaning
 pub mod Statements
-pub mod Questions
-pub mod Replies
 pub mod Examples
 pub mod ModeExamples

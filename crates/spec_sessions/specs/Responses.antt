@@ -1,10 +1,11 @@
 -- What commands are answered, and what is written for that. Source: SMT-LIB 2.6, sections 3.9 and 4.2; the evidence
 -- after an answer is own.
-use Rattle.std.specs.Prelude.{◌≡◌, ℕ, Bool, true, false, List, [], ◌∷◌, ◌++◌, Option, Some, Ok, Err, if◌then◌else◌}
+use Rattle.std.specs.Prelude.{◌≡◌, ℕ, Bool, true, false, List, [], ◌∷◌, ◌++◌, Option, Some, None, Ok, Err}
+use Rattle.std.specs.Prelude.{if◌then◌else◌}
 use Rattle.spec_text.specs.Places.{line_of, column_of, name_of}
 use Rattle.spec_text.specs.Faults.{Located}
-use Rattle.spec_text.specs.Answers.{Answer}
-use Rattle.spec_text.specs.Trees.{Tree}
+use Rattle.spec_text.specs.Answers.{Answer, ◌>>=◌}
+use Rattle.spec_text.specs.Trees.{Tree, offset_of}
 use Rattle.spec_sorts.specs.Signatures.{symbols_in}
 use Rattle.spec_commands.specs.Commands.{command_of}
 use Rattle.spec_commands.specs.Stack.{Stack, Effect, done, unsupported, check, say, leave, Taken, signature_of, step}
@@ -15,6 +16,8 @@ use Rattle.spec_models.specs.Models.{model_text}
 use Rattle.spec_sessions.specs.Evidence.{Limits, Found, model, proof, spent, overflowed, out_of_pivots, Checked}
 use Rattle.spec_sessions.specs.Evidence.{Justifies}
 use Rattle.spec_sessions.specs.States.{State, states_nothing, answer_kept}
+use Rattle.spec_sessions.specs.Questions.{Question, question_of}
+use Rattle.spec_sessions.specs.Replies.{Reply, says, not_known, reply_to}
 
 -- How much is written.
 pub data Mode : Type 0 where
@@ -35,6 +38,8 @@ pub data Response : Type 0 where
   echoed : List ℕ → Response
   -- it was done, and the script ends
   ended : Response
+  -- these lines answer what was asked
+  replied : List ℕ → Response
   -- it was refused, for this fault
   rejected : Located → Response
 
@@ -73,9 +78,25 @@ AnswersBy limits s keeps (Ok d) a =
     Responds limits d.stack d.effect a.response × (a.state ≡ state_after keeps s d.stack a.response)
 AnswersBy limits s keeps (Err f) a = (a.response ≡ rejected f) × (a.state ≡ s)
 
--- the same of the command that a tree is
+-- the response to a question, by what answers it or by its first fault
+abbrev pub response_of : Answer Reply → Response
+response_of (Ok (says lines)) = replied lines
+response_of (Ok not_known) = not_supported
+response_of (Err f) = rejected f
+
+-- what answers a question in a state, by a command at an offset, or its first fault: that of its shape comes first
+abbrev pub answer_to : Limits → State → ℕ → Answer Question → Answer Reply
+answer_to limits s at asked = asked >>= λ q. reply_to limits.terms at s q
+
+-- what a tree is answered in a state, where it asks this or is a command: what is asked changes nothing
+abbrev pub AnswersTree : Limits → State → Tree → Option (Answer Question) → Answered → Type 0
+AnswersTree limits s t (Some asked) a =
+    (a.response ≡ response_of (answer_to limits s (offset_of t) asked)) × (a.state ≡ s)
+AnswersTree limits s t None a = AnswersBy limits s (states_nothing (command_of t)) (step limits.terms s.stack t) a
+
+-- the same of what the tree is
 abbrev pub Answers : Limits → State → Tree → Answered → Type 0
-Answers limits s t a = AnswersBy limits s (states_nothing (command_of t)) (step limits.terms s.stack t) a
+Answers limits s t a = AnswersTree limits s t (question_of t) a
 
 -- the line of a fault of a text
 abbrev pub fault_text : List ℕ → Located → List ℕ
@@ -120,6 +141,7 @@ text_for mode text print not_supported = word_line Unsupported
 text_for mode text print (answered c) = answer_text c.found ++ shown_text mode c
 text_for mode text print (echoed s) = string_line s
 text_for mode text print ended = success_by print
+text_for mode text print (replied lines) = lines
 text_for mode text print (rejected f) = fault_text text f
 
 -- what is written for what a command of a text is answered

@@ -7,7 +7,7 @@ ghost use Rattle.spec_sessions.specs.Responses.{solve, certify};
 ghost use Rattle.spec_sessions.specs.Transcripts.{IsTranscript};
 ghost use Rattle.spec_sessions.specs.Examples.{limits, four, checks_alone, checks_written, refusals, refusals_written};
 ghost use Rattle.spec_sessions.specs.Examples.{numbers, numbers_written, strings, strings_written};
-ghost use Rattle.spec_sessions.specs.Examples.{contradiction_written};
+ghost use Rattle.spec_sessions.specs.Examples.{asked_for, asked_for_written, contradiction_written};
 ghost use Rattle.spec_sessions.specs.Examples.{functions, functions_written, large, large_written};
 ghost use Rattle.spec_sessions.specs.Examples.{closed_too_often, false_asserted};
 
@@ -23,6 +23,11 @@ pub fn refused_commands_are_passed_over()
     ensures names { IsTranscript limits solve refusals refusals_written true }
     ensures numbers { IsTranscript limits solve numbers numbers_written true }
     ensures large { IsTranscript four solve large large_written true }
+{}
+
+/// States what is written where a model and values are asked for, and information, and what is refused of that.
+pub fn what_is_asked_is_answered()
+    ensures { IsTranscript limits solve asked_for asked_for_written true }
 {}
 
 /// States that a string is written as it is, and `success` while its option is on.

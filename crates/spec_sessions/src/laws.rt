@@ -1,10 +1,16 @@
 //! What the definitions imply. Each law is a function whose contract is the law; it computes nothing.
 
-ghost use Rattle.std.specs.Prelude.{ℕ, Bool, List};
+ghost use Rattle.std.specs.Prelude.{◌≡◌, ℕ, Bool, List, Some, Err};
+ghost use Rattle.spec_text.specs.Faults.{Located};
+ghost use Rattle.spec_text.specs.Answers.{Answer};
+ghost use Rattle.spec_text.specs.Offsets.{HasOffset};
 ghost use Rattle.spec_text.specs.Readings.{prefix};
+ghost use Rattle.spec_text.specs.Trees.{Tree, offset_of};
 ghost use Rattle.spec_commands.specs.Checks.{Check, IsCurrent};
 ghost use Rattle.spec_sessions.specs.Evidence.{Limits, Found, Checked, Justifies};
-ghost use Rattle.spec_sessions.specs.Responses.{Mode};
+ghost use Rattle.spec_sessions.specs.States.{State};
+ghost use Rattle.spec_sessions.specs.Questions.{Question, question_of};
+ghost use Rattle.spec_sessions.specs.Responses.{Mode, answer_to};
 ghost use Rattle.spec_sessions.specs.Transcripts.{IsTranscript, IsBegun};
 ghost use Rattle.spec_sessions.specs.Meaning.{IsKeptCheck, MeansAt, AnswerSays};
 ghost use Rattle.spec_sessions.specs.Statements.{AnswersSay};
@@ -42,6 +48,12 @@ pub fn what_is_shown_is_so()
     spec_proof_texts::laws::printed_proofs_are_good();
     spec_proof_texts::laws::printed_proofs_are_accepted();
 }
+
+/// States that the fault of what is asked is at the offset of one of its atoms or lists.
+pub fn faults_are_in_their_question()
+    ensures { (limits : Limits) (s : State) (t : Tree) (asked : Answer Question) (f : Located) → question_of t ≡ Some asked
+        → answer_to limits s (offset_of t) asked ≡ Err f → HasOffset t f.offset }
+{}
 
 /// States that the checks of a transcript are those of the text, the first of them the first. Each answer says what is so
 /// of its check. The same is so of what was begun.
