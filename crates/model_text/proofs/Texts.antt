@@ -12,10 +12,11 @@ use Rattle.world_io.proofs.Chains.{IsSending, joined, start}
 use Rattle.model_text.specs.Lines.{gap, parameter_text, parameters_listed, equalities_listed, row_front, lines_by, text_by}
 
 -- trees, each after a space
-abbrev spaced : List Tree → List ℕ
+abbrev pub spaced : List Tree → List ℕ
 spaced ts = flat_map (λ t. 32 ∷ printed t) ts
 
-printed_row : (t : Tree) (ts : List Tree) → printed_all (trees_of (t ∷ ts)) ≡ printed t ++ spaced ts
+-- trees in a row
+pub printed_row : (t : Tree) (ts : List Tree) → printed_all (trees_of (t ∷ ts)) ≡ printed t ++ spaced ts
 printed_row t [] = sym (append-nil (printed t))
 printed_row t (u ∷ us) = ap (λ r. printed t ++ 32 ∷ r) (printed_row u us)
 

@@ -7,3 +7,4 @@ mod sorts;
 
 pub use models::send;
 pub use reply_text::{name, value};
+pub use sorts::write_value;

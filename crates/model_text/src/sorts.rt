@@ -39,8 +39,12 @@ fn sort_of<'a>(symbols: &'a Symbols, v: Value) -> &'a [u8]
     }
 }
 
-/// Writes a value, of a sort that is there.
-pub(crate) fn write_value<K: Sink>(symbols: &Symbols, v: Value, out: &mut K) -> Result<(), Failed>
+/// Writes a value, of a sort that is there: an element with the name of its sort.
+///
+/// It takes no memory. `Failed` comes only where the sink's count of faults rose in this call; a prefix was then
+/// appended.
+/// Source: SMT-LIB 2.6, section 4.2.6; the elements of a declared sort are own.
+pub fn write_value<K: Sink>(symbols: &Symbols, v: Value, out: &mut K) -> Result<(), Failed>
     requires { IsNamed symbols.now.sorts v }
     ensures { Sends (value_text (value_meant symbols.now.sorts v)) result (K.state out.old) (K.state out.new) }
 {
