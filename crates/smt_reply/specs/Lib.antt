@@ -1,0 +1,3 @@
+-- What answers questions, and values of terms.
+pub mod Replies
+pub mod Pairs
