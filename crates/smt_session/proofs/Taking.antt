@@ -1,18 +1,24 @@
 -- What a command is answered, from what taking it came to.
-use Rattle.std.proofs.Common.{◌≡◌, ℕ, ◌++◌, List, [], All, refl, sym, ap, subst}
-use Rattle.std.specs.Prelude.{Result, Ok, Err}
+use Rattle.std.proofs.Common.{◌≡◌, ℕ, Bool, true, false, ◌++◌, List, [], All, Option, Some, None, refl, sym, ap, ◌∙◌, subst}
+use Rattle.std.specs.Prelude.{Result, Ok, Err, OnErr}
+use Rattle.spec_text.specs.Answers.{Answer, ◌>>=◌}
+use Rattle.spec_text.specs.Faults.{Located}
+use Rattle.spec_text.specs.Places.{IsPlaceOf}
 use Rattle.spec_text.specs.Lexemes.{Lexeme, lexemes_from}
-use Rattle.spec_text.specs.Trees.{Tree, spelled}
-use Rattle.spec_commands.specs.Commands.{command_of}
+use Rattle.spec_text.specs.Trees.{Tree, spelled, offset_of}
+use Rattle.spec_commands.specs.Commands.{Command, SetLogic, SetOption, SetInfo, DeclareSort, DefineSort, DeclareFun, DefineFun, Assert, Push, Pop, CheckSat, CheckSatAssuming, ResetAssertions, Reset, Echo, Exit, command_of}
 use Rattle.spec_commands.specs.Stack.{Assertion, Stack, Effect, check, Taken, empty_stack, signature_of, step}
 use Rattle.spec_commands.specs.Checks.{Check}
 use Rattle.spec_commands.specs.Kept.{IsAsserted, IsSoundStack}
 use Rattle.spec_proof_texts.specs.ReadBack.{HaveScriptNames}
-use Rattle.spec_sessions.specs.Evidence.{Limits}
-use Rattle.spec_sessions.specs.States.{State, states_nothing}
-use Rattle.spec_sessions.specs.Responses.{Response, rejected, state_after, Answered, Responds, AnswersBy, Answers}
+use Rattle.spec_sessions.specs.Evidence.{Limits, Checked}
+use Rattle.spec_sessions.specs.States.{State, states_nothing, answer_kept}
+use Rattle.spec_sessions.specs.Questions.{Question, question_of}
+use Rattle.spec_sessions.specs.Replies.{Reply, says, not_known, reply_to}
+use Rattle.spec_sessions.specs.Responses.{Response, answered, rejected, answer_after, state_after, Answered, Responds, AnswersBy, AnswersTree, Answers, response_of, answer_to}
 use Rattle.spec_sessions.specs.Meaning.{IsKeptCheck}
 use Rattle.no_memory.specs.declared.NoMemory.{NoMemory}
+use Rattle.smt_lexer.specs.declared.Refusal.{Refusal}
 use Rattle.smt_lexer.specs.declared.Refused.{Refused}
 use Rattle.smt_lexer.specs.declared.Refused.TheVariants as refusals
 use Rattle.smt_sexpr.specs.declared.sexpr.Sexpr.{Sexpr}
@@ -23,11 +29,16 @@ use Rattle.sat_budget.specs.Budgets.{BudgetView}
 use Rattle.assertion_stack.specs.declared.stack.Stack.{Stack as CodeStack}
 use Rattle.assertion_stack.specs.declared.assuming.Assumed.{Assumed}
 use Rattle.assertion_stack.specs.declared.stack.Effect.TheVariants as effects
-use Rattle.assertion_stack.specs.Stacks.{OverTable, over_table, EffectMeans, IsStack, Steps}
+use Rattle.assertion_stack.specs.Stacks.{OverTable, over_table, EffectMeans, IsStack, Steps, KeepsTableAt}
+use Rattle.check_evidence.specs.declared.evidence.Evidence.{Evidence}
 use Rattle.spec_proof_texts.specs.Readable.{HaveReadableDefinitions}
-use Rattle.check_evidence.specs.Evidence.{IsHeld, IsHeldCheck}
+use Rattle.check_evidence.specs.Evidence.{IsHeld, IsHeldCheck, IsEvidence}
+use Rattle.smt_reply.specs.declared.replies.Reply.{Reply as CodeReply}
+use Rattle.smt_reply.specs.Replies.{OnAnswer, IsLastAnswer, HoldsAnswer, IsReply}
+use Rattle.smt_session.specs.declared.script.Script.{Script}
 use Rattle.smt_session.specs.declared.responses.Response.{Response as CodeResponse}
-use Rattle.smt_session.specs.Sessions.{KeepsBudget, KeepsStated, Rejects, TakesScriptCommand}
+use Rattle.smt_session.specs.declared.responses.Response.TheVariants as responses
+use Rattle.smt_session.specs.Sessions.{stated, context, answer_left, IsScript, IsResponse, IsAskedOf, IsKeptAnswer, LearnsBy, KeepsBudget, KeepsScript, AnswersCommand, HasFound, Rejects, TakesScriptCommand}
 
 -- nothing is stated at first
 pub first_held : (limit : ℕ) (t : TableView) (x : CodeStack) → t ≡ record { sorts = []; symbols = []; terms = [] } → ((u : TableView) → u.sorts ≡ [] → u.symbols ≡ [] → IsStack limit (over_table u x) empty_stack) → IsSoundStack limit empty_stack → HaveScriptNames empty_stack → HaveReadableDefinitions empty_stack → IsHeld limit (over_table t x) empty_stack
@@ -72,34 +83,170 @@ kept_check limit z ids c h = record { stack = h.held.sound; assumptions = h.read
 abbrev pub answered_so : State → Tree → Response → Taken → Answered
 answered_so s t r d = record { response = r; state = state_after (states_nothing (command_of t)) s d.stack r }
 
--- a command that was taken is answered by its effect
-pub taken_as : (limits : Limits) (s : State) (t : Tree) (r : Response) (effect : Effect) (d : Taken) → step limits.terms s.stack t ≡ Ok d → effect ≡ d.effect → Responds limits d.stack effect r → Answers limits s t (answered_so s t r d)
-taken_as limits s t r effect d e same responds = subst (λ y. AnswersBy limits s (states_nothing (command_of t)) y (answered_so s t r d)) (sym e) (subst (λ f. Responds limits d.stack f r) same responds, refl)
+-- a command that asks nothing was taken, and is answered by its effect
+pub taken_as : (limits : Limits) (s : State) (t : Tree) (r : Response) (effect : Effect) (d : Taken) → question_of t ≡ None → step limits.terms s.stack t ≡ Ok d → effect ≡ d.effect → Responds limits d.stack effect r → Answers limits s t (answered_so s t r d)
+taken_as limits s t r effect d none e same responds =
+    subst (λ q. AnswersTree limits s t q (answered_so s t r d)) (sym none)
+    (subst (λ y. AnswersBy limits s (states_nothing (command_of t)) y (answered_so s t r d)) (sym e) (subst (λ f. Responds limits d.stack f r) same responds, refl))
 
--- a command that was not taken
-pub refused_as : (limits : Limits) (s : State) (x : Sexpr) (stop : Refused) (z : OverTable) (budget : BudgetView) (result : Result CodeResponse NoMemory) → IsHeld limits.terms z s.stack → Steps limits.terms (step limits.terms s.stack (tree_of x)) x z (Err stop) → Rejects stop result → TakesScriptCommand limits s x result z budget
-refused_as limits s x (refusals.Fault r) z budget result held d is =
+-- what the last check found counts still, where the command leaves the table, or else there is nothing
+pub left_is : (keeps : Bool) (old new : TableView) (budget : BudgetView) (e : Option Evidence) (last : Option Checked) → (keeps ≡ true → new ≡ old) → IsLastAnswer old budget e last → IsLastAnswer new budget (answer_left keeps e) (answer_kept keeps last)
+left_is true old new budget e last same h = subst (λ t. IsLastAnswer t budget e last) (sym (same refl)) h
+left_is false old new budget e last same h = refl
+
+-- a command that states nothing leaves the table
+pub nothing_stated : (c : Answer Command) (old new : TableView) → KeepsTableAt c old new → states_nothing c ≡ true → new ≡ old
+nothing_stated (Ok (SetLogic x)) old new k e = cc
+nothing_stated (Ok (SetOption key v)) old new k e = k
+nothing_stated (Ok SetInfo) old new k e = k
+nothing_stated (Ok (DeclareSort x)) old new k e = cc
+nothing_stated (Ok (DefineSort x t)) old new k e = cc
+nothing_stated (Ok (DeclareFun x ts t)) old new k e = cc
+nothing_stated (Ok (DefineFun d)) old new k e = cc
+nothing_stated (Ok (Assert t)) old new k e = cc
+nothing_stated (Ok (Push n)) old new k e = cc
+nothing_stated (Ok (Pop n)) old new k e = cc
+nothing_stated (Ok (CheckSat place)) old new k e = cc
+nothing_stated (Ok (CheckSatAssuming place ts)) old new k e = cc
+nothing_stated (Ok ResetAssertions) old new k e = cc
+nothing_stated (Ok Reset) old new k e = cc
+nothing_stated (Ok (Echo text)) old new k e = k
+nothing_stated (Ok Exit) old new k e = k
+nothing_stated (Err f) old new k e = cc
+
+module _ (limits : Limits) (s : State) (x : Sexpr) (old new : Script) (d : Taken) (none : question_of (tree_of x) ≡ None) (taken : step limits.terms s.stack (tree_of x) ≡ Ok d) (held : IsHeld limits.terms (stated new) d.stack) (i : IsScript limits.terms old s) where
+  -- a command that is no check is answered by its effect; `told` is whether it states nothing
+  pub done_so : (told : Bool) → told ≡ states_nothing (command_of (tree_of x)) → KeepsTableAt (command_of (tree_of x)) old.table new.table → new.budget ≡ old.budget → new.answer ≡ answer_left told old.answer → (code : CodeResponse) (r : Response) (effect : Effect) → effect ≡ d.effect → Responds limits d.stack effect r
+      → (answer_after told s.answer r ≡ answer_kept told s.answer) → IsResponse new (text_of x) code r → IsAskedOf r (state_after told s d.stack r) → IsKeptAnswer limits.terms r → LearnsBy limits new r → AnswersCommand limits s x code new
+  done_so told is settings budget left code r effect same responds after response asked kept learned = record {
+    a = answered_so s (tree_of x) r d;
+    answers = taken_as limits s (tree_of x) r effect d none taken same responds;
+    is = response;
+    asked = subst (λ b. IsAskedOf r (state_after b s d.stack r)) is asked;
+    kept = kept;
+    represents = record {
+      stack = held;
+      answer =
+          let keeps : told ≡ true → new.table ≡ old.table = λ e. nothing_stated (command_of (tree_of x)) old.table new.table settings (sym is ∙ e) in
+          let kept_so : IsLastAnswer new.table old.budget (answer_left told old.answer) (answer_kept told s.answer) = left_is told old.table new.table old.budget old.answer s.answer keeps i.answer in
+          subst (λ b. IsLastAnswer new.table new.budget new.answer (answer_after b s.answer r)) is
+          (subst (λ last. IsLastAnswer new.table new.budget new.answer last) (sym after)
+          (subst (λ e. IsLastAnswer new.table new.budget e (answer_kept told s.answer)) (sym left)
+          (subst (λ b. IsLastAnswer new.table b (answer_left told old.answer) (answer_kept told s.answer)) (sym budget) kept_so)));
+    };
+    learned = learned;
+  }
+
+-- a check is answered by what was found at it, which is kept
+pub found_so : (limits : Limits) (s : State) (x : Sexpr) (new : Script) (d : Taken) (place : ℕ) (a : Assumed) (z : OverTable) → question_of (tree_of x) ≡ None → step limits.terms s.stack (tree_of x) ≡ Ok d → (m : EffectMeans z.table (effects.Check place a) d.effect) → IsHeldCheck limits.terms z a.ids.items (record { stack = d.stack; assumptions = m.0 }) → HasFound limits (record { stack = d.stack; assumptions = m.0 }) new → AnswersCommand limits s x responses.Answered new
+found_so limits s x new d place a z none taken m held k =
+    let asked : Check = record { stack = d.stack; assumptions = m.0 } in
+    let shown = k.checked.shown in
+    let found : Checked = record { check = asked; found = shown.0 } in
+    let evidence : IsEvidence new.table new.budget k.evidence shown.0 = subst (λ b. IsEvidence new.table b k.evidence shown.0) (sym k.checked.budget_is) shown.2 in
+    record {
+      a = answered_so s (tree_of x) (answered found) d;
+      answers = taken_as limits s (tree_of x) (answered found) (check place m.0) d none taken m.1 (shown.0, shown.1, refl {a = answered found});
+      is = subst (λ o. OnAnswer o (λ e. (c : Checked) × IsEvidence new.table new.budget e c.found × (answered found ≡ answered c))) (sym k.kept) (found, evidence, refl {a = answered found});
+      asked = refl;
+      kept = kept_check limits.terms z a.ids.items asked held;
+      represents = record {
+        stack = k.checked.held;
+        answer = subst (λ o. IsLastAnswer new.table new.budget o (Some found)) (sym k.kept) (found, refl {a = Some found}, evidence);
+      };
+      learned = (k.checked.outcome, k.checked.decided, shown.3, k.checked.budget_is);
+    }
+
+-- a command that asks nothing, and was not taken
+pub refused_as : (limits : Limits) (s : State) (x : Sexpr) (stop : Refused) (old new : Script) (result : Result CodeResponse NoMemory) → question_of (tree_of x) ≡ None → IsScript limits.terms old s → new ≡ old → Steps limits.terms (step limits.terms s.stack (tree_of x)) x (stated new) (Err stop) → Rejects stop result → TakesScriptCommand limits s x result new
+refused_as limits s x (refusals.Fault r) old new result none i same d is =
     let a : Answered = record { response = rejected (record { offset = r.place.offset; fault = r.fault }); state = s } in
-    subst (λ y. TakesScriptCommand limits s x y z budget) (sym is) (record {
+    subst (λ y. TakesScriptCommand limits s x y new) (sym is) (record {
       a = a;
-      answers = subst (λ y. AnswersBy limits s (states_nothing (command_of (tree_of x))) y a) (sym d.0) (refl, refl);
+      answers = subst (λ q. AnswersTree limits s (tree_of x) q a) (sym none) (subst (λ y. AnswersBy limits s (states_nothing (command_of (tree_of x))) y a) (sym d.0) (refl, refl));
       is = (refl, d.1);
       asked = tt;
       kept = tt;
-      held = held;
+      represents = subst (λ y. IsScript limits.terms y s) (sym same) i;
       learned = tt;
     })
-refused_as limits s x refusals.Memory z budget (Ok r) held d is = cc
-refused_as limits s x refusals.Memory z budget (Err e) held d is = held
+refused_as limits s x refusals.Memory old new (Ok r) none i same d is = cc
+refused_as limits s x refusals.Memory old new (Err e) none i same d is = tt
 
--- nor does it change the budget
-pub refused_keeps : (stop : Refused) (budget : BudgetView) (result : Result CodeResponse NoMemory) → Rejects stop result → KeepsBudget result budget budget
-refused_keeps (refusals.Fault r) budget result is = subst (λ y. KeepsBudget y budget budget) (sym is) refl
-refused_keeps refusals.Memory budget (Ok r) is = cc
-refused_keeps refusals.Memory budget (Err e) is = refl
+-- what is so is so on an error
+pub on_error : {A E : Type 0} (r : Result A E) (P : Type 0) → P → OnErr r P
+on_error (Ok x) P h = tt
+on_error (Err e) P h = h
 
--- nor, where it is refused, table and stack
-pub refused_states : (stop : Refused) (old new : OverTable) (result : Result CodeResponse NoMemory) → new ≡ old → Rejects stop result → KeepsStated result old new
-refused_states (refusals.Fault r) old new result same is = subst (λ y. KeepsStated y old new) (sym is) same
-refused_states refusals.Memory old new (Ok r) same is = cc
-refused_states refusals.Memory old new (Err e) same is = tt
+-- nor does it change anything, or the budget
+pub refused_keeps : (stop : Refused) (old new : Script) (result : Result CodeResponse NoMemory) → new ≡ old → Rejects stop result → KeepsBudget result old new
+refused_keeps (refusals.Fault r) old new result same is = subst (λ y. KeepsBudget y old new) (sym is) (ap (λ (y : Script). y.budget) same)
+refused_keeps refusals.Memory old new (Ok r) same is = cc
+refused_keeps refusals.Memory old new (Err e) same is = ap (λ (y : Script). y.budget) same
+
+pub refused_script : (stop : Refused) (old new : Script) (result : Result CodeResponse NoMemory) → new ≡ old → Rejects stop result → KeepsScript result old new
+refused_script (refusals.Fault r) old new result same is = subst (λ y. KeepsScript y old new) (sym is) same
+refused_script refusals.Memory old new (Ok r) same is = cc
+refused_script refusals.Memory old new (Err e) same is = tt
+
+-- what is asked is answered, or refused with the fault of its shape or of its parts; the script is as it was
+pub misshapen_as : (limits : Limits) (s : State) (x : Sexpr) (r : Refusal) (y : Script) → question_of (tree_of x) ≡ Some (Err (record { offset = r.place.offset; fault = r.fault })) → IsPlaceOf (text_of x) r.place → IsScript limits.terms y s → AnswersCommand limits s x (responses.Rejected r) y
+unfolding ◌>>=◌
+misshapen_as limits s x r y is placed i =
+    let a : Answered = record { response = rejected (record { offset = r.place.offset; fault = r.fault }); state = s } in
+    record { a = a; answers = subst (λ q. AnswersTree limits s (tree_of x) q a) (sym is) (refl, refl); is = (refl, placed); asked = tt; kept = tt; represents = i; learned = tt }
+
+-- the fault of a question that has its shape
+pub asked_fault : (limits : Limits) (s : State) (at : ℕ) (q : Question) (f : Located) → reply_to limits.terms at s q ≡ Err f → answer_to limits s at (Ok q) ≡ Err f
+unfolding ◌>>=◌
+asked_fault limits s at q f e = e
+
+module _ (limits : Limits) (s : State) (x : Sexpr) (q : Question) (y : Script) (is : question_of (tree_of x) ≡ Some (Ok q)) (i : IsScript limits.terms y s) where
+  -- in the words of the definitions
+  abbrev wanted : Answer Reply
+  wanted = reply_to limits.terms (offset_of (tree_of x)) s q
+
+  as_asked : (o : Answer Reply) → wanted ≡ o → Answers limits s (tree_of x) (record { response = response_of o; state = s })
+  unfolding ◌>>=◌
+  as_asked o e = subst (λ z. AnswersTree limits s (tree_of x) z (record { response = response_of o; state = s })) (sym is) (ap response_of (sym e), refl)
+
+  -- it is answered
+  pub replied_as : (reply : CodeReply) (r : Reply) → wanted ≡ Ok r → IsReply (context y) reply r → AnswersCommand limits s x (responses.Replied reply) y
+  replied_as reply r e of = record {
+    a = record { response = response_of (Ok r); state = s };
+    answers = as_asked (Ok r) e;
+    is = (r, of, refl);
+    asked = asked_of r;
+    kept = kept_of r;
+    represents = i;
+    learned = learned_of r;
+  }
+    where
+      asked_of : (z : Reply) → IsAskedOf (response_of (Ok z)) s
+      asked_of (says lines) = tt
+      asked_of not_known = tt
+
+      kept_of : (z : Reply) → IsKeptAnswer limits.terms (response_of (Ok z))
+      kept_of (says lines) = tt
+      kept_of not_known = tt
+
+      learned_of : (z : Reply) → LearnsBy limits y (response_of (Ok z))
+      learned_of (says lines) = tt
+      learned_of not_known = tt
+
+  -- it is refused
+  pub unanswered_as : (r : Refusal) (f : Located) → wanted ≡ Err f → f ≡ record { offset = r.place.offset; fault = r.fault } → IsPlaceOf (text_of x) r.place → AnswersCommand limits s x (responses.Rejected r) y
+  unanswered_as r f e same placed = record {
+    a = record { response = response_of (Err f); state = s };
+    answers = as_asked (Err f) e;
+    is = (ap rejected same, placed);
+    asked = tt;
+    kept = tt;
+    represents = i;
+    learned = tt;
+  }
+
+-- what is kept of the last check is evidence of something
+pub holds_answer : (t : TableView) (budget : BudgetView) (o : Option Evidence) (last : Option Checked) → IsLastAnswer t budget o last → HoldsAnswer t o
+holds_answer t budget None last h = tt
+holds_answer t budget (Some e) last h = (budget, h.0.found, h.2)

@@ -12,7 +12,7 @@ use Rattle.spec_text.specs.Readings.{EndsTrees, kept, is_long, limited}
 use Rattle.spec_models.specs.Replies.{error_text}
 use Rattle.spec_sessions.specs.Evidence.{Limits}
 use Rattle.spec_sessions.specs.States.{State, first_state}
-use Rattle.spec_sessions.specs.Responses.{Mode, Response, success, not_supported, answered, echoed, ended, rejected, Answered, Answers, response_text, is_rejected, is_end}
+use Rattle.spec_sessions.specs.Responses.{Mode, Response, success, not_supported, answered, echoed, ended, replied, rejected, Answered, Answers, response_text, is_rejected, is_end}
 use Rattle.spec_sessions.specs.Transcripts.{answers_text, closing_text, is_fault, IsTranscript}
 use Rattle.spec_sessions.proofs.Running.{answers_more, Going, going_begins, answered_on, EachIsRead, told_more, ends_more, begun_here, text_ends, line_begun, begun_next, script_ends}
 use Rattle.smt_lexer.specs.declared.Refusal.{Refusal}
@@ -36,6 +36,7 @@ after_is not_supported a e = (ap is_last (sym e), ap is_refusal (sym e))
 after_is (answered f) a e = (ap is_last (sym e), ap is_refusal (sym e))
 after_is (echoed s) a e = (ap is_last (sym e), ap is_refusal (sym e))
 after_is ended a e = (ap is_last (sym e), ap is_refusal (sym e))
+after_is (replied lines) a e = (ap is_last (sym e), ap is_refusal (sym e))
 after_is (rejected f) a e = (ap is_last (sym e), ap is_refusal (sym e))
 
 -- the last command was not refused

@@ -1,16 +1,18 @@
 -- Sessions: what one represents, and what a command comes to. Source: SMT-LIB 2.6, section 4.2.
-use Rattle.std.specs.Prelude.{◌≡◌, ℕ, List, [], Option, Some, None, Result, Ok, Err, IsErr}
+use Rattle.std.specs.Prelude.{◌≡◌, ℕ, Bool, true, false, List, [], Option, Some, None, Result, Ok, Err, IsErr}
 use Rattle.no_memory.specs.declared.NoMemory.{NoMemory}
 use Rattle.world_io.specs.declared.fault.Failed.{Failed}
 use Rattle.world_io.specs.Writing.{SinkView, Sent, NotSent}
 use Rattle.spec_text.specs.Places.{IsPlaceOf}
 use Rattle.spec_sorts.specs.Signatures.{symbols_in}
 use Rattle.spec_commands.specs.Stack.{signature_of}
+use Rattle.spec_commands.specs.Checks.{Check}
 use Rattle.spec_sessions.specs.Evidence.{Limits, Checked}
 use Rattle.spec_sessions.specs.States.{State, ExecutionMode, start_mode, assert_mode, sat_mode, unsat_mode}
-use Rattle.spec_sessions.specs.States.{unknown_mode, mode_answered}
+use Rattle.spec_sessions.specs.States.{unknown_mode}
+use Rattle.spec_sessions.specs.Replies.{Reply}
 use Rattle.spec_sessions.specs.Responses.{Mode, solve, certify, Response, success, not_supported, answered, echoed}
-use Rattle.spec_sessions.specs.Responses.{ended, rejected, Answered, Answers, response_text}
+use Rattle.spec_sessions.specs.Responses.{ended, replied, rejected, response_of, Answered, Answers, response_text}
 use Rattle.spec_sessions.specs.Meaning.{IsKeptCheck, MeansAt}
 use Rattle.smt_lexer.specs.declared.Refused.{Refused}
 use Rattle.smt_lexer.specs.declared.Refused.TheVariants as refusals
@@ -19,15 +21,16 @@ use Rattle.smt_sexpr.specs.Items.{text_of, tree_of}
 use Rattle.term_core.specs.Tables.{TableView}
 use Rattle.sat_budget.specs.Budgets.{BudgetView}
 use Rattle.sat_budget.specs.declared.limits.Limits.{Limits as CodeLimits}
-use Rattle.assertion_stack.specs.declared.stack.Stack.{Stack as CodeStack}
 use Rattle.assertion_stack.specs.Stacks.{OverTable, over_table}
-use Rattle.check_evidence.specs.Evidence.{limits_meant, IsHeld, IsEvidence, HasLearned}
+use Rattle.check_evidence.specs.declared.evidence.Evidence.{Evidence}
+use Rattle.check_evidence.specs.declared.evidence.Evidence.TheVariants as found
+use Rattle.check_evidence.specs.Evidence.{limits_meant, IsHeld, IsEvidence, HasLearned, HasChecked}
+use Rattle.smt_reply.specs.Replies.{Context, in_context, OnAnswer, IsLastAnswer, IsReply}
 use Rattle.smt_session.specs.declared.mode.Mode.{Mode as CodeMode}
 use Rattle.smt_session.specs.declared.mode.Mode.TheVariants as modes
-use Rattle.smt_session.specs.declared.mode.CheckAnswer.{CheckAnswer}
-use Rattle.smt_session.specs.declared.mode.CheckAnswer.TheVariants as answers
 use Rattle.smt_session.specs.declared.mode.ExecutionMode.{ExecutionMode as CodeExecution}
 use Rattle.smt_session.specs.declared.mode.ExecutionMode.TheVariants as executions
+use Rattle.smt_session.specs.declared.script.Script.{Script}
 use Rattle.smt_session.specs.declared.responses.Response.{Response as CodeResponse}
 use Rattle.smt_session.specs.declared.responses.Response.TheVariants as responses
 use Rattle.smt_session.specs.declared.session.After.{After}
@@ -40,12 +43,12 @@ abbrev pub mode_meant : CodeMode → Mode
 mode_meant modes.Solve = solve
 mode_meant modes.Certify = certify
 
--- the mode to which the answer of a check leads, and that in which there is none
-abbrev pub answer_mode : Option CheckAnswer → ExecutionMode
-answer_mode None = assert_mode
-answer_mode (Some answers.Sat) = sat_mode
-answer_mode (Some answers.Unsat) = unsat_mode
-answer_mode (Some answers.Unknown) = unknown_mode
+-- the mode to which what a check found leads, and that in which there is nothing
+abbrev pub evidence_mode : Option Evidence → ExecutionMode
+evidence_mode None = assert_mode
+evidence_mode (Some (found.Model interp)) = sat_mode
+evidence_mode (Some (found.Proof log plan)) = unsat_mode
+evidence_mode (Some (found.Reason reason)) = unknown_mode
 
 -- a mode in the words of the definitions
 abbrev pub execution_meant : CodeExecution → ExecutionMode
@@ -55,16 +58,36 @@ execution_meant executions.Sat = sat_mode
 execution_meant executions.Unsat = unsat_mode
 execution_meant executions.Unknown = unknown_mode
 
+-- what was stated, with the table of its terms
+abbrev pub stated : Script → OverTable
+stated x = over_table x.table x.stack
+
+-- what questions are answered over
+abbrev pub context : Script → Context
+context x = in_context x.table x.stack x.answer
+
+-- What a session holds of a script represents a state, under a limit on terms and names.
+pub record IsScript (terms : ℕ) (x : Script) (s : State) : Type 0 where
+  -- its stack
+  pub stack : IsHeld terms (stated x) s.stack
+  -- and what the last check found, while its answer counts
+  pub answer : IsLastAnswer x.table x.budget x.answer s.answer
+
+-- it represents some state
+abbrev pub HoldsScript : ℕ → Script → Type 0
+HoldsScript terms x = (s : State) × IsScript terms x s
+
 -- the response is this, in the words of the definitions, to a command of a text
-abbrev pub IsResponse : TableView → List ℕ → BudgetView → CodeResponse → Response → Type 0
-IsResponse t text budget responses.Success r = r ≡ success
-IsResponse t text budget responses.Unsupported r = r ≡ not_supported
-IsResponse t text budget (responses.Answered e) r =
-    (c : Checked) × IsEvidence t budget e c.found × (r ≡ answered c)
-IsResponse t text budget (responses.Echoed s) r = r ≡ echoed s.now
-IsResponse t text budget responses.Ended r = r ≡ ended
-IsResponse t text budget (responses.Rejected x) r =
-    (r ≡ rejected (record { offset = x.place.offset; fault = x.fault })) × IsPlaceOf text x.place
+abbrev pub IsResponse : Script → List ℕ → CodeResponse → Response → Type 0
+IsResponse x text responses.Success r = r ≡ success
+IsResponse x text responses.Unsupported r = r ≡ not_supported
+IsResponse x text responses.Answered r =
+    OnAnswer x.answer (λ e. (c : Checked) × IsEvidence x.table x.budget e c.found × (r ≡ answered c))
+IsResponse x text (responses.Echoed s) r = r ≡ echoed s.now
+IsResponse x text responses.Ended r = r ≡ ended
+IsResponse x text (responses.Replied reply) r = (y : Reply) × IsReply (context x) reply y × (r ≡ response_of (Ok y))
+IsResponse x text (responses.Rejected f) r =
+    (r ≡ rejected (record { offset = f.place.offset; fault = f.fault })) × IsPlaceOf text f.place
 
 -- a check that is answered is one of the stack
 abbrev pub IsAskedOf : Response → State → Type 0
@@ -77,10 +100,9 @@ IsKeptAnswer terms (answered c) = IsKeptCheck terms c.check
 IsKeptAnswer terms _ = Unit {0}
 
 -- The response of a script, to a command of a text, is this, after which the script is a stack.
-pub record IsResponseOf (x : OverTable) (text : List ℕ) (budget : BudgetView) (response : CodeResponse)
-    (a : Answered) : Type 0 where
+pub record IsResponseOf (x : Script) (text : List ℕ) (response : CodeResponse) (a : Answered) : Type 0 where
   -- it is this
-  pub is : IsResponse x.table text budget response a.response
+  pub is : IsResponse x text response a.response
   -- a check is one of the stack
   pub asked : IsAskedOf a.response a.state
   -- what is declared
@@ -89,52 +111,65 @@ pub record IsResponseOf (x : OverTable) (text : List ℕ) (budget : BudgetView) 
   pub option : a.state.stack.options.print_success ≡ x.stack.options.print_success
 
 -- the response means something
-abbrev pub IsSomeResponse : TableView → CodeResponse → Type 0
-IsSomeResponse t response =
-    (text : List ℕ) × (budget : BudgetView) × (r : Response) × IsResponse t text budget response r
+abbrev pub IsSomeResponse : Script → CodeResponse → Type 0
+IsSomeResponse x response = (text : List ℕ) × (r : Response) × IsResponse x text response r
 
 -- what was learned at a check, where the response is to one
-abbrev pub LearnsBy : Limits → TableView → Response → BudgetView → Type 0
-LearnsBy limits t (answered c) budget = HasLearned limits t c.check c.found budget
-LearnsBy limits t _ budget = Unit {0}
+abbrev pub LearnsBy : Limits → Script → Response → Type 0
+LearnsBy limits x (answered c) = HasLearned limits x.table c.check c.found x.budget
+LearnsBy limits x _ = Unit {0}
 
 -- no other command than a check changes the budget
-abbrev pub KeepsBudget : Result CodeResponse NoMemory → BudgetView → BudgetView → Type 0
-KeepsBudget (Ok (responses.Answered e)) old new = Unit {0}
-KeepsBudget _ old new = new ≡ old
+abbrev pub KeepsBudget : Result CodeResponse NoMemory → Script → Script → Type 0
+KeepsBudget (Ok responses.Answered) old new = Unit {0}
+KeepsBudget _ old new = new.budget ≡ old.budget
 
--- a command that is refused leaves the answer of the last check
-abbrev pub KeepsAnswer : CodeResponse → Option CheckAnswer → Option CheckAnswer → Type 0
-KeepsAnswer (responses.Rejected r) old new = new ≡ old
-KeepsAnswer _ old new = Unit {0}
+-- what is refused, and what is asked, changes nothing
+abbrev pub KeepsScript : Result CodeResponse NoMemory → Script → Script → Type 0
+KeepsScript (Ok (responses.Rejected r)) old new = new ≡ old
+KeepsScript (Ok (responses.Replied r)) old new = new ≡ old
+KeepsScript _ old new = Unit {0}
 
--- a command that is refused changes neither table nor stack
-abbrev pub KeepsStated : Result CodeResponse NoMemory → OverTable → OverTable → Type 0
-KeepsStated (Ok (responses.Rejected r)) old new = new ≡ old
-KeepsStated _ old new = Unit {0}
+-- what the last check found, where the command states nothing, and else nothing
+abbrev pub answer_left : Bool → Option Evidence → Option Evidence
+answer_left true old = old
+answer_left false old = None
 
--- A command is answered in a state, and the script represents the stack after it.
-pub record AnswersCommand (limits : Limits) (s : State) (c : Sexpr) (response : CodeResponse) (x : OverTable)
-    (budget : BudgetView) : Type 0 where
+-- A command is answered in a state, and the script represents the state after it.
+pub record AnswersCommand (limits : Limits) (s : State) (c : Sexpr) (response : CodeResponse) (x : Script)
+    : Type 0 where
   -- what it is answered
   pub a : Answered
   -- that is so
   pub answers : Answers limits s (tree_of c) a
   -- the response says this
-  pub is : IsResponse x.table (text_of c) budget response a.response
+  pub is : IsResponse x (text_of c) response a.response
   -- a check is one of the stack
   pub asked : IsAskedOf a.response a.state
   -- which commands left
   pub kept : IsKeptAnswer limits.terms a.response
   -- what the script represents
-  pub held : IsHeld limits.terms x a.state.stack
+  pub represents : IsScript limits.terms x a.state
   -- what was learned
-  pub learned : LearnsBy limits x.table a.response budget
+  pub learned : LearnsBy limits x a.response
 
--- a command is answered in a state; or memory ran out, and the script represents the stack of that state
-abbrev pub TakesScriptCommand : Limits → State → Sexpr → Result CodeResponse NoMemory → OverTable → BudgetView → Type 0
-TakesScriptCommand limits s c (Ok response) x budget = AnswersCommand limits s c response x budget
-TakesScriptCommand limits s c (Err _) x budget = IsHeld limits.terms x s.stack
+-- a command is answered in a state; or memory ran out
+abbrev pub TakesScriptCommand : Limits → State → Sexpr → Result CodeResponse NoMemory → Script → Type 0
+TakesScriptCommand limits s c (Ok response) x = AnswersCommand limits s c response x
+TakesScriptCommand limits s c (Err _) x = Unit {0}
+
+-- What a check found is kept, and the script represents the same stack.
+pub record HasFound (limits : Limits) (c : Check) (x : Script) : Type 0 where
+  -- what is kept
+  pub evidence : Evidence
+  pub kept : x.answer ≡ Some evidence
+  -- it is what the check found
+  pub checked : HasChecked limits c evidence (stated x) x.budget
+
+-- a check found something, which is kept; or memory ran out
+abbrev pub Finds : Limits → Check → Result (Unit {0}) NoMemory → Script → Type 0
+Finds limits c (Ok _) x = HasFound limits c x
+Finds limits c (Err _) x = Unit {0}
 
 -- a command that was not taken is refused with its fault, or memory ran out
 abbrev pub Rejects : Refused → Result CodeResponse NoMemory → Type 0
@@ -149,39 +184,28 @@ after_meant _ = afters.Went
 
 -- What a session holds.
 pub record SessionView : Type 0 where
-  -- the table of terms
-  pub table : TableView
-  -- what was stated
-  pub stack : CodeStack
+  -- what it holds of a script
+  pub script : Script
   -- what each search of a check may spend, and a script name
   pub limits : CodeLimits
   -- how much is written
   pub mode : CodeMode
-  -- what the last search of the last check learned
-  pub budget : BudgetView
-  -- the answer of the last check, while it counts
-  pub answer : Option CheckAnswer
 
--- what was stated, with the table of its terms
-abbrev pub stated : SessionView → OverTable
-stated x = over_table x.table x.stack
-
--- The session represents a state.
-pub record IsSession (x : SessionView) (s : State) : Type 0 where
-  -- its stack
-  pub stack : IsHeld x.limits.terms (stated x) s.stack
-  -- and the last check, by its answer
-  pub answer : answer_mode x.answer ≡ mode_answered s.answer
+-- the session represents a state
+abbrev pub IsSession : SessionView → State → Type 0
+IsSession x s = IsScript x.limits.terms x.script s
 
 -- what was learned at a check is in the budget: it is that of the decision that found what is answered; no other
 -- command changes it
 abbrev pub HasLists : Response → SessionView → SessionView → Type 0
-HasLists (answered c) old new = HasLearned (limits_meant old.limits) new.table c.check c.found new.budget
-HasLists _ old new = new.budget ≡ old.budget
+HasLists (answered c) old new =
+    HasLearned (limits_meant old.limits) new.script.table c.check c.found new.script.budget
+HasLists _ old new = new.script.budget ≡ old.script.budget
 
--- a command that is refused changes nothing of a session
+-- what is refused, and what is asked, changes nothing of a session
 abbrev pub RefusedKeeps : Response → SessionView → SessionView → Type 0
 RefusedKeeps (rejected f) old new = new ≡ old
+RefusedKeeps (replied lines) old new = new ≡ old
 RefusedKeeps _ old new = Unit {0}
 
 -- what the answer of a check means, where the response is one
@@ -201,7 +225,7 @@ pub record IsAnswered (s : State) (x : Sexpr) (old new : SessionView) (a : Answe
   pub means : ResponseMeans a.response
   -- the lists of its budget
   pub lists : HasLists a.response old new
-  -- where it is refused, the whole session is as it was
+  -- where it is refused, or asks, the whole session is as it was
   pub refused : RefusedKeeps a.response old new
 
 -- what is written for the response to a command

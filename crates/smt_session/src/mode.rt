@@ -32,17 +32,6 @@ pub enum ExecutionMode {
     Unknown,
 }
 
-/// The answer of a check.
-#[derive(Clone, Copy, Debug, PartialEq, Eq)]
-pub enum CheckAnswer {
-    /// `sat`.
-    Sat,
-    /// `unsat`.
-    Unsat,
-    /// `unknown`.
-    Unknown,
-}
-
 /// Tells whether a command states nothing, nor takes anything back: the answer of the last check counts after it. It
 /// takes no memory.
 pub(crate) fn states_nothing(command: &Sexpr<'_>) -> bool

@@ -2,7 +2,7 @@
 use Rattle.world_io.proofs.Sending.{sends_failed, first_fails, first_then}
 use Rattle.spec_sessions.specs.Responses.{answer_text, shown_text, evidence_text}
 use Rattle.smt_session.specs.Sessions.{mode_meant}
-use Rattle.smt_session.proofs.responses.send_check.Goals as goal
+use Rattle.smt_session.proofs.responses.send_found.Goals as goal
 
 pub returns-in_err-send_answer : goal.returns-in_err-send_answer
 returns-in_err-send_answer g c budget x same e =
