@@ -8,3 +8,5 @@ pub mod Lengths
 pub mod InMemory
 pub mod Buffers
 pub mod Taken
+pub mod CommandLines
+pub mod Programs

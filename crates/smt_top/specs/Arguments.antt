@@ -143,9 +143,11 @@ abbrev pub asked_by_faults : Kinds → Option (Text × List Row) → Option Aske
 asked_by_faults [] met = option_and_then asked_in met
 asked_by_faults (k ∷ ks) met = None
 
--- what the arguments of a run ask for, where they are taken; the first word is the program's name. They are taken where
--- `clap` by its
--- definition finds no fault in them for `smt_app`, and the value of each option that is given stands for a number.
+-- what the arguments of a run ask for, by their bytes; the first is the program's name. They are taken where `clap` by
+-- its definition finds no fault in them for `smt_app`, and the value of each option that is given stands for a number.
+abbrev pub asked_of : List Text → Option Asked
+asked_of arguments = asked_by_faults (fault_of smt_app arguments) (subcommand_of smt_app arguments)
+
+-- what the arguments of a run ask for, where they are taken
 unfoldable pub asked : List (String Global) → Option Asked
-asked arguments = asked_by_faults (fault_of smt_app (map string_bytes arguments))
-    (subcommand_of smt_app (map string_bytes arguments))
+asked arguments = asked_of (map string_bytes arguments)

@@ -4,3 +4,5 @@ pub mod Output
 pub mod RunMeans
 pub mod Calls
 pub mod InMemory
+pub mod CommandLine
+pub mod Program

@@ -4,12 +4,16 @@
 mod arguments;
 mod buffered;
 mod check_run;
+mod command_line;
 mod in_memory;
 mod output;
+mod program;
 mod read;
 mod verdict;
 
 pub use buffered::run_buffered;
 pub use check_run::run;
+pub use command_line::{CommandLine, HostCommandLine, UnreadArguments, arguments_of};
 pub use in_memory::run_in_memory;
+pub use program::{ProgramEnd, exit_code, run_command_line, run_program};
 pub use smt_session::{After, Halt, Mode, Session, Status, run_text};
