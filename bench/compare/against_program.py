@@ -29,12 +29,17 @@ assuming               the same of scripts whose checks assume literals, most of
                        is asserted where it is asked alone, and proofs are also given to other checks; more of the
                        scripts are put to z3 and cvc5
 resets                 scripts in one text with `reset` between them, which have to be answered as each is alone
+questions              scripts with `get-` commands in all modes, and options turned on and off: models, proofs and reasons
+                       are those that `certify` shows for the same check, and values are those of the terms under its
+                       model; by `certify`, and by `solve`, which is foretold to the byte; the others answer the checks
 
-With --only these kinds alone are run. Whether there is a model is known from truth tables, or else by trying values up
-to a bound (bench/compare/models.py). Where that is too much, and where there are numbers, the model, the proof or the
-reason of `unknown` alone decides. Of each `valid` it is looked up that no model was found of all assertions, too.
+With --only these kinds alone are run, and with --rounds so many rounds of each, in as many seconds as it takes.
 
-It prints a table of the kinds with the number of runs and of differences, and of the last four kinds how the checks
+Whether there is a model is known from truth tables, or else by trying values up to a bound (bench/compare/models.py).
+Where that is too much, and where there are numbers, the model, the proof or the reason of `unknown` alone decides. Of
+each `valid` it is looked up that no model was found of all assertions, too.
+
+It prints a table of the kinds with the number of runs and of differences, and of some kinds how the checks
 were answered. What each difference is on is written to files in a temporary folder, which is printed. It ends with
 status 1 where there is a difference, else with 0.
 """
@@ -61,6 +66,7 @@ from mixed_scripts import a_mixed_script
 from number_scripts import a_number_script
 from others import answers_in, answers_of, are_at_odds, may_be_asked, solvers
 from proofs import proof_of_single_steps, some_trees
+from question_runs import questions
 from reading import read_one
 from reasons import NONE, Limits
 from scripts import NAMES, a_session, an_arithmetic_script
@@ -335,15 +341,16 @@ KINDS = {
     "levels": levels,
     "assuming": assuming,
     "resets": resets,
+    "questions": questions,
 }
 
 
-def compare(executable, kind, folder, seconds, seed):
-    """Runs one kind for so many seconds; returns its comparison."""
+def compare(executable, kind, folder, seconds, rounds, seed):
+    """Runs one kind for so many seconds, or so many rounds if a number is given; returns its comparison."""
     comparison = Comparison(executable, kind, folder)
     end = time.monotonic() + seconds
     number = 0
-    while time.monotonic() < end and comparison.differences < MOST_DIFFERENCES:
+    while comparison.differences < MOST_DIFFERENCES and (number < rounds if rounds else time.monotonic() < end):
         number += 1
         random.seed(f"{seed} {kind} {number}")
         KINDS[kind](comparison)
@@ -357,13 +364,14 @@ def main(given):
     )
     parser.add_argument("program", metavar="PROGRAM")
     parser.add_argument("--seconds", type=float, default=60)
+    parser.add_argument("--rounds", type=int, metavar="N")
     parser.add_argument("--seed", type=int, default=1)
     parser.add_argument("--only", nargs="+", choices=list(KINDS), default=list(KINDS), metavar="KIND")
     words = parser.parse_args(given)
     folder = tempfile.mkdtemp(prefix="compare-")
     share = words.seconds / len(words.only)
     executable = os.path.abspath(words.program)
-    done = [compare(executable, kind, folder, share, words.seed) for kind in words.only]
+    done = [compare(executable, kind, folder, share, words.rounds, words.seed) for kind in words.only]
     print("| kind | runs | differences |")
     print("|---|---|---|")
     for comparison in done:

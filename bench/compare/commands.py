@@ -1,13 +1,13 @@
 """Reads scripts, command by command, as SMT-LIB 2.6 has them; terms are read by language.py."""
 
 from language import Check, Definition, Reader, State, is_name
+from questions import QUESTIONS, Question
 from reading import THEORY, Fault, error_line, read_one
 from terms import BOOL
 
 LOGICS = (b"QF_UFLRA", b"QF_UF", b"QF_LRA", b"QF_RDL", b"ALL")
 MOST_LEVELS = 1_000_000
 GREATEST_NUMBER = 2**64 - 1
-OPTIONS = (b":print-success", b":produce-models", b":produce-proofs", b":produce-assertions")
 
 
 def set_logic(state, parts, start):
@@ -28,7 +28,7 @@ def set_option(state, parts, start):
     """Performs `set-option`."""
     if len(parts) != 3 or parts[1][0] != "kw":
         raise Fault(start, b"BadShape")
-    if parts[1][1] not in OPTIONS:
+    if parts[1][1] not in state.options:
         return "unsupported"
     if parts[2][0] != "sym" or parts[2][1] not in (b"true", b"false"):
         raise Fault(start, b"BadShape")
@@ -109,6 +109,7 @@ def assert_term(state, parts, start):
     state.require_room(start, len(reader.made), [term])
     state.functions.update(reader.made)
     state.assertions.append(term)
+    state.written.append(parts[1])
     return "success"
 
 
@@ -207,6 +208,7 @@ SETTINGS = {
     b"reset": reset,
     b"echo": echo,
     b"exit": leave,
+    **QUESTIONS,
 }
 STATEMENTS = {
     b"set-logic": set_logic,
@@ -226,7 +228,7 @@ STATEMENTS = {
 def perform(state, item):
     """Performs a command, or raises its first fault.
 
-    It returns `success`, `unsupported`, `exit` or a line, and of a check the terms that it assumes.
+    It returns `success`, `unsupported`, `exit`, a line or a question, and of a check the terms that it assumes.
     """
     kind, parts, start = item
     if kind != "list" or not parts:
@@ -237,6 +239,7 @@ def perform(state, item):
     if verb_kind == "res" and verb in STATEMENTS:
         answer = STATEMENTS[verb](state, parts, start)
         state.has_begun = True
+        state.asked = state.at_check(answer) if isinstance(answer, list) else None
         return answer
     raise Fault(verb_start, b"UnknownCommand")
 
@@ -244,7 +247,7 @@ def perform(state, item):
 def read_script(text, limit=2**24):
     """Returns what each command of a script is answered, up to its end or `exit`, and what it stated.
 
-    An answer is a line, or of a check what is current there.
+    An answer is a line, or of a check what is current there, or a question about that.
     """
     state, answers, at = State(limit), [], 0
     while True:
@@ -263,8 +266,8 @@ def read_script(text, limit=2**24):
         if answer == "unsupported":
             answers.append(b"unsupported\n")
         elif isinstance(answer, list):
-            answers.append(state.at_check(answer))
-        elif isinstance(answer, bytes):
+            answers.append(state.asked)
+        elif isinstance(answer, (bytes, Question)):
             answers.append(answer)
         elif state.options[b":print-success"]:
             answers.append(b"success\n")

@@ -7,11 +7,11 @@ there is none), `=` what is written, by `check` where there is a proof and else 
 """
 
 from antt import lines_written
-from commands import checks_of, read_script
+from commands import read_script
 from judging import predict_check
 from proof_rows import LEXICAL, statement
 from script_rows import faults_in
-from sessions import judge_solve, predict_solve, run_script
+from sessions import is_open, judge_solve, predict_solve, run_script
 
 FIRST_LINE = b"(set-option :print-success false)\n"
 
@@ -33,11 +33,11 @@ class Row:
     def foretold(self):
         """Returns what the independent reading says is written, by `check` where there is a proof, else by `solve`.
 
-        Where it leaves a check open, it returns what the row says, if it can be written.
+        Where it leaves a check or a question open, it returns what the row says, if it can be written.
         """
         if self.proof:
             return predict_check(self.script, self.number, self.proof, self.limit)[0]
-        if not any(check.is_open for check in checks_of(run_script(self.script, self.limit)[0])):
+        if not any(map(is_open, run_script(self.script, self.limit)[0])):
             return predict_solve(self.script, self.limit)[0]
         wrong = judge_solve(self.script, self.wanted, run_script(self.script)[1])
         return self.wanted if wrong is None else wrong.encode()

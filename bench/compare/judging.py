@@ -30,9 +30,9 @@ class Names(State):
         self.terms = check.terms
         self.sorts, self.functions = dict(check.sorts), dict(check.functions)
 
-    def reader(self, own=None):
-        """Returns a reader of terms for one command, which may define a name of its own."""
-        return ProofReader(self, own)
+    def reader(self, own=None, may_name=True):
+        """Returns a reader of terms for one command, which may define a name of its own, and name terms."""
+        return ProofReader(self, own, may_name)
 
     def is_declared(self, name):
         """Tells whether the script declares a symbol of this name."""

@@ -12,6 +12,8 @@ from reading import THEORY, Fault
 from terms import BOOL, GREATEST, REAL, Terms
 from truths import Tables
 
+# The options that are known, with what they are at first.
+OPTIONS = {b":print-success": True, b":produce-models": False, b":produce-proofs": False, b":produce-assertions": False}
 BOOL_HEADS = {b"not": (1, 1), b"and": (1, None), b"or": (1, None), b"xor": (2, None), b"=>": (2, None)}
 REAL_HEADS = {b"-": 1, b"+": 1, b"*": 1, b"/": 2, b"<": 2, b"<=": 2, b">": 2, b">=": 2}
 
@@ -42,10 +44,11 @@ class Reader:
     KEPT_BYTES = (b"@", b".")
     KNOWN = b"Twice"
 
-    def __init__(self, state, own=None):
+    def __init__(self, state, own=None, may_name=True):
         self.state = state
         self.terms = state.terms
         self.own = own
+        self.may_name = may_name
         self.made = {}
 
     def known(self, name):
@@ -126,7 +129,7 @@ class Reader:
         term = self.term(bound, parts[1])
         for name in names:
             new = self.name_for_term(name)
-            if not self.state.may_name or free_names(parts[1]) & set(bound):
+            if not self.may_name or free_names(parts[1]) & set(bound):
                 raise Fault(start, b"BadShape")
             self.made[new] = Definition(new, (), term)
         return term
@@ -258,18 +261,20 @@ def free_names(item):
 
 
 class State:
-    """What a script has stated: sorts and functions by name, assertions, levels, options, and whether it has begun."""
+    """What a script has stated: sorts and functions by name, assertions, levels, options, and whether it has begun.
+
+    `written` has the items of the assertions, and `asked` the last check, where nothing was stated after it.
+    """
 
     def __init__(self, limit):
         self.limit = limit
         self.terms = Terms()
-        self.may_name = True
         self.forget_all()
 
     def forget_all(self):
         """Takes back all that was stated, as `reset` does."""
         self.forget_assertions()
-        self.options = {b":print-success": True}
+        self.options = dict(OPTIONS)
         self.has_begun = False
 
     def forget_assertions(self):
@@ -277,17 +282,21 @@ class State:
         self.sorts = {}
         self.functions = {}
         self.assertions = []
+        self.written = []
         self.levels = []
+        self.asked = None
 
     def open_levels(self, count):
         """Opens so many levels: of each what was there before it is kept."""
-        self.levels += [(dict(self.sorts), dict(self.functions), list(self.assertions))] * count
+        here = dict(self.sorts), dict(self.functions), list(self.assertions), list(self.written)
+        self.levels += [here] * count
 
     def close_levels(self, count):
         """Closes so many levels: what was there before the lowest of them is there again."""
         if count:
-            sorts, functions, assertions = self.levels[-count]
-            self.sorts, self.functions, self.assertions = dict(sorts), dict(functions), list(assertions)
+            sorts, functions, assertions, written = self.levels[-count]
+            self.sorts, self.functions = dict(sorts), dict(functions)
+            self.assertions, self.written = list(assertions), list(written)
             del self.levels[-count:]
 
     def sort(self, item):
@@ -305,9 +314,9 @@ class State:
             raise Fault(start, b"UnknownSort")
         return self.sorts[name]
 
-    def reader(self, own=None):
-        """Returns a reader of terms for one command, which may define a name of its own."""
-        return Reader(self, own)
+    def reader(self, own=None, may_name=True):
+        """Returns a reader of terms for one command, which may define a name of its own, and name terms."""
+        return Reader(self, own, may_name)
 
     def at_check(self, assumed):
         """Returns what is current now, at a check that assumes terms, apart from what later commands state."""

@@ -63,7 +63,7 @@ def row_of(seed):
     answers, state = read_script(script, limit)
     faults = [(int(line), int(column), name.decode()) for line, column, name in faults_in(answers)]
     is_usual = {name for _, _, name in faults} <= USUAL
-    if len(script) > LONGEST or (is_usual and not is_arithmetic and random.random() < 0.8):
+    if len(script) > LONGEST or b"(get-" in script or (is_usual and not is_arithmetic and random.random() < 0.8):
         return None
     lines = lines_written(script)
     wanted = "".join("(%d, %d, %s) ∷ " % fault for fault in faults)

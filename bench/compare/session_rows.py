@@ -44,7 +44,7 @@ def row_of(seed):
     """
     random.seed(seed)
     script = a_session(random.choice([0, 0.1, 0.3]))
-    if len(script) > LONGEST:
+    if len(script) > LONGEST or b"(get-" in script:
         return None
     answers, _ = run_script(script)
     if any(isinstance(answer, Check) and answer.is_open for answer in answers):

@@ -5,32 +5,58 @@ Others without numbers are decided by trying values of symbols, up to a bound. W
 are numbers, either answer may come, and what `certify` shows has to bear it out. What is left is foretold to the byte.
 
 With numbers `unknown` may come too, and under limits that are given: reasons.py judges the reason that `certify` shows.
+
+What is asked about a check is foretold by the model, the proof or the reason that `certify` shows for it. Where `solve`
+alone was run, what comes first of these is judged, and foretells what follows.
 """
 
-from functools import lru_cache
+from functools import cached_property, lru_cache
 
 from commands import read_script
 from judging import Judge
 from language import Check
 from printed_proofs import printed, proof_end
 from printed_values import Wrong, require, value_of
-from reading import Fault, printed_name, read_one
+from questions import SAT, UNKNOWN, UNSAT, Question, shown_value
+from reading import Fault, error_line, printed_name, read_one
 from reasons import NONE, reason_end
 from values import Exact
 
 # The lines that answer a check by what is known of it: that there is a model, or none, or nothing.
-ANSWERS = {True: (b"sat\n",), False: (b"unsat\n",), None: (b"sat\n", b"unsat\n")}
-UNKNOWN = b"unknown\n"
+ANSWERS = {True: (SAT,), False: (UNSAT,), None: (SAT, UNSAT)}
+REFUSAL = b'(error "'
+
+
+class Found:
+    """What is found at a check: the line that answers it, and the text that shows it, where that is known."""
+
+    def __init__(self, check, line, text=None):
+        self.check = check
+        self.line = line
+        self.text = text
+
+    @cached_property
+    def tables(self):
+        """The tables of the model, which has to be right."""
+        return model_at(self.check, self.text, 0)[0]
 
 
 def is_refusal(answer):
-    """Tells whether an answer is that of a command that is refused."""
-    return not isinstance(answer, Check) and answer.startswith(b"(error ")
+    """Tells whether an answer is known to be that of a command that is refused."""
+    return isinstance(answer, bytes) and answer.startswith(REFUSAL)
+
+
+def is_open(answer):
+    """Tells whether an answer waits for what is found at a check, or is such a check."""
+    return isinstance(answer, Question) or (isinstance(answer, Check) and answer.is_open)
 
 
 @lru_cache(maxsize=8)
 def run_script(text, limit=2**24):
-    """Returns the answers of a script, each a line or what is current at a check, and the status of the run."""
+    """Returns the answers of a script, and the status of the run where each question is answered.
+
+    An answer is a line, what is current at a check, or a question about that.
+    """
     answers, _ = read_script(text, limit)
     return answers, int(any(map(is_refusal, answers)))
 
@@ -43,10 +69,9 @@ def lines_of(answer):
 def predict_solve(text, limit=2**24):
     """Returns what `solve` is to print for a script of which no check is open, and its status."""
     answers, status = run_script(text, limit)
-    lines = [lines_of(answer) for answer in answers]
-    if any(len(choices) > 1 for choices in lines):
+    if any(map(is_open, answers)):
         raise ValueError("a check of the script is open")
-    return b"".join(choices[0] for choices in lines), status
+    return b"".join(lines_of(answer)[0] for answer in answers), status
 
 
 def line_at(answer, output, at, limits=NONE):
@@ -61,19 +86,6 @@ def line_at(answer, output, at, limits=NONE):
         if output.startswith(line, at):
             return line
     raise Wrong(f"expected one of {choices!r} at {at}, got {output[at : at + 60]!r}")
-
-
-def judge_solve(script, output, status):
-    """Returns what is wrong with what `solve` printed for a script and with its status, or None."""
-    answers, wanted_status = run_script(script)
-    at = 0
-    try:
-        for answer in answers:
-            at += len(line_at(answer, output, at))
-        require_end(output, at, status, wanted_status)
-    except Wrong as wrong:
-        return str(wrong)
-    return None
 
 
 def require_end(output, at, status, wanted_status):
@@ -114,8 +126,8 @@ def table_of(item, name, sorts, result):
     return rows, value_of(body, result)
 
 
-def model_end(check, output, at):
-    """Returns the offset behind the model that starts at `at`, which has to make all assertions true."""
+def model_at(check, output, at):
+    """Returns the tables of the model that starts at `at`, which has to make all assertions true, and the offset behind."""
     try:
         found = read_one(output, at)
     except Fault as fault:
@@ -127,38 +139,110 @@ def model_end(check, output, at):
     require(len(items) == len(check.order), "not one definition for each symbol")
     tables = {name: table_of(item, name, *check.functions[name]) for item, name in zip(items, check.order)}
     require(all(Exact(check.terms, tables).all(check.assertions)), "the model makes an assertion false")
-    return at + len(wanted)
+    return tables, at + len(wanted)
 
 
 def evidence_end(check, line, output, at, limits):
     """Returns the offset behind the model, proof or reason that follows a check's line, which has to be right."""
-    if line == b"sat\n":
-        return model_end(check, output, at)
-    if line == b"unsat\n":
+    if line == SAT:
+        return model_at(check, output, at)[1]
+    if line == UNSAT:
         return proof_end(Judge(check), output, at)
-    return reason_end(check, output, at, limits) if line == UNKNOWN else at
+    return reason_end(check, output, at, limits)
+
+
+def values_end(question, script, output, at):
+    """Returns the offset behind the answer to `get-value`, of which the terms and the sorts of the values are known."""
+    for item in question.items:
+        line = error_line(script, Fault(item[2], b"ValueWide"))
+        if output.startswith(line, at):
+            return at + len(line)
+    try:
+        found = read_one(output, at)
+    except Fault as fault:
+        raise Wrong(f"the values are not readable: {fault.name!r}") from fault
+    require(found is not None and found[0][0] == "list" and len(found[0][1]) == len(question.items), "no values")
+    pairs = []
+    for item, term, (kind, parts, _) in zip(question.items, question.terms, found[0][1]):
+        require(kind == "list" and len(parts) == 2, "no term with its value")
+        pairs.append(b"(" + printed(item) + b" " + shown_value(value_of(parts[1], question.check.terms.sorts[term])) + b")")
+    line = b"(" + b" ".join(pairs) + b")\n"
+    require(output.startswith(line, at), f"the values are not printed so: {line!r}")
+    return at + len(line)
+
+
+def question_end(question, found, script, output, at, limits):
+    """Returns the offset behind the answer to a question; what it shows of the check is known from there on."""
+    try:
+        line = question.answer(found)
+    except Fault as fault:
+        line = error_line(script, fault)
+    if line is not None:
+        require(output.startswith(line, at), f"expected {line!r} at {at}, got {output[at : at + len(line) + 20]!r}")
+        return at + len(line)
+    if question.word == b"get-value":
+        return values_end(question, script, output, at)
+    if question.word == b"get-info":
+        found.text, end = reason_asked(found.check, output, at, limits)
+        return end
+    end = evidence_end(found.check, found.line, output, at, limits)
+    found.text = output[at:end]
+    return end
+
+
+def reason_asked(check, output, at, limits):
+    """Returns the reason that is answered at `at`, as a line, which has to be right, and the offset behind."""
+    front, behind = b"(:reason-unknown ", b")\n"
+    end = output.find(b"\n", at) + 1
+    require(output.startswith(front, at) and output.endswith(behind, at, end), "no reason")
+    text = output[at + len(front) : end - len(behind)] + b"\n"
+    require(reason_end(check, text, 0, limits) == len(text), "more than a reason")
+    return text, end
+
+
+def judge(script, output, status, limits=NONE, shows=False, known=None, is_foretold=True):
+    """Returns what is wrong with an output and its status, or nothing, and what was found at each check.
+
+    With `shows` each answer to a check is followed by what shows it, else what is shown of it may be known before. Where
+    answers are not foretold, their models and proofs alone decide: to foretell them may take time exponential in the
+    script.
+    """
+    answers, wanted_status = run_script(script)
+    founds, at = [], 0
+    try:
+        for answer in answers:
+            start = at
+            if isinstance(answer, Question):
+                at = question_end(answer, founds[-1], script, output, at, limits)
+                wanted_status = max(wanted_status, int(output.startswith(REFUSAL, start)))
+                continue
+            if isinstance(answer, Check) and not is_foretold:
+                answer.is_satisfiable = None
+            line = line_at(answer, output, at, limits)
+            at += len(line)
+            if isinstance(answer, Check):
+                end = evidence_end(answer, line, output, at, limits) if shows else at
+                founds.append(known[len(founds)] if known else Found(answer, line, output[at:end] if shows else None))
+                require(founds[-1].line == line, f"another answer than before: {line!r}")
+                at = end
+        require_end(output, at, status, wanted_status)
+    except Wrong as wrong:
+        return str(wrong), founds
+    return None, founds
+
+
+def judge_solve(script, output, status, limits=NONE, known=None):
+    """Returns what is wrong with what `solve` printed for a script and with its status, or None.
+
+    What is known of its checks comes from `certify`, or is nothing.
+    """
+    return judge(script, output, status, limits, known=known)[0]
 
 
 def judge_certify(script, output, status, limits=NONE, is_foretold=True):
     """Returns what is wrong with an output, or None, and its right proofs: pairs of a check's number and a text.
 
-    The limits are those that the program was given. Where answers are not foretold, their models and proofs alone
-    decide: to foretell them may take time exponential in the script.
+    The limits are those that the program was given.
     """
-    answers, wanted_status = run_script(script)
-    proofs, at, number = [], 0, 0
-    try:
-        for answer in answers:
-            is_check = isinstance(answer, Check)
-            if is_check and not is_foretold:
-                answer.is_satisfiable = None
-            line = line_at(answer, output, at, limits)
-            at += len(line)
-            if is_check:
-                number += 1
-                start, at = at, evidence_end(answer, line, output, at, limits)
-                proofs += [(number, output[start:at])] if line == b"unsat\n" else []
-        require_end(output, at, status, wanted_status)
-    except Wrong as wrong:
-        return str(wrong), proofs
-    return None, proofs
+    wrong, founds = judge(script, output, status, limits, True, None, is_foretold)
+    return wrong, [(number, found.text) for number, found in enumerate(founds, 1) if found.line == UNSAT]
