@@ -180,6 +180,13 @@ def a_questioning_script():
 
 
 def without_questions(script):
-    """Returns a script without its questions and its options, for solvers that answer these otherwise."""
-    kept = [text for word, text in commands_of(script) if word[:4] != b"get-" and word != b"set-option"]
-    return b"\n".join([*kept, b""])
+    """Returns a script without questions, options and what is refused: other solvers answer these otherwise."""
+    state, texts = State(2**24), []
+    for word, text in commands_of(script):
+        try:
+            perform(state, read_one(text, 0)[0])
+        except Fault:
+            continue
+        if word[:4] != b"get-" and word != b"set-option":
+            texts.append(text)
+    return b"\n".join([*texts, b""])
