@@ -33,7 +33,8 @@ questions              scripts with `get-` commands in all modes, and options tu
                        are those that `certify` shows for the same check, and values are those of the terms under its
                        model; by `certify`, and by `solve`, which is foretold to the byte; the others answer the checks
 
-With --only these kinds alone are run, and with --rounds so many rounds of each, in as many seconds as it takes.
+With --only these kinds alone are run, and with --rounds so many rounds of each, in as many seconds as it takes. A round
+with a run of more than two minutes is left.
 
 Whether there is a model is known from truth tables, or else by trying values up to a bound (bench/compare/models.py).
 Where that is too much, and where there are numbers, the model, the proof or the reason of `unknown` alone decides. Of
@@ -351,9 +352,14 @@ def compare(executable, kind, folder, seconds, rounds, seed):
     end = time.monotonic() + seconds
     number = 0
     while comparison.differences < MOST_DIFFERENCES and (number < rounds if rounds else time.monotonic() < end):
+        if rounds and number % 500 == 0:
+            print(f"{kind}: {number} rounds, {comparison.differences} differences", file=sys.stderr, flush=True)
         number += 1
         random.seed(f"{seed} {kind} {number}")
-        KINDS[kind](comparison)
+        try:
+            KINDS[kind](comparison)
+        except subprocess.TimeoutExpired as stopped:
+            print(f"{kind}: round {number}: stopped after {LONGEST_RUN} s: {stopped.cmd}", flush=True)
     return comparison
 
 

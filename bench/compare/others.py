@@ -30,7 +30,8 @@ def answers_of(words, script):
         done = subprocess.run(words, input=script, capture_output=True, timeout=2 * SECONDS, check=False)
     except subprocess.TimeoutExpired:
         return None
-    return None if b"(error" in done.stdout or done.returncode else answers_in(done.stdout)
+    is_left = b"(error" in done.stdout or b"timeout\n" in done.stdout or done.returncode
+    return None if is_left else answers_in(done.stdout)
 
 
 def are_at_odds(some, others):
