@@ -95,7 +95,7 @@ def run_family(program, name, sizes, folder):
         ran = least(instance.words, RUNS, LONGEST)
         cells = [name, f"{n:,}", f"{size:,}"]
         if ran.status is None:
-            row([*cells, f"stopped after {LONGEST} s", "", ""])
+            row([*cells, f"stopped after {LONGEST} s", "", "", ""])
             return [*wrong, f"{name} at {n:,}: stopped"]
         if (ran.output, ran.status) != (instance.wanted, instance.status):
             difference = first_difference(instance.wanted, ran.output)
@@ -104,7 +104,7 @@ def run_family(program, name, sizes, folder):
         if is_too_long(ran.user, before, MOST):
             times += " too long"
             wrong.append(f"{name} at {n:,}: ten times n cost more than {MOST} times the time")
-        row([*cells, f"{ran.user:.3f}", times, f"{ran.memory:,}"])
+        row([*cells, f"{ran.user:.3f}", times, f"{ran.memory:,}", f"{ran.memory * 1024 / size:.1f}"])
         before = ran.user
     return wrong
 
@@ -131,7 +131,7 @@ def run_ends(program, folder):
 def run_all(asked):
     """Runs the families that are asked for; returns what is wrong, as texts."""
     wrong = []
-    head(["family", "n", "bytes", "seconds", "times the row before", "peak memory in KB"])
+    head(["family", "n", "bytes", "seconds", "times the row before", "peak memory in KB", "times the texts"])
     with tempfile.TemporaryDirectory() as folder:
         for name in asked.families:
             wrong += run_family(asked.program, name, [n for n in SIZES if n <= asked.most], folder)

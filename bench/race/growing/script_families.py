@@ -188,6 +188,46 @@ def levels_at_once(n):
     return [*taken([f"(push {n})", f"(pop {n})"] * 10), CHECK]
 
 
+def asserts(n):
+    """Assertions of one constant."""
+    return [*constants(1), *taken(["(assert p0)"] * n), READ]
+
+
+def assertions_asked(n):
+    """Assertions of one constant, and a question for all of them."""
+    listed = ("(get-assertions)", f"({' '.join(['p0'] * n)})")
+    return [*taken(["(set-option :produce-assertions true)"]), *constants(1), *taken(["(assert p0)"] * n), listed]
+
+
+def checked(*commands):
+    """Returns commands and a check, after which values may be asked for."""
+    return [*taken(["(set-option :produce-models true)", *commands]), CHECK]
+
+
+def values_asked(n):
+    """A check, and n questions for one value."""
+    question = ("(get-value (x (+ x 1)))", "((x 1) ((+ x 1) 2))")
+    return [*checked("(declare-const x Real)", "(assert (= x 1))"), *[question] * n]
+
+
+def values_at_once(n):
+    """A check, and one question for n values."""
+    terms = [f"(+ x {i})" for i in range(n)]
+    values = " ".join(f"({term} {i + 1})" for i, term in enumerate(terms))
+    return [*checked("(declare-const x Real)", "(assert (= x 1))"), (f"(get-value ({' '.join(terms)}))", f"({values})")]
+
+
+def value_deep(n):
+    """Definitions that each have the one before twice, a check, and a question for the value of the last."""
+    first = ["(declare-const p Bool)", "(assert p)", "(define-fun d0 () Bool p)"]
+    steps = [f"(define-fun d{i} () Bool (and d{i - 1} d{i - 1}))" for i in range(1, n)]
+    return [*checked(*first, *steps), (f"(get-value (d{n - 1}))", f"((d{n - 1} true))")]
+
+
+def infos_asked(n):
+    """Questions for infos and options."""
+    return [("(get-info :name)", '(:name "smt_cli")'), ("(get-option :print-success)", "true")] * n
+
 
 class Family(NamedTuple):
     """A script by a number."""
@@ -228,6 +268,12 @@ FAMILIES = {
     "levels in turn": Family(levels_in_turn),
     "levels nested": Family(levels_nested),
     "levels at once": Family(levels_at_once),
+    "asserts": Family(asserts),
+    "assertions asked": Family(assertions_asked),
+    "values asked": Family(values_asked),
+    "values at once": Family(values_at_once),
+    "value deep": Family(value_deep),
+    "infos asked": Family(infos_asked),
 }
 
 
