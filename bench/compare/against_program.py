@@ -352,7 +352,7 @@ def compare(executable, kind, folder, seconds, rounds, seed):
     end = time.monotonic() + seconds
     number = 0
     while comparison.differences < MOST_DIFFERENCES and (number < rounds if rounds else time.monotonic() < end):
-        if rounds and number % 500 == 0:
+        if rounds and number % 100 == 99:
             print(f"{kind}: {number} rounds, {comparison.differences} differences", file=sys.stderr, flush=True)
         number += 1
         random.seed(f"{seed} {kind} {number}")

@@ -7,14 +7,16 @@ from question_scripts import a_questioning_script, without_questions
 from questions import UNSAT, Question
 from reading import Fault
 from reasons import NONE, Limits
-from sessions import judge, judge_solve, run_script
+from sessions import evidence_end, judge, judge_solve, run_script, shown_end
 
 # How many sessions are run in one text, `reset` between them: to start the program takes longer than to run one of them.
-TOGETHER = (1, 1, 10, 20)
-# The shares of the texts of which one session is put to the others, and whose checks have to show the same without the
-# questions and what is refused; and of the proofs that `check` judges at their check, and at any.
-ASKED_SHARE = 0.5
-PLAIN_SHARE = 0.3
+TOGETHER = (1, 10, 20)
+# The shares of the texts of which one session is put to the others, whose checks have to show the same without the
+# questions and what is refused, and of which all that `certify` shows is judged; and of the proofs that `check` judges
+# at their check, and at any.
+ASKED_SHARE = 0.3
+PLAIN_SHARE = 0.15
+JUDGED_SHARE = 0.25
 CHECKED_SHARE = 0.15
 ELSEWHERE_SHARE = 0.05
 
@@ -40,9 +42,14 @@ def questions_in(script, founds):
 
 
 def certified(comparison, script, limits):
-    """Returns what `certify` wrote that is wrong, and what was found at the checks of a script."""
+    """Returns what `certify` wrote that is wrong, and what was found at the checks of a script.
+
+    Models, proofs and reasons are judged in some of the texts, and else taken as they stand: a model whose values are
+    asked for is judged there.
+    """
     output, status, errors = comparison.run(["certify", *limits.words], script)
-    wrong, founds = judge(script, output, status, limits, shows=True, is_foretold=False)
+    shows = evidence_end if random.random() < JUDGED_SHARE else shown_end
+    wrong, founds = judge(script, output, status, limits, shows, is_foretold=False)
     return f"{wrong} {errors!r}" if wrong or errors else None, founds
 
 

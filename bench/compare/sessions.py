@@ -151,6 +151,14 @@ def evidence_end(check, line, output, at, limits):
     return reason_end(check, output, at, limits)
 
 
+def shown_end(_check, line, output, at, _limits):
+    """Returns the offset behind the text that follows a check's line, which is not judged."""
+    behind = b"\n" if line == UNKNOWN else b"\n)\n"
+    end = output.find(behind, at)
+    require(end >= 0, "nothing is shown")
+    return end + len(behind)
+
+
 def values_end(question, script, output, at):
     """Returns the offset behind the answer to `get-value`, of which the terms and the sorts of the values are known."""
     for item in question.items:
@@ -200,12 +208,12 @@ def reason_asked(check, output, at, limits):
     return text, end
 
 
-def judge(script, output, status, limits=NONE, shows=False, known=None, is_foretold=True):
+def judge(script, output, status, limits=NONE, shows=None, known=None, is_foretold=True):
     """Returns what is wrong with an output and its status, or nothing, and what was found at each check.
 
-    With `shows` each answer to a check is followed by what shows it, else what is shown of it may be known before. Where
-    answers are not foretold, their models and proofs alone decide: to foretell them may take time exponential in the
-    script.
+    Where `shows` is given, each answer to a check is followed by what shows it, of which this is the end; else what is
+    shown of it may be known before. Where answers are not foretold, their models and proofs alone decide: to foretell
+    them may take time exponential in the script.
     """
     answers, wanted_status = run_script(script)
     founds, at = [], 0
@@ -221,7 +229,7 @@ def judge(script, output, status, limits=NONE, shows=False, known=None, is_foret
             line = line_at(answer, output, at, limits)
             at += len(line)
             if isinstance(answer, Check):
-                end = evidence_end(answer, line, output, at, limits) if shows else at
+                end = shows(answer, line, output, at, limits) if shows else at
                 founds.append(known[len(founds)] if known else Found(answer, line, output[at:end] if shows else None))
                 require(founds[-1].line == line, f"another answer than before: {line!r}")
                 at = end
@@ -244,5 +252,5 @@ def judge_certify(script, output, status, limits=NONE, is_foretold=True):
 
     The limits are those that the program was given.
     """
-    wrong, founds = judge(script, output, status, limits, True, None, is_foretold)
+    wrong, founds = judge(script, output, status, limits, evidence_end, None, is_foretold)
     return wrong, [(number, found.text) for number, found in enumerate(founds, 1) if found.line == UNSAT]
