@@ -6,7 +6,7 @@ ghost use Rattle.smt_question.specs.Infos.{info_meant};
 
 use smt_sexpr::same_bytes;
 
-/// Information that is known. Source: SMT-LIB 2.6, section 4.1.8.
+/// Names information that is known. Source: SMT-LIB 2.6, section 4.1.8.
 #[derive(Clone, Copy, Debug, PartialEq, Eq)]
 pub enum Info {
     /// `:name`.

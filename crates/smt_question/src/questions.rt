@@ -7,7 +7,7 @@ ghost use Rattle.smt_question.specs.Questions.{word_meant};
 
 use smt_sexpr::{Kind, Trees, is_reserved, same_bytes};
 
-/// What a session is asked. Its parts are as they are written.
+/// Tells what a session is asked. Its parts are as they are written.
 ///
 /// Source: SMT-LIB 2.6, sections 4.2.4 and 4.2.6 to 4.2.8.
 #[derive(Clone, Copy)]

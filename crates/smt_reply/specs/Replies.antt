@@ -1,5 +1,5 @@
 -- What is kept of the last check, what answers a question over it, and what is written for that. Source: SMT-LIB 2.6,
--- sections 4.1.8 and 4.2.6 to 4.2.8.
+-- sections 4.1.8, 4.2.4 and 4.2.6 to 4.2.8.
 use Rattle.std.specs.Prelude.{◌≡◌, ℕ, suc, List, [], ◌∷◌, ◌++◌, length, map, All, Option, Some, None, Result, Ok, Err}
 use Rattle.std.specs.Prelude.{codes, decimal}
 use Rattle.spec_text.specs.declared.Fault.{Fault}

@@ -29,7 +29,7 @@ use std::alloc::Global;
 use term_core::TermTable;
 use term_reader::ReadError;
 
-/// What answers a question.
+/// Tells what answers a question.
 ///
 /// Contracts see it as what is written for it, by the relation `IsReply`. Source: SMT-LIB 2.6, sections 4.1.8 and 4.2.6 to
 /// 4.2.8.
@@ -208,8 +208,8 @@ fn values_reply(
 ///   operation whose result leaves the bound.
 /// - `Memory` may come at any allocation, and says nothing of the question.
 ///
-/// For values its time goes with the texts of the terms and their different subterms, those that their definitions have
-/// among them; else it is short. Source: SMT-LIB 2.6, sections 4.1.1, 4.1.7, 4.1.8 and 4.2.6 to 4.2.8.
+/// For values its time goes with the texts of the terms and, for each term anew, with its different subterms, those of its
+/// definitions among them; else it is short. Source: SMT-LIB 2.6, sections 4.1.1, 4.1.7, 4.1.8, 4.2.4 and 4.2.6 to 4.2.8.
 pub fn reply_to(
     alloc: Global,
     table: &mut TermTable,

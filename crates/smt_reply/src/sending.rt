@@ -173,7 +173,7 @@ fn send_pairs<K: Sink>(symbols: &Symbols, pairs: &[TermValue], out: &mut K) -> R
 /// Writes what answers a question. Table, stack and answer are those for which `reply_to` found it.
 ///
 /// It takes no memory, and time linear in what is written. `Failed` comes only where the sink's count of faults rose in this
-/// call; a prefix was then appended. Source: SMT-LIB 2.6, sections 3.9, 4.1.8 and 4.2.6 to 4.2.8; the texts of models,
+/// call; a prefix was then appended. Source: SMT-LIB 2.6, sections 3.9, 4.1.8, 4.2.4 and 4.2.6 to 4.2.8; the texts of models,
 /// proofs and reasons are those of `check_evidence::send_evidence`.
 pub fn send_reply<K: Sink>(
     table: &TermTable,

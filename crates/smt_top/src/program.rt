@@ -39,7 +39,7 @@ fn arguments_taken<C: CommandLine>(alloc: Global, line: &C) -> Result<Vec<String
 /// Runs what the arguments of a command line ask for, as `run_buffered` does, and gives the exit code of the run.
 ///
 /// Where one of the arguments is not UTF-8, it is the run of no arguments. Where memory for the arguments runs out, the exit
-/// code is that of `Memory`, and nothing is read or written.
+/// code is that of `Memory`.
 pub fn run_command_line<C: CommandLine, F: Shelf, K: Sink + Drop>(
     alloc: Global,
     line: &C,

@@ -1,4 +1,5 @@
--- What a session may be asked, by the shape of the command. Source: SMT-LIB 2.6, sections 3.9 and 4.2.6 to 4.2.8.
+-- What a session may be asked, by the shape of the command. Source: SMT-LIB 2.6, sections 3.9, 4.2.4 and 4.2.6 to
+-- 4.2.8.
 use Rattle.std.specs.Prelude.{ℕ, Bool, true, false, List, [], ◌∷◌, Option, Some, None, codes}
 use Rattle.spec_text.specs.declared.Kind.{Kind}
 use Rattle.spec_text.specs.Bytes.{Name}

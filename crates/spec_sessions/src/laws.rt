@@ -51,8 +51,8 @@ pub fn what_is_shown_is_so()
 
 /// States that the fault of what is asked is at the offset of one of its atoms or lists.
 pub fn faults_are_in_their_question()
-    ensures { (limits : Limits) (s : State) (t : Tree) (asked : Answer Question) (f : Located) → question_of t ≡ Some asked
-        → answer_to limits s (offset_of t) asked ≡ Err f → HasOffset t f.offset }
+    ensures { (limits : Limits) (s : State) (t : Tree) (asked : Answer Question) (f : Located)
+        → question_of t ≡ Some asked → answer_to limits s (offset_of t) asked ≡ Err f → HasOffset t f.offset }
 {}
 
 /// States that the checks of a transcript are those of the text, the first of them the first. Each answer says what is so
