@@ -20,7 +20,7 @@ use Rattle.smt_reply.specs.Replies.{OnAnswer}
 use Rattle.smt_session.specs.declared.script.Script.{Script}
 use Rattle.smt_session.specs.declared.responses.Response.{Response as CodeResponse}
 use Rattle.smt_session.specs.declared.responses.Response.TheVariants as responses
-use Rattle.smt_session.specs.Sessions.{SessionView, IsResponse, IsResponseOf, IsKeptAnswer, LearnsBy, KeepsBudget, KeepsScript, AnswersCommand, HasLists, RefusedKeeps, ResponseMeans, IsAnswered}
+use Rattle.smt_session.specs.Sessions.{SessionView, IsResponse, IsResponseOf, IsKeptAnswer, LearnsBy, KeepsBudget, KeepsScript, AnswersCommand, HasLists, RefusedKeeps, AskedKeeps, ResponseMeans, IsAnswered}
 
 -- the script that a session holds, with what else it holds
 abbrev pub session_over : SessionView → Script → SessionView
@@ -93,15 +93,26 @@ means_so law limits s t a answers kept = by_tree (question_of t) answers
     by_tree None h = by_step (step limits.terms s.stack t) h
     by_tree (Some asked) (is, same) = subst ResponseMeans (sym is) (by_reply (answer_to limits s (offset_of t) asked))
 
+-- what is asked changes nothing else, either
+asked_session : (q : Option (Answer Question)) (old : SessionView) (x : Script) → AskedKeeps q old.script x → AskedKeeps q old (session_over old x)
+asked_session None old x h = tt
+asked_session (Some asked) old x h = ap (session_over old) h
+
+-- what is not changed is kept, whatever is asked, and so is it where nothing is
+pub asked_kept : (q : Option (Answer Question)) (old new : Script) → new ≡ old → AskedKeeps q old new
+asked_kept None old new h = tt
+asked_kept (Some asked) old new h = h
+
 -- a command that was taken is answered
-pub is_answered : MeansSo → (s : State) (c : Sexpr) (r : CodeResponse) (old : SessionView) (x : Script) (taken : AnswersCommand (limits_meant old.limits) s c r x) → KeepsBudget (Ok r) old.script x → KeepsScript (Ok r) old.script x → IsAnswered s c old (session_over old x) taken.a
-is_answered law s c r old x taken budget kept = record {
+pub is_answered : MeansSo → (s : State) (c : Sexpr) (r : CodeResponse) (old : SessionView) (x : Script) (taken : AnswersCommand (limits_meant old.limits) s c r x) → KeepsBudget (Ok r) old.script x → KeepsScript (Ok r) old.script x → AskedKeeps (question_of (tree_of c)) old.script x → IsAnswered s c old (session_over old x) taken.a
+is_answered law s c r old x taken budget kept asked = record {
   answers = taken.answers;
   represents = taken.represents;
   asked = taken.asked;
   means = means_so law (limits_meant old.limits) s (tree_of c) taken.a taken.answers taken.kept;
   lists = keeps_lists (text_of c) r taken.a old x taken.is taken.learned budget;
   refused = keeps_session (text_of c) r taken.a old x taken.is kept;
+  question = asked_session (question_of (tree_of c)) old x asked;
 }
 
 -- what is written for it is its response

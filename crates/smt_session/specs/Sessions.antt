@@ -3,6 +3,7 @@ use Rattle.std.specs.Prelude.{◌≡◌, ℕ, Bool, true, false, List, [], Optio
 use Rattle.no_memory.specs.declared.NoMemory.{NoMemory}
 use Rattle.world_io.specs.declared.fault.Failed.{Failed}
 use Rattle.world_io.specs.Writing.{SinkView, Sent, NotSent}
+use Rattle.spec_text.specs.Answers.{Answer}
 use Rattle.spec_text.specs.Places.{IsPlaceOf}
 use Rattle.spec_sorts.specs.Signatures.{symbols_in}
 use Rattle.spec_commands.specs.Stack.{signature_of}
@@ -10,6 +11,7 @@ use Rattle.spec_commands.specs.Checks.{Check}
 use Rattle.spec_sessions.specs.Evidence.{Limits, Checked}
 use Rattle.spec_sessions.specs.States.{State, ExecutionMode, start_mode, assert_mode, sat_mode, unsat_mode}
 use Rattle.spec_sessions.specs.States.{unknown_mode}
+use Rattle.spec_sessions.specs.Questions.{Question, question_of}
 use Rattle.spec_sessions.specs.Replies.{Reply}
 use Rattle.spec_sessions.specs.Responses.{Mode, solve, certify, Response, success, not_supported, answered, echoed}
 use Rattle.spec_sessions.specs.Responses.{ended, replied, rejected, response_of, Answered, Answers, response_text}
@@ -18,8 +20,6 @@ use Rattle.smt_lexer.specs.declared.Refused.{Refused}
 use Rattle.smt_lexer.specs.declared.Refused.TheVariants as refusals
 use Rattle.smt_sexpr.specs.declared.sexpr.Sexpr.{Sexpr}
 use Rattle.smt_sexpr.specs.Items.{text_of, tree_of}
-use Rattle.term_core.specs.Tables.{TableView}
-use Rattle.sat_budget.specs.Budgets.{BudgetView}
 use Rattle.sat_budget.specs.declared.limits.Limits.{Limits as CodeLimits}
 use Rattle.assertion_stack.specs.Stacks.{OverTable, over_table}
 use Rattle.check_evidence.specs.declared.evidence.Evidence.{Evidence}
@@ -202,11 +202,16 @@ HasLists (answered c) old new =
     HasLearned (limits_meant old.limits) new.script.table c.check c.found new.script.budget
 HasLists _ old new = new.script.budget ≡ old.script.budget
 
--- what is refused, and what is asked, changes nothing of a session
+-- what is refused changes nothing of a session, nor does what is answered by lines
 abbrev pub RefusedKeeps : Response → SessionView → SessionView → Type 0
 RefusedKeeps (rejected f) old new = new ≡ old
 RefusedKeeps (replied lines) old new = new ≡ old
 RefusedKeeps _ old new = Unit {0}
+
+-- what is asked changes nothing, whatever it is answered
+abbrev pub AskedKeeps : {A : Type 0} → Option (Answer Question) → A → A → Type 0
+AskedKeeps None old new = Unit {0}
+AskedKeeps (Some asked) old new = new ≡ old
 
 -- what the answer of a check means, where the response is one
 abbrev pub ResponseMeans : Response → Type 0
@@ -225,8 +230,10 @@ pub record IsAnswered (s : State) (x : Sexpr) (old new : SessionView) (a : Answe
   pub means : ResponseMeans a.response
   -- the lists of its budget
   pub lists : HasLists a.response old new
-  -- where it is refused, or asks, the whole session is as it was
+  -- where it is refused, the whole session is as it was
   pub refused : RefusedKeeps a.response old new
+  -- so it is where it asks, whatever the answer is
+  pub question : AskedKeeps (question_of (tree_of x)) old new
 
 -- what is written for the response to a command
 abbrev pub written_for : SessionView → Sexpr → Answered → List ℕ

@@ -10,7 +10,7 @@ ghost use Rattle.smt_sexpr.specs.Items.{tree_of};
 ghost use Rattle.search_loop.specs.Rounds.{HasLimits};
 ghost use Rattle.spec_commands.specs.Checks.{Check};
 ghost use Rattle.check_evidence.specs.Evidence.{limits_meant, HoldsCheck, IsHeldCheck};
-ghost use Rattle.smt_session.specs.Sessions.{stated, answer_left, IsScript, HoldsScript, Finds, TakesScriptCommand, KeepsBudget, KeepsScript, Rejects};
+ghost use Rattle.smt_session.specs.Sessions.{stated, answer_left, AskedKeeps, IsScript, HoldsScript, Finds, TakesScriptCommand, KeepsBudget, KeepsScript, Rejects};
 
 use crate::mode::states_nothing;
 use crate::responses::Response;
@@ -57,6 +57,7 @@ pub(crate) fn take<'a>(
     ensures memory { OnErr result (script.new ≡ script.old) }
     ensures budget { KeepsBudget result script.old script.new }
     ensures kept { KeepsScript result script.old script.new }
+    ensures asked { AskedKeeps (question_of (tree_of sexpr.now)) script.old script.new }
     ensures limits { HasLimits limits.now script.old.budget → HasLimits limits.now script.new.budget }
 {
     match question(sexpr) {

@@ -1,17 +1,15 @@
 -- What answers a question, or its fault with its place.
-use Rattle.std.proofs.Common.{◌≡◌, ◌≤◌, ◌<◌, ℕ, length, Some, sym, ap, ◌∙◌, subst}
-use Rattle.std.specs.Prelude.{Ok, Err}
-use Rattle.spec_text.specs.Answers.{Answer}
+use Rattle.std.proofs.Common.{◌≡◌, ◌≤◌, ◌<◌, length, sym, ap, ◌∙◌, subst}
+use Rattle.std.specs.Prelude.{Ok}
 use Rattle.spec_text.specs.Faults.{Located}
 use Rattle.spec_text.specs.Offsets.{at_offset}
 use Rattle.spec_text.specs.Trees.{offset_of}
-use Rattle.spec_sessions.specs.Replies.{Reply, reply_to}
+use Rattle.spec_sessions.specs.Replies.{reply_to}
 use Rattle.smt_sexpr.specs.Items.{text_of, start_of, tree_of}
 use Rattle.smt_question.specs.Questions.{question_view}
-use Rattle.smt_reply.specs.Replies.{Replies}
 use Rattle.term_reader.specs.Names.{located_of}
 use Rattle.smt_session.specs.declared.script.Script.{Script}
-use Rattle.smt_session.specs.Sessions.{AnswersCommand, context}
+use Rattle.smt_session.specs.Sessions.{AnswersCommand}
 use Rattle.smt_session.specs.declared.responses.Response.TheVariants as responses
 use Rattle.smt_session.proofs.Taking.{asked_fault, replied_as, unanswered_as}
 use Rattle.smt_session.proofs.script.take_question.Goals as goal

@@ -15,7 +15,7 @@ returns-clause-stepped g c = λ s h.
     let old : SessionView = record { script = i.script; limits = i.limits; mode = i.mode } in
     let h' : IsSession old s = rw (← c.self.view_is) at h in
     let k = c.in_ok-response.ensures.takes s h' in
-    let so = is_answered c.what_is_shown_is_so.ensures.at s x r old c.take.new.script k c.in_ok-response.ensures.budget c.in_ok-response.ensures.kept in
+    let so = is_answered c.what_is_shown_is_so.ensures.at s x r old c.take.new.script k c.in_ok-response.ensures.budget c.in_ok-response.ensures.kept c.in_ok-response.ensures.asked in
     let of = is_response (limits_meant i.limits) s x r c.take.new.script k in
     let w = c.in-Err.ensures (text_of x) k.a of in (
       k.a,
@@ -31,7 +31,7 @@ returns-in-Ok-clause-stepped g c = λ s h.
     let old : SessionView = record { script = i.script; limits = i.limits; mode = i.mode } in
     let h' : IsSession old s = rw (← c.self.view_is) at h in
     let k = c.in_ok-response.ensures.takes s h' in
-    let so = is_answered c.what_is_shown_is_so.ensures.at s x r old c.take.new.script k c.in_ok-response.ensures.budget c.in_ok-response.ensures.kept in
+    let so = is_answered c.what_is_shown_is_so.ensures.at s x r old c.take.new.script k c.in_ok-response.ensures.budget c.in_ok-response.ensures.kept c.in_ok-response.ensures.asked in
     let of = is_response (limits_meant i.limits) s x r c.take.new.script k in
     let w = c.in-Ok.ensures (text_of x) k.a of in (
       k.a,
