@@ -1,4 +1,5 @@
-//! Tests of what no run of the program shows: bytes in and out, s-expressions, fractions, and the texts of models and reasons.
+//! Tests of what no run of the program shows: bytes in and out, s-expressions and where they are settled, fractions, and the
+//! texts of models and reasons.
 //!
 //! Each is a text of rows, which a helper reads; it gives the first row that is not so.
 #![tactic(auto)]
@@ -16,4 +17,8 @@ mod reason_tests;
 #[cfg(test)]
 mod rows;
 #[cfg(test)]
+mod scan_tests;
+#[cfg(test)]
 mod sexpr_tests;
+#[cfg(test)]
+mod stream_tests;
