@@ -1,8 +1,8 @@
 //! Reads the s-expressions of a text that comes in pieces, each as soon as every text that goes on so has it next.
 //!
-//! However a text is cut, its s-expressions and its end are the same. A byte is scanned once as it comes, and once more where
-//! it stands behind an s-expression that was given. Nothing is read again from the beginning of an s-expression that is
-//! unfinished. Of a text the first 2^26 bytes are read.
+//! However a text is cut, its s-expressions and its end are the same. A byte is scanned once, and that which ends a word
+//! twice. Nothing is read again from the beginning of an s-expression that is unfinished. Of a text the first 2^26 bytes are
+//! read.
 #![tactic(auto)]
 
 mod item;

@@ -1,6 +1,6 @@
 //! A text that comes in pieces, and what is next in it.
 
-ghost use Rattle.std.specs.Prelude.{◌≡◌, ◌+◌, ◌-◌, ◌≤◌, ◌^◌, ◌++◌, ℕ, List, [], length, min, true, false, OnOk, OnErr};
+ghost use Rattle.std.specs.Prelude.{◌≡◌, ◌+◌, ◌-◌, ◌≤◌, ◌^◌, ◌++◌, List, [], length, min, true, false, OnOk, OnErr};
 ghost use Rattle.spec_text.specs.Places.{IsPlaceOf};
 ghost use Rattle.spec_text.specs.Readings.{text_limit, kept, prefix};
 ghost use Rattle.stream_scan.specs.Scanning.{scanned_from};
@@ -154,7 +154,7 @@ impl Stream {
     }
 
     /// Takes the bytes up to a place of those that are read, which is that after the s-expression that `next` gave. It takes
-    /// time linear in the bytes behind it, up to the one that settles what is next, and frees no memory.
+    /// time linear in the bytes from there on, up to the one that settles what is next, and frees no memory.
     pub fn advance(&mut self, after: Place)
         requires { IsPlaceOf (kept (bytes_of self.old)) after }
         ensures place { self.new.place ≡ after }

@@ -1,5 +1,5 @@
--- What comes next in a text from an offset on: an s-expression, a fault, or what may be either yet. Source: SMT-LIB 2.6,
--- sections 3.1 and 3.2; faults, and what is settled, are own.
+-- What comes next in a text from an offset on: an s-expression, a fault, or what may be either yet.
+-- Source: SMT-LIB 2.6, sections 3.1 and 3.2; faults, and what is settled, are own.
 use Rattle.std.specs.Prelude.{◌≡◌, ◌+◌, ◌≤◌, ℕ, zero, suc, List, [], ◌∷◌, ◌++◌, length, nat_lt, if◌then◌else◌}
 use Rattle.spec_text.specs.declared.Kind.{Kind}
 use Rattle.spec_text.specs.declared.Kind.TheVariants.{Text, Quoted, Keyword}

@@ -48,7 +48,7 @@ pub enum Pending {
     Keyword,
 }
 
-/// What the bytes so far tell of what stands next. Own.
+/// What bytes tell of what is next. Own.
 #[derive(Clone, Copy, Debug, PartialEq, Eq)]
 pub enum Scan {
     /// The pending token, and how many lists are open; one more than 500 is a fault. Nothing is next in each text that goes
@@ -58,7 +58,7 @@ pub enum Scan {
     Settled,
 }
 
-/// Scans bytes, one after the other, and gives the scan after them. To begin where no token is pending, the scan so far is
+/// Scans bytes, one after the other, and gives the scan after them. Where no token is pending, `from` is
 /// `Scan::Open(Pending::Blank, 0)`; a text may come in pieces of any length, each with the scan after the one before. An
 /// s-expression or a fault settles at the first byte that leaves no choice: a list at its closing parenthesis, a quoted symbol
 /// at its closing bar, any other word at the byte after it, a fault at the byte that shows it. No byte after that one is

@@ -1,4 +1,4 @@
--- The bytes that are left lead from the scan so far to where all lead from the first.
+-- The bytes that are left lead from the scan before them to where all lead from the first scan.
 use Rattle.std.proofs.Common.{◌≡◌, drop}
 use Rattle.spec_text.specs.Faults.{nesting_limit}
 use Rattle.stream_scan.specs.Scanning.{scanned}
