@@ -1,17 +1,17 @@
--- Printed terms in place are read as what they were printed for.
-use Rattle.std.proofs.Common.{◌≡◌, inl, inr, ℕ, zero, suc, ◌+◌, Bool, true, false, cond, List, [], ◌∷◌, ◌++◌, length, map, Option, Some, None, Contains, refl, sym, ap, ap₂, ◌∙◌, subst, append-nil}
-use Rattle.std.specs.Prelude.{◌⊎◌, ◌&&◌, not, Ok}
+-- Printed words are read as what they were printed for; what is printed has all its subterms among those that are known.
+use Rattle.std.proofs.Common.{◌≡◌, ℕ, zero, suc, Bool, true, false, cond, List, [], ◌∷◌, map, Option, Some, None, Contains, refl, sym, ap, ap₂, ◌∙◌, subst}
+use Rattle.std.specs.Prelude.{◌&&◌, not, Ok}
 use Rattle.std.proofs.lemmas.Bool.{and_parts, false≢true}
-use Rattle.std.proofs.lemmas.List.Elements.{Contains-append_left, Contains-append_right, Contains-append_cases}
+use Rattle.std.proofs.lemmas.List.Elements.{Contains-append_left, Contains-append_right}
 use Rattle.std.proofs.lemmas.Option.{same_Some}
 use Rattle.spec_text.specs.declared.Kind.TheVariants.{Simple, Quoted}
 use Rattle.spec_text.specs.declared.Fault.TheVariants.{NumberWide}
 use Rattle.spec_text.specs.Bytes.{Name}
 use Rattle.spec_text.specs.Answers.{◌>>=◌, require}
-use Rattle.spec_text.specs.Trees.{Trees, atom}
-use Rattle.spec_text.specs.Printed.{is_bare, printed}
-use Rattle.spec_text.proofs.Printing.{kind_of, moved, moved_all}
-use Rattle.spec_text.proofs.Members.{first, later, none as no_member}
+use Rattle.spec_text.specs.Trees.{atom}
+use Rattle.spec_text.specs.Printed.{is_bare}
+use Rattle.spec_text.proofs.Printing.{kind_of, moved}
+use Rattle.spec_text.proofs.Members.{first}
 use Rattle.spec_text.proofs.AnswerLaws.{joined}
 use Rattle.spec_numbers.specs.Fractions.{Fraction}
 use Rattle.spec_sorts.specs.Numerals.{literal_value, is_wide}
@@ -21,14 +21,14 @@ use Rattle.spec_sorts.specs.Signatures.{Known, declared, defined as by_definitio
 use Rattle.spec_sorts.specs.Subsets.{AreAmong}
 use Rattle.spec_sorts.proofs.SameTerms.{fractions_decide}
 use Rattle.spec_reading.specs.Names.{Setting}
-use Rattle.spec_reading.specs.Reading.{plain_reading, literal, with_sorts, applied, applied_as, reading, readings}
-use Rattle.spec_models.specs.Values.{trees_of, fraction_tree}
+use Rattle.spec_reading.specs.Reading.{plain_reading, literal, with_sorts, applied, applied_as, reading}
+use Rattle.spec_models.specs.Values.{fraction_tree}
 use Rattle.spec_proof_texts.specs.Decimals.{places, literal_text, literal_kind, has_decimal, literal_tree, is_decimal}
-use Rattle.spec_proof_texts.specs.Lines.{Argument, truth, number, symbol, defined, defined_name, argument_tree}
-use Rattle.spec_proof_texts.specs.Meaning.{Told, numbered, constant_if, bare_term, truth_term, term_told, AreTold}
+use Rattle.spec_proof_texts.specs.Lines.{Argument, Arguments, truth, number, symbol, defined, applied as in_place, no_items, item, defined_name, argument_tree}
+use Rattle.spec_proof_texts.specs.Meaning.{Told, numbered, constant_if, bare_term, truth_term, word_told, IsTold, AreToldSo, AreTold}
 use Rattle.spec_proof_texts.specs.ReadBack.{AreScriptNames}
-use Rattle.spec_proof_texts.proofs.Lookups.{numbered_in, symbol_found, head_same, tail_same}
-use Rattle.spec_proof_texts.proofs.Known.{number_term, is_long_number, number_terms, among_more}
+use Rattle.spec_proof_texts.proofs.Lookups.{numbered_in, symbol_found}
+use Rattle.spec_proof_texts.proofs.Known.{number_term, is_long_number, number_terms_in, number_terms_within, number_terms, IsHeld, AreHeld}
 
 -- a name that no function of a theory has
 pub no_rule : (n : Name) → (is_of_theory n ≡ true → ⊥) → look_up theory n ≡ None
@@ -53,11 +53,12 @@ pub record Knows (g : Signature) (told : Told) (s : Signature) : Type 0 where
   -- none has a parameter
   pub whole : (t : Term) → Contains told.terms t → filled [] t ≡ t
 
--- Terms among which those are that can be in place.
+-- Terms among which those are that can be printed, with their subterms.
 pub record Holds (g : Signature) (told : Told) (us : List Term) : Type 0 where
   pub truths : (b : Bool) → Contains us (truth_term b)
   pub constants : (f : Symbol) → Contains (symbols_in g) f → Contains us (constant_term f)
-  pub defined_terms : (t : Term) → Contains told.terms t → Contains us t
+  pub defined_terms : (t : Term) → Contains told.terms t → IsHeld us t
+  pub placed_terms : (t : Term) → Contains told.placed t → Contains us t
   -- the numbers that are not long
   pub numbers : (q : Fraction) → is_decimal q ≡ true → is_long_number q ≡ false → Contains us (number_term q)
 
@@ -101,6 +102,29 @@ module _ (s : Signature) (w : Setting) (at : ℕ) where
       ap (λ b. reading w s [] (moved at (cond b (atom 0 (literal_kind (places q)) (literal_text q)) (fraction_tree q)))) one.0
       ∙ atom_read q (places q) (literal_read q two.0 two.1)
 
+-- a head before terms without parameters, which it takes, has none
+head_whole : (h : Head) (ts : List Term) → filled_all [] (terms_of ts) ≡ terms_of ts → head_takes [] h (map sort_of ts) ≡ true → filled [] (of h ts) ≡ of h ts
+unfolding filled
+head_whole True ts e takes = ap (app True) e
+head_whole False ts e takes = ap (app False) e
+head_whole Not ts e takes = ap (app Not) e
+head_whole And ts e takes = ap (app And) e
+head_whole Or ts e takes = ap (app Or) e
+head_whole Xor ts e takes = ap (app Xor) e
+head_whole Implies ts e takes = ap (app Implies) e
+head_whole Equal ts e takes = ap (app Equal) e
+head_whole Ite ts e takes = ap (app Ite) e
+head_whole Minus ts e takes = ap (app Minus) e
+head_whole Plus ts e takes = ap (app Plus) e
+head_whole Times ts e takes = ap (app Times) e
+head_whole Divide ts e takes = ap (app Divide) e
+head_whole Less ts e takes = ap (app Less) e
+head_whole AtMost ts e takes = ap (app AtMost) e
+head_whole (Literal q) ts e takes = ap (app (Literal q)) e
+head_whole (Apply f) ts e takes = ap (app (Apply f)) e
+head_whole (Parameter k s) [] e takes = absurd (false≢true takes)
+head_whole (Parameter k s) (t ∷ ts) e takes = absurd (false≢true takes)
+
 module _ (g : Signature) (own : AreScriptNames g) (told : Told) where
   -- a symbol of the script is none of a theory
   pub own_name : (n : Name) (k : Known) → known_as g n ≡ Some k → look_up theory n ≡ None
@@ -137,106 +161,87 @@ module _ (g : Signature) (own : AreScriptNames g) (told : Told) where
     barred at n t true e = joined (applied s [] at n at []) _ t (plain_reading t) e refl
     barred at n t false e = joined (applied s [] at n at []) _ t (plain_reading t) e refl
 
-    pub argument_read : (a : Argument) (t : Term) → term_told g told a ≡ Some t → (at : ℕ) → reading w s [] (moved at (argument_tree a)) ≡ Ok (plain_reading t)
+    pub word_read : (a : Argument) (t : Term) → word_told g told a ≡ Some t → (at : ℕ) → reading w s [] (moved at (argument_tree a)) ≡ Ok (plain_reading t)
     unfolding reading require ◌>>=◌
-    argument_read (truth true) t e at = ap (λ u. Ok (plain_reading u)) (same_Some _ _ e)
-    argument_read (truth false) t e at = ap (λ u. Ok (plain_reading u)) (same_Some _ _ e)
-    argument_read (number q) t e at = go (is_decimal q) refl e
+    word_read (truth true) t e at = ap (λ u. Ok (plain_reading u)) (same_Some _ _ e)
+    word_read (truth false) t e at = ap (λ u. Ok (plain_reading u)) (same_Some _ _ e)
+    word_read (number q) t e at = go (is_decimal q) refl e
       where
         go : (b : Bool) → is_decimal q ≡ b → cond b (Some (number_term q)) None ≡ Some t → reading w s [] (moved at (argument_tree (number q))) ≡ Ok (plain_reading t)
         go true is e = number_read s w at q is ∙ ap (λ u. Ok (plain_reading u)) (same_Some _ _ e)
         go false is e = cc
-    argument_read (symbol n) t e at = barred at n t (is_bare n) (symbol_applied n t e at)
-    argument_read (defined n) t e at = joined (applied s [] at (defined_name n) at []) _ t (plain_reading t) (defined_applied n t e at) refl
+    word_read (symbol n) t e at = barred at n t (is_bare n) (symbol_applied n t e at)
+    word_read (defined n) t e at = joined (applied s [] at (defined_name n) at []) _ t (plain_reading t) (defined_applied n t e at) refl
+    word_read (in_place h items) t e at = cc
 
-    -- terms one after the other
-    pub arguments_read : (items : List Argument) (ts : List Term) → AreTold g told items ts → (at : ℕ) → readings w s [] (moved_all at (trees_of (map argument_tree items))) ≡ Ok (record { made = []; terms = ts })
-    unfolding readings
-    arguments_read [] [] e at = refl
-    arguments_read [] (t ∷ ts) e at = cc
-    arguments_read (a ∷ items) [] e at = cc
-    arguments_read (a ∷ items) (t ∷ ts) e at =
-        let next : ℕ = at + length (printed (argument_tree a)) + 1 in
-        let us : Trees = moved_all next (trees_of (map argument_tree items)) in
-        joined (reading w s [] (moved at (argument_tree a))) _ (plain_reading t) (record { made = []; terms = t ∷ ts }) (argument_read a t (head_same e) at)
-        (joined (readings w (s ++ []) [] us) _ (record { made = []; terms = ts }) (record { made = []; terms = t ∷ ts }) (ap (λ x. readings w x [] us) (append-nil s) ∙ arguments_read items ts (tail_same e) next) refl)
-
-  -- they are among those that can be in place
-  module _ (us : List Term) (holds : Holds g told us) where
-    pub argument_held : (a : Argument) (items : List Argument) (t : Term) → term_told g told a ≡ Some t → Contains (us ++ number_terms (a ∷ items)) t
-    argument_held (truth b) items t e = Contains-append_left us (number_terms items) t (subst (Contains us) (same_Some _ _ e) (holds.truths b))
-    argument_held (number q) items t e = go (is_decimal q) refl e
+  -- they and their subterms are among those that can be printed
+  module _ (vs : List Term) (holds : Holds g told vs) where
+    number_held : (q : Fraction) (t : Term) → word_told g told (number q) ≡ Some t → AreAmong (number_terms_in (number q)) vs → IsHeld vs t
+    number_held q t e long = go (is_decimal q) refl e
       where
-        by : (b : Bool) → is_decimal q ≡ true → is_long_number q ≡ b → Contains (us ++ cond b (number_term q ∷ number_terms items) (number_terms items)) (number_term q)
-        by true d long = Contains-append_right us (number_term q ∷ number_terms items) (number_term q) (first (number_term q) (number_terms items))
-        by false d short = Contains-append_left us (number_terms items) (number_term q) (holds.numbers q d short)
+        by : (b : Bool) → is_decimal q ≡ true → is_long_number q ≡ b → AreAmong (cond b (number_term q ∷ []) []) vs → Contains vs (number_term q)
+        by true d is there = there (number_term q) (first (number_term q) [])
+        by false d is there = holds.numbers q d is
 
-        go : (b : Bool) → is_decimal q ≡ b → cond b (Some (number_term q)) None ≡ Some t → Contains (us ++ number_terms (number q ∷ items)) t
-        go true d e = subst (Contains (us ++ number_terms (number q ∷ items))) (same_Some _ _ e) (by (is_long_number q) d refl)
+        go : (b : Bool) → is_decimal q ≡ b → cond b (Some (number_term q)) None ≡ Some t → IsHeld vs t
+        go true d e = subst (IsHeld vs) (same_Some _ _ e) (by (is_long_number q) d refl long, tt)
         go false d e = cc
-    argument_held (symbol n) items t e =
-        let c = constant_of g n t e in
-        Contains-append_left us (number_terms items) t (subst (Contains us) c.term (holds.constants c.symbol_is (symbol_found g n c.symbol_is c.found).0))
-    argument_held (defined n) items t e = Contains-append_left us (number_terms items) t (holds.defined_terms t (numbered_in told.terms n t e))
 
-    one_more_held : (a : Argument) (items : List Argument) (t : Term) → Contains (us ++ number_terms items) t → Contains (us ++ number_terms (a ∷ items)) t
-    one_more_held (truth b) items t c = c
-    one_more_held (symbol n) items t c = c
-    one_more_held (defined n) items t c = c
-    one_more_held (number q) items t c = by (is_long_number q) (Contains-append_cases us (number_terms items) t c)
-      where
-        by : (b : Bool) → Contains us t ⊎ Contains (number_terms items) t → Contains (us ++ cond b (number_term q ∷ number_terms items) (number_terms items)) t
-        by b (inl x) = Contains-append_left us (cond b (number_term q ∷ number_terms items) (number_terms items)) t x
-        by true (inr x) = Contains-append_right us (number_term q ∷ number_terms items) t (later (number_term q) (number_terms items) t x)
-        by false (inr x) = Contains-append_right us (number_terms items) t x
+    mutual
+      pub argument_held : (a : Argument) (t : Term) → IsTold g told a t → AreAmong (number_terms_in a) vs → IsHeld vs t
+      argument_held (truth true) t e long = subst (IsHeld vs) (same_Some _ _ e) (holds.truths true, tt)
+      argument_held (truth false) t e long = subst (IsHeld vs) (same_Some _ _ e) (holds.truths false, tt)
+      argument_held (number q) t e long = number_held q t e long
+      argument_held (symbol n) t e long =
+          let c = constant_of g n t e in
+          subst (IsHeld vs) c.term (holds.constants c.symbol_is (symbol_found g n c.symbol_is c.found).0, tt)
+      argument_held (defined n) t e long = holds.defined_terms t (numbered_in told.terms n t e)
+      argument_held (in_place h items) t e long =
+          subst (IsHeld vs) (sym e.2.term) (subst (Contains vs) e.2.term (holds.placed_terms t e.2.there), within_held items e.0 e.1 long)
 
-    pub arguments_held : (items : List Argument) (ts : List Term) → AreTold g told items ts → AreAmong ts (us ++ number_terms items)
-    arguments_held [] [] e = λ t c. absurd (no_member t c)
-    arguments_held [] (t ∷ ts) e = cc
-    arguments_held (a ∷ items) [] e = cc
-    arguments_held (a ∷ items) (t ∷ ts) e =
-        among_more t ts (us ++ number_terms (a ∷ items)) (argument_held a items t (head_same e)) (λ u c. one_more_held a items u (arguments_held items ts (tail_same e) u c))
+      within_held : (items : Arguments) (ts : List Term) → AreToldSo g told items ts → AreAmong (number_terms_within items) vs → AreHeld vs (terms_of ts)
+      within_held no_items [] e long = tt
+      within_held no_items (t ∷ ts) e long = absurd e
+      within_held (item a others) [] e long = absurd e
+      within_held (item a others) (t ∷ ts) e long =
+          (argument_held a t e.0 (λ u c. long u (Contains-append_left (number_terms_in a) (number_terms_within others) u c)), within_held others ts e.1 (λ u c. long u (Contains-append_right (number_terms_in a) (number_terms_within others) u c)))
+
+    pub arguments_held : (items : List Argument) (ts : List Term) → AreTold g told items ts → AreAmong (number_terms items) vs → AreHeld vs (terms_of ts)
+    arguments_held [] [] e long = tt
+    arguments_held [] (t ∷ ts) e long = absurd e
+    arguments_held (a ∷ items) [] e long = absurd e
+    arguments_held (a ∷ items) (t ∷ ts) e long =
+        (argument_held a t e.0 (λ u c. long u (Contains-append_left (number_terms_in a) (number_terms items) u c)), arguments_held items ts e.1 (λ u c. long u (Contains-append_right (number_terms_in a) (number_terms items) u c)))
 
   -- none has a parameter
   module _ (whole : (t : Term) → Contains told.terms t → filled [] t ≡ t) where
-    argument_whole : (a : Argument) (t : Term) → term_told g told a ≡ Some t → filled [] t ≡ t
-    unfolding filled
-    argument_whole (truth true) t e = subst (λ u. filled [] u ≡ u) (same_Some _ _ e) refl
-    argument_whole (truth false) t e = subst (λ u. filled [] u ≡ u) (same_Some _ _ e) refl
-    argument_whole (number q) t e = go (is_decimal q) e
-      where
-        go : (b : Bool) → cond b (Some (number_term q)) None ≡ Some t → filled [] t ≡ t
-        go true e = subst (λ u. filled [] u ≡ u) (same_Some _ _ e) refl
-        go false e = cc
-    argument_whole (symbol n) t e = subst (λ u. filled [] u ≡ u) (constant_of g n t e).term refl
-    argument_whole (defined n) t e = whole t (numbered_in told.terms n t e)
+    mutual
+      unfolding filled filled_all
+
+      argument_whole : (a : Argument) (t : Term) → IsTold g told a t → filled [] t ≡ t
+      argument_whole (truth true) t e = subst (λ u. filled [] u ≡ u) (same_Some _ _ e) refl
+      argument_whole (truth false) t e = subst (λ u. filled [] u ≡ u) (same_Some _ _ e) refl
+      argument_whole (number q) t e = go (is_decimal q) e
+        where
+          go : (b : Bool) → cond b (Some (number_term q)) None ≡ Some t → filled [] t ≡ t
+          go true e = subst (λ u. filled [] u ≡ u) (same_Some _ _ e) refl
+          go false e = cc
+      argument_whole (symbol n) t e = subst (λ u. filled [] u ≡ u) (constant_of g n t e).term refl
+      argument_whole (defined n) t e = whole t (numbered_in told.terms n t e)
+      argument_whole (in_place h items) t e = subst (λ u. filled [] u ≡ u) (sym e.2.term) (head_whole h e.0 (within_whole items e.0 e.1) e.2.takes.takes)
+
+      within_whole : (items : Arguments) (ts : List Term) → AreToldSo g told items ts → filled_all [] (terms_of ts) ≡ terms_of ts
+      within_whole no_items [] e = refl
+      within_whole no_items (t ∷ ts) e = absurd e
+      within_whole (item a others) [] e = absurd e
+      within_whole (item a others) (t ∷ ts) e = ap₂ cons (argument_whole a t e.0) (within_whole others ts e.1)
 
     arguments_whole : (items : List Argument) (ts : List Term) → AreTold g told items ts → filled_all [] (terms_of ts) ≡ terms_of ts
     unfolding filled_all
     arguments_whole [] [] e = refl
-    arguments_whole [] (t ∷ ts) e = cc
-    arguments_whole (a ∷ items) [] e = cc
-    arguments_whole (a ∷ items) (t ∷ ts) e = ap₂ cons (argument_whole a t (head_same e)) (arguments_whole items ts (tail_same e))
+    arguments_whole [] (t ∷ ts) e = absurd e
+    arguments_whole (a ∷ items) [] e = absurd e
+    arguments_whole (a ∷ items) (t ∷ ts) e = ap₂ cons (argument_whole a t e.0) (arguments_whole items ts e.1)
 
-    -- nor has a head before such terms, which takes them
     pub term_whole : (h : Head) (items : List Argument) (ts : List Term) → AreTold g told items ts → head_takes [] h (map sort_of ts) ≡ true → filled [] (of h ts) ≡ of h ts
-    unfolding filled
-    term_whole True items ts e takes = ap (app True) (arguments_whole items ts e)
-    term_whole False items ts e takes = ap (app False) (arguments_whole items ts e)
-    term_whole Not items ts e takes = ap (app Not) (arguments_whole items ts e)
-    term_whole And items ts e takes = ap (app And) (arguments_whole items ts e)
-    term_whole Or items ts e takes = ap (app Or) (arguments_whole items ts e)
-    term_whole Xor items ts e takes = ap (app Xor) (arguments_whole items ts e)
-    term_whole Implies items ts e takes = ap (app Implies) (arguments_whole items ts e)
-    term_whole Equal items ts e takes = ap (app Equal) (arguments_whole items ts e)
-    term_whole Ite items ts e takes = ap (app Ite) (arguments_whole items ts e)
-    term_whole Minus items ts e takes = ap (app Minus) (arguments_whole items ts e)
-    term_whole Plus items ts e takes = ap (app Plus) (arguments_whole items ts e)
-    term_whole Times items ts e takes = ap (app Times) (arguments_whole items ts e)
-    term_whole Divide items ts e takes = ap (app Divide) (arguments_whole items ts e)
-    term_whole Less items ts e takes = ap (app Less) (arguments_whole items ts e)
-    term_whole AtMost items ts e takes = ap (app AtMost) (arguments_whole items ts e)
-    term_whole (Literal q) items ts e takes = ap (app (Literal q)) (arguments_whole items ts e)
-    term_whole (Apply f) items ts e takes = ap (app (Apply f)) (arguments_whole items ts e)
-    term_whole (Parameter k s) items [] e takes = absurd (false≢true takes)
-    term_whole (Parameter k s) items (t ∷ ts) e takes = absurd (false≢true takes)
+    term_whole h items ts e takes = head_whole h ts (arguments_whole items ts e) takes

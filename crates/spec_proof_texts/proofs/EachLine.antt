@@ -7,12 +7,9 @@ use Rattle.spec_text.specs.Trees.{Trees, list, none, more, offset_of}
 use Rattle.spec_text.specs.Printed.{printed}
 use Rattle.spec_text.proofs.Printing.{moved, moved_all}
 use Rattle.spec_text.proofs.AnswerLaws.{joined}
-use Rattle.spec_text.proofs.Members.{only}
-use Rattle.spec_sorts.specs.Terms.{Truth, Term, sort_of, filled}
+use Rattle.spec_sorts.specs.Terms.{Truth, Term, terms_of, sort_of, filled}
 use Rattle.spec_sorts.specs.Signatures.{Definition, Signature, symbols_in, definition}
 use Rattle.spec_sorts.specs.Literals.{Clause}
-use Rattle.spec_sorts.specs.Subsets.{arguments_of, AreAmong}
-use Rattle.spec_sorts.proofs.General.{list_of-terms_of}
 use Rattle.spec_reading.specs.Names.{proof}
 use Rattle.spec_reading.specs.Reading.{plain_reading, reading_of_sort}
 use Rattle.spec_proofs.specs.declared.Rule.{Rule}
@@ -33,15 +30,15 @@ use Rattle.spec_models.proofs.Parameters.{sort_read}
 use Rattle.spec_proof_texts.specs.Lines.{Argument, Reference, DefinitionLine, StepLine, Line, defines, assumes, steps, defined_name, assume_name, step_name, argument_tree, reference_tree, term_tree, line_tree}
 use Rattle.spec_proof_texts.specs.Meaning.{Told, with_definition, with_assume, with_step, AreTold, ArePremises, IsDefinition, IsAssume, IsStep}
 use Rattle.spec_proof_texts.specs.ReadBack.{AreScriptNames}
-use Rattle.spec_proof_texts.proofs.Known.{numbers_among, numbers_in, definitions_in}
+use Rattle.spec_proof_texts.proofs.Known.{numbers_among, numbers_in, definitions_in, IsHeld, AreHeld, IsHeldBelow}
 use Rattle.spec_proof_texts.proofs.Names.{named}
 use Rattle.spec_proof_texts.proofs.MovedArguments.{moved_numbers}
-use Rattle.spec_proof_texts.proofs.Lookups.{entry, head_same, tail_same}
-use Rattle.spec_proof_texts.proofs.Arguments.{argument_read, arguments_held, term_whole}
-use Rattle.spec_proof_texts.proofs.Heads.{compound_read}
+use Rattle.spec_proof_texts.proofs.Lookups.{entry}
+use Rattle.spec_proof_texts.proofs.Arguments.{arguments_held, term_whole}
+use Rattle.spec_proof_texts.proofs.Heads.{argument_read, compound_read}
 use Rattle.spec_proof_texts.proofs.CommandShapes.{defining, parts, sorted_read, assume_read, step_read, bare_step, given_step, full_step, both_step, define_read}
 use Rattle.spec_proof_texts.proofs.Room.{IsWithin, no_more, has_place}
-use Rattle.spec_proof_texts.proofs.MadeKnown.{spare, IsKnownAfter, with_numbers, numbers_closed, numbers_few, assume_known, step_known, definition_known, new_assume, new_step, new_definition, sort_known, references_read, references_are_symbols}
+use Rattle.spec_proof_texts.proofs.MadeKnown.{spare, IsKnownAfter, with_numbers, numbers_hold, numbers_there, numbers_few, assume_known, step_known, definition_known, new_assume, new_step, new_definition, sort_known, references_read, references_are_symbols}
 
 -- what is known, by the names and the entries up to here
 abbrev pub known : List Term → Signature → List NamedClause → Known
@@ -87,6 +84,7 @@ pub record Goes (limit : Option ℕ) (g : Signature) (asserted : List Term) (tol
   pub made_known : IsKnownAfter g next later_names later_entries (numbers + numbers_in (l ∷ []))
   pub kept : (e : NamedClause) → Contains entries e → Contains later_entries e
   pub more_terms : length next.terms ≡ length told.terms + definitions_in (l ∷ [])
+  pub same_places : length next.placed ≡ length told.placed
   pub empty : (x : StepLine) → l ≡ steps x → x.literals ≡ [] → HasOne later_entries
 
 module _ (limit : Option ℕ) (g : Signature) (asserted : List Term) (own : AreScriptNames g) (told : Told) (s : Signature) (entries : List NamedClause) (numbers : ℕ) (h : IsKnownAfter g told s entries numbers) where
@@ -95,12 +93,12 @@ module _ (limit : Option ℕ) (g : Signature) (asserted : List Term) (own : AreS
 
   -- there is room for a line more
   abbrev pub HasRoom : Line → Type 0
-  HasRoom l = IsWithin limit (length g + (length told.terms + definitions_in (l ∷ []))) × IsWithin limit (length (symbols_in g) + (numbers + numbers_in (l ∷ [])) + (length told.terms + definitions_in (l ∷ [])) + spare)
+  HasRoom l = IsWithin limit (length g + (length told.terms + definitions_in (l ∷ []))) × IsWithin limit (length (symbols_in g) + (numbers + numbers_in (l ∷ [])) + (length told.terms + definitions_in (l ∷ [])) + length told.placed + spare)
 
   -- and so for terms that are printed so
   told_fit : (l : Line) (items : List Argument) (ts : List Term) (at : ℕ) → HasRoom l → numbers_among items ≤ numbers_in (l ∷ []) → AreTold g told items ts → room limit at s ts ≡ Ok tt
   told_fit l items ts at within le e =
-      has_place limit at s ts (with_numbers g told s entries numbers h items) (arguments_held g own told h.among h.holds items ts e) (numbers_closed g told s entries numbers h items)
+      has_place limit at s ts (with_numbers g told s entries numbers h items) (arguments_held g own told (with_numbers g told s entries numbers h items) (numbers_hold g told s entries numbers h items) items ts e (numbers_there g told s entries numbers h items))
       (no_more limit _ _ (omega (arith, h.count)) within.0)
       (no_more limit _ _ (omega (arith, numbers_few g told s entries numbers h items, le)) within.1)
 
@@ -108,20 +106,20 @@ module _ (limit : Option ℕ) (g : Signature) (asserted : List Term) (own : AreS
   literals_read : (items : List Argument) (ts : List Term) → AreTold g told items ts → All (λ t. sort_of t ≡ Truth) ts → (at : ℕ) → literals_in s (moved_all at (trees_of (map argument_tree items))) ≡ Ok (record { made = []; terms = ts })
   unfolding literals_in
   literals_read [] [] e sorts at = refl
-  literals_read [] (t ∷ ts) e sorts at = cc
-  literals_read (a ∷ items) [] e sorts at = cc
+  literals_read [] (t ∷ ts) e sorts at = absurd e
+  literals_read (a ∷ items) [] e sorts at = absurd e
   literals_read (a ∷ items) (t ∷ ts) e sorts at =
       let next : ℕ = at + length (printed (argument_tree a)) + 1 in
       let us : Trees = moved_all next (trees_of (map argument_tree items)) in
-      let one = sorted_read s (moved at (argument_tree a)) t Truth (argument_read g own told s h.knows proof a t (head_same e) at) (All-head (λ t. sort_of t ≡ Truth) t ts sorts) in
+      let one = sorted_read s (moved at (argument_tree a)) t Truth (argument_read g own told s h.knows proof a t e.0 at) (All-head (λ t. sort_of t ≡ Truth) t ts sorts) in
       joined (reading_of_sort proof s [] Truth (moved at (argument_tree a))) _ (plain_reading t) (record { made = []; terms = t ∷ ts }) one
-      (joined (literals_in (s ++ []) us) _ (record { made = []; terms = ts }) (record { made = []; terms = t ∷ ts }) (ap (λ x. literals_in x us) (append-nil s) ∙ literals_read items ts (tail_same e) (All-tail (λ t. sort_of t ≡ Truth) t ts sorts) next) refl)
+      (joined (literals_in (s ++ []) us) _ (record { made = []; terms = ts }) (record { made = []; terms = t ∷ ts }) (ap (λ x. literals_in x us) (append-nil s) ∙ literals_read items ts e.1 (All-tail (λ t. sort_of t ≡ Truth) t ts sorts) next) refl)
 
   pub assume_goes : (n : ℕ) (a : Argument) (t : Term) (at : ℕ) → IsAssume g asserted told n a t → HasRoom (assumes n a) → Goes limit g asserted told (with_assume told (t ∷ [])) s entries numbers (assumes n a) at
   assume_goes n a t at d within =
       let place : ℕ = at + 1 + length (printed (word_tree (codes "assume"))) + 1 + length (printed (word_tree (assume_name n))) + 1 in
       let read = sorted_read s (moved place (argument_tree a)) t Truth (argument_read g own told s h.knows proof a t d.told place) d.sort in
-      let fits = told_fit (assumes n a) (a ∷ []) (t ∷ []) at within (omega arith) (ap (λ o. o ∷ []) d.told) in
+      let fits = told_fit (assumes n a) (a ∷ []) (t ∷ []) at within (omega arith) (d.told, tt) in
       record {
         command = record { made = []; statement = assumed (offset_of (moved place (argument_tree a))) (assume_name n) t };
         later_names = s;
@@ -132,6 +130,7 @@ module _ (limit : Option ℕ) (g : Signature) (asserted : List Term) (own : AreS
         made_known = subst (IsKnownAfter g (with_assume told (t ∷ [])) s (entries ++ entry (assume_name n) (t ∷ []) ∷ [])) (omega arith) (assume_known g told s entries numbers h n a (t ∷ []) d.number);
         kept = λ e c. Contains-append_left entries (entry (assume_name n) (t ∷ []) ∷ []) e c;
         more_terms = omega arith;
+        same_places = refl;
         empty = λ x e. absurd cc;
       }
 
@@ -146,7 +145,7 @@ module _ (limit : Option ℕ) (g : Signature) (asserted : List Term) (own : AreS
 
       nothing_is : (xs : List Argument) (ts : Clause) → AreTold g told xs ts → xs ≡ [] → ts ≡ []
       nothing_is [] [] e f = refl
-      nothing_is [] (t ∷ ts) e f = cc
+      nothing_is [] (t ∷ ts) e f = absurd e
       nothing_is (x ∷ xs) ts e f = absurd cc
 
       -- by the step that is read
@@ -174,6 +173,7 @@ module _ (limit : Option ℕ) (g : Signature) (asserted : List Term) (own : AreS
         made_known = subst (IsKnownAfter g (with_step told d.clause) s (entries ++ entry (step_name n) d.clause ∷ [])) (omega arith) (step_known g told s entries numbers h n l.literals d.clause d.number);
         kept = λ x c. Contains-append_left entries (entry (step_name n) d.clause ∷ []) x c;
         more_terms = omega arith;
+        same_places = refl;
         empty = λ x e none. (entry (step_name n) d.clause, Contains-push entries (entry (step_name n) d.clause), nothing_is l.literals d.clause d.literals (ap literals_of e ∙ none));
       }
         where
@@ -213,17 +213,21 @@ module _ (limit : Option ℕ) (g : Signature) (asserted : List Term) (own : AreS
         made_known = subst (IsKnownAfter g (with_definition told t) (s ++ definition x ∷ []) entries) (omega arith) (then_known x refl refl refl);
         kept = λ y c. c;
         more_terms = omega (arith, length-append told.terms (t ∷ []));
+        same_places = refl;
         empty = λ y f. absurd cc;
       }
     where
       n : Name
       n = defined_name l.number
 
-      held : AreAmong d.arguments (with_numbers g told s entries numbers h l.arguments)
-      held = arguments_held g own told h.among h.holds l.arguments d.arguments d.told
+      known_with : List Term
+      known_with = with_numbers g told s entries numbers h l.arguments
 
-      args : AreAmong (arguments_of t) (with_numbers g told s entries numbers h l.arguments)
-      args = subst (λ u. AreAmong (arguments_of u) (with_numbers g told s entries numbers h l.arguments)) (sym d.term) (subst (λ us. AreAmong us (with_numbers g told s entries numbers h l.arguments)) (sym (list_of-terms_of d.arguments)) held)
+      held : AreHeld known_with (terms_of d.arguments)
+      held = arguments_held g own told known_with (numbers_hold g told s entries numbers h l.arguments) l.arguments d.arguments d.told (numbers_there g told s entries numbers h l.arguments)
+
+      args : IsHeldBelow known_with t
+      args = subst (IsHeldBelow known_with) (sym d.term) held
 
       whole : filled [] t ≡ t
       whole = subst (λ u. filled [] u ≡ u) (sym d.term) (term_whole g own told h.knows.whole l.head l.arguments d.arguments d.told d.takes.takes)
@@ -234,6 +238,6 @@ module _ (limit : Option ℕ) (g : Signature) (asserted : List Term) (own : AreS
       roomy : (x : Definition) → x.name ≡ n → x.parameters ≡ [] → x.term ≡ t → (i : ℕ) → room limit i (s ++ definition x ∷ []) (x.term ∷ []) ≡ Ok tt
       roomy x e f k i =
           let st = then_known x e f k in
-          has_place limit i (s ++ definition x ∷ []) (x.term ∷ []) st.among (λ u c. subst (Contains st.among) (sym k ∙ only x.term u c) (st.holds.defined_terms t (Contains-push told.terms t))) st.closed
+          has_place limit i (s ++ definition x ∷ []) (x.term ∷ []) st.among (subst (IsHeld st.among) (sym k) (st.holds.defined_terms t (Contains-push told.terms t)), tt)
           (no_more limit _ _ (omega (arith, h.count, length-append s (definition x ∷ []))) within.0)
           (no_more limit _ _ (omega (arith, st.few, length-append told.terms (t ∷ []))) within.1)

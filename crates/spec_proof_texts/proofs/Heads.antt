@@ -1,4 +1,4 @@
--- Printed definitions are read as their heads before their arguments.
+-- Printed terms are read as what they were printed for, and definitions as their heads before their arguments.
 use Rattle.std.proofs.Common.{◌≡◌, ◌≢◌, inl, inr, le-leb, ℕ, suc, ◌+◌, Bool, true, false, cond, List, [], ◌∷◌, ◌++◌, length, map, None, refl, sym, ap, ◌∙◌, append-nil, arith}
 use Rattle.std.specs.Prelude.{◌&&◌, ◌⊎◌, ◌==◌, Ok, nat_le, codes}
 use Rattle.std.proofs.lemmas.Bool.{false≢true, and_parts}
@@ -8,7 +8,7 @@ use Rattle.spec_text.specs.declared.Kind.TheVariants.{Simple, Quoted}
 use Rattle.spec_text.specs.declared.Fault.TheVariants.{WrongCount, WrongSort}
 use Rattle.spec_text.specs.Bytes.{Name}
 use Rattle.spec_text.specs.Answers.{◌>>=◌, require}
-use Rattle.spec_text.specs.Trees.{Trees}
+use Rattle.spec_text.specs.Trees.{Tree, Trees, list, none, more}
 use Rattle.spec_text.specs.Printed.{is_bare, printed}
 use Rattle.spec_text.proofs.Printing.{moved, moved_all}
 use Rattle.spec_text.proofs.AnswerLaws.{joined}
@@ -23,10 +23,10 @@ use Rattle.spec_reading.specs.Names.{Setting}
 use Rattle.spec_reading.specs.Reading.{plain_reading, with_sorts, applied, applied_as, reading, readings}
 use Rattle.spec_reading.proofs.Values.{by_form, rule_reads}
 use Rattle.spec_models.specs.Values.{trees_of, in_list, symbol_tree}
-use Rattle.spec_proof_texts.specs.Lines.{Argument, DefinitionLine, argument_tree, term_tree}
-use Rattle.spec_proof_texts.specs.Meaning.{Told, AreTold, TakesAll}
+use Rattle.spec_proof_texts.specs.Lines.{Argument, Arguments, truth, number, symbol, defined, applied as in_place, no_items, item, DefinitionLine, argument_tree, argument_trees, term_tree}
+use Rattle.spec_proof_texts.specs.Meaning.{Told, IsTold, AreToldSo, AreTold, TakesAll}
 use Rattle.spec_proof_texts.specs.ReadBack.{AreScriptNames}
-use Rattle.spec_proof_texts.proofs.Arguments.{Knows, own_name, arguments_read}
+use Rattle.spec_proof_texts.proofs.Arguments.{Knows, own_name, word_read}
 
 -- what holds of one term, or of two, of given sorts
 one_of : (P : List Term → Type 0) (ts : List Term) (a : Sort) → map sort_of ts ≡ a ∷ [] → ((t : Term) → sort_of t ∷ [] ≡ a ∷ [] → P (t ∷ [])) → P ts
@@ -137,26 +137,68 @@ module _ (g : Signature) (own : AreScriptNames g) (told : Told) (s : Signature) 
   front_form at n true us = refl
   front_form at n false us = refl
 
-  -- a head before its arguments, wherever it is
-  pub compound_read : (w : Setting) (d : DefinitionLine) (ts : List Term) → AreTold g told d.arguments ts → ts ≢ [] → TakesAll g d.head ts → (at : ℕ) → reading w s [] (moved at (term_tree d)) ≡ Ok (plain_reading (of d.head ts))
+  -- a head before arguments that are read as terms, wherever it is
+  applied_read : (w : Setting) (h : Head) (ts : List Term) (x : Tree) (xs : Trees) → ts ≢ [] → TakesAll g h ts → (at : ℕ) → ((next : ℕ) → readings w s [] (moved_all next (more x xs)) ≡ Ok (record { made = []; terms = ts })) → reading w s [] (moved at (list 0 (more (symbol_tree (head_name h)) (more x xs)) 0)) ≡ Ok (plain_reading (of h ts))
   unfolding reading
+  applied_read w h ts x xs some takes at read =
+      let n : Name = head_name h in
+      let u : Term = of h ts in
+      let next : ℕ = at + 1 + length (printed (symbol_tree n)) + 1 in
+      let us : Trees = moved_all next (more x xs) in
+      ap (λ (f : Form). by_form w s [] at us f) (front_form (at + 1) n (is_bare n) us)
+      ∙ joined (readings w s [] us) _ (record { made = []; terms = ts }) (plain_reading u) (read next)
+      (joined (applied (s ++ []) [] (at + 1) n at ts) _ u (plain_reading u) (ap (λ y. applied y [] (at + 1) n at ts) (append-nil s) ∙ head_read h ts takes some (at + 1) at) refl)
+
+  -- a term, and those after it
+  one_more_read : (w : Setting) (x : Tree) (xs : Trees) (t : Term) (ts : List Term) (at : ℕ) → reading w s [] (moved at x) ≡ Ok (plain_reading t) → ((next : ℕ) → readings w s [] (moved_all next xs) ≡ Ok (record { made = []; terms = ts })) → readings w s [] (moved_all at (more x xs)) ≡ Ok (record { made = []; terms = t ∷ ts })
+  unfolding readings
+  one_more_read w x xs t ts at one others =
+      let next : ℕ = at + length (printed x) + 1 in
+      let us : Trees = moved_all next xs in
+      joined (reading w s [] (moved at x)) _ (plain_reading t) (record { made = []; terms = t ∷ ts }) one
+      (joined (readings w (s ++ []) [] us) _ (record { made = []; terms = ts }) (record { made = []; terms = t ∷ ts }) (ap (λ y. readings w y [] us) (append-nil s) ∙ others next) refl)
+
+  none_read : (w : Setting) (at : ℕ) → readings w s [] (moved_all at none) ≡ Ok (record { made = []; terms = [] })
+  unfolding readings
+  none_read w at = refl
+
+  -- no terms are printed so
+  nothing_told : (ts : List Term) → AreToldSo g told no_items ts → ts ≡ []
+  nothing_told [] e = refl
+  nothing_told (t ∷ ts) e = absurd e
+
+  -- printed terms are read as what they were printed for
+  mutual
+    pub argument_read : (w : Setting) (a : Argument) (t : Term) → IsTold g told a t → (at : ℕ) → reading w s [] (moved at (argument_tree a)) ≡ Ok (plain_reading t)
+    argument_read w (truth b) t e at = word_read g own told s knows w (truth b) t e at
+    argument_read w (number q) t e at = word_read g own told s knows w (number q) t e at
+    argument_read w (symbol n) t e at = word_read g own told s knows w (symbol n) t e at
+    argument_read w (defined n) t e at = word_read g own told s knows w (defined n) t e at
+    argument_read w (in_place h no_items) t e at = absurd (e.2.some (nothing_told e.0 e.1))
+    argument_read w (in_place h (item a others)) t e at =
+        applied_read w h e.0 (argument_tree a) (argument_trees others) e.2.some e.2.takes at (within_read w (item a others) e.0 e.1) ∙ ap (λ u. Ok (plain_reading u)) (sym e.2.term)
+
+    within_read : (w : Setting) (items : Arguments) (ts : List Term) → AreToldSo g told items ts → (at : ℕ) → readings w s [] (moved_all at (argument_trees items)) ≡ Ok (record { made = []; terms = ts })
+    within_read w no_items [] e at = none_read w at
+    within_read w no_items (t ∷ ts) e at = absurd e
+    within_read w (item a others) [] e at = absurd e
+    within_read w (item a others) (t ∷ ts) e at = one_more_read w (argument_tree a) (argument_trees others) t ts at (argument_read w a t e.0 at) (within_read w others ts e.1)
+
+  -- one after the other
+  arguments_read : (w : Setting) (items : List Argument) (ts : List Term) → AreTold g told items ts → (at : ℕ) → readings w s [] (moved_all at (trees_of (map argument_tree items))) ≡ Ok (record { made = []; terms = ts })
+  arguments_read w [] [] e at = none_read w at
+  arguments_read w [] (t ∷ ts) e at = absurd e
+  arguments_read w (a ∷ items) [] e at = absurd e
+  arguments_read w (a ∷ items) (t ∷ ts) e at = one_more_read w (argument_tree a) (trees_of (map argument_tree items)) t ts at (argument_read w a t e.0 at) (arguments_read w items ts e.1)
+
+  -- the term of a definition
+  pub compound_read : (w : Setting) (d : DefinitionLine) (ts : List Term) → AreTold g told d.arguments ts → ts ≢ [] → TakesAll g d.head ts → (at : ℕ) → reading w s [] (moved at (term_tree d)) ≡ Ok (plain_reading (of d.head ts))
   compound_read w d ts e some takes at = go d.arguments e
     where
-      n : Name
-      n = head_name d.head
+      nothing : (vs : List Term) → AreTold g told [] vs → vs ≡ []
+      nothing [] e = refl
+      nothing (v ∷ vs) e = absurd e
 
-      u : Term
-      u = of d.head ts
-
-      go : (items : List Argument) → AreTold g told items ts → reading w s [] (moved at (in_list (symbol_tree n ∷ map argument_tree items))) ≡ Ok (plain_reading u)
+      go : (items : List Argument) → AreTold g told items ts → reading w s [] (moved at (in_list (symbol_tree (head_name d.head) ∷ map argument_tree items))) ≡ Ok (plain_reading (of d.head ts))
       go [] e = absurd (some (nothing ts e))
-        where
-          nothing : (vs : List Term) → AreTold g told [] vs → vs ≡ []
-          nothing [] e = refl
-          nothing (v ∷ vs) e = cc
-      go (a ∷ items) e =
-          let next : ℕ = at + 1 + length (printed (symbol_tree n)) + 1 in
-          let us : Trees = moved_all next (trees_of (map argument_tree (a ∷ items))) in
-          ap (λ (f : Form). by_form w s [] at us f) (front_form (at + 1) n (is_bare n) us)
-          ∙ joined (readings w s [] us) _ (record { made = []; terms = ts }) (plain_reading u) (arguments_read g own told s knows w (a ∷ items) ts e next)
-          (joined (applied (s ++ []) [] (at + 1) n at ts) _ u (plain_reading u) (ap (λ x. applied x [] (at + 1) n at ts) (append-nil s) ∙ head_read d.head ts takes some (at + 1) at) refl)
+      go (a ∷ items) e = applied_read w d.head ts (argument_tree a) (trees_of (map argument_tree items)) some takes at (arguments_read w (a ∷ items) ts e)

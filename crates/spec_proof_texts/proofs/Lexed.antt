@@ -10,11 +10,12 @@ use Rattle.spec_text.specs.Readings.{depth, depth_all, AreTrees}
 use Rattle.spec_text.proofs.Printing.{moved, moved_all, feed_read, tree_read}
 use Rattle.spec_proofs.specs.Texts.{complete, behind_unsat, begins_listed, AreCommands, AreAllCommands, all_lexemes, IsWholeText}
 use Rattle.spec_sorts.specs.Terms.{Sort, Truth, Number, Declared}
+use Rattle.spec_sorts.specs.HeadNames.{head_name}
 use Rattle.spec_numbers.specs.Fractions.{Fraction}
-use Rattle.spec_models.specs.Values.{trees_of, fraction_tree, sort_tree}
+use Rattle.spec_models.specs.Values.{trees_of, fraction_tree, sort_tree, symbol_tree}
 use Rattle.spec_proof_texts.specs.Decimals.{places, literal_text, literal_kind, has_decimal, literal_tree}
 use Rattle.spec_proof_texts.proofs.Given.{number_depth}
-use Rattle.spec_proof_texts.specs.Lines.{Argument, truth, number, symbol, defined, Reference, Line, defines, assumes, steps, premise_trees, given_trees, argument_tree, reference_tree, line_tree, line_text, proof_text}
+use Rattle.spec_proof_texts.specs.Lines.{Argument, Arguments, truth, number, symbol, defined, applied, no_items, item, levels, most_levels, Reference, Line, defines, assumes, steps, premise_trees, given_trees, argument_tree, argument_trees, reference_tree, line_tree, line_text, proof_text}
 use Rattle.spec_proof_texts.specs.ReadBack.{IsWritableLine}
 use Rattle.spec_proof_texts.proofs.Names.{line_words}
 
@@ -59,7 +60,7 @@ mutual
   trees_as_deep at none = refl
   trees_as_deep at (more t ts) = ap₂ max (tree_as_deep at t) (trees_as_deep (at + length (printed t) + 1) ts)
 
--- a term in place is no list, but for a number without a decimal
+-- a word is no list, but for a number without a decimal; a term in place is nested as deep as its levels more
 number_low : (q : Fraction) → depth (literal_tree q) ≤ 2
 number_low q = go (has_decimal q)
   where
@@ -67,13 +68,24 @@ number_low q = go (has_decimal q)
     go true = omega arith
     go false = number_depth q
 
-argument_low : (at : ℕ) (a : Argument) → depth (moved at (argument_tree a)) ≤ 2
-argument_low at (truth b) = omega arith
-argument_low at (number q) = omega (arith, tree_as_deep at (literal_tree q), number_low q)
-argument_low at (symbol n) = omega arith
-argument_low at (defined n) = omega arith
+mutual
+  argument_low : (at : ℕ) (a : Argument) → depth (moved at (argument_tree a)) ≤ levels a + 2
+  argument_low at (truth b) = omega arith
+  argument_low at (number q) = omega (arith, tree_as_deep at (literal_tree q), number_low q)
+  argument_low at (symbol n) = omega arith
+  argument_low at (defined n) = omega arith
+  argument_low at (applied h items) = grind (arith, within_low (at + 1 + length (printed (symbol_tree (head_name h))) + 1) items)
 
-arguments_low : (at : ℕ) (items : List Argument) → depth_all (moved_all at (trees_of (map argument_tree items))) ≤ 2
+  within_low : (at : ℕ) (items : Arguments) → depth_all (moved_all at (argument_trees items)) ≤ most_levels items + 2
+  within_low at no_items = omega arith
+  within_low at (item a others) = grind (arith, argument_low at a, within_low (at + length (printed (argument_tree a)) + 1) others)
+
+-- the most levels of some terms
+abbrev pub levels_among : List Argument → ℕ
+levels_among [] = 0
+levels_among (a ∷ items) = max (levels a) (levels_among items)
+
+arguments_low : (at : ℕ) (items : List Argument) → depth_all (moved_all at (trees_of (map argument_tree items))) ≤ levels_among items + 2
 arguments_low at [] = omega arith
 arguments_low at (a ∷ others) = grind (arith, argument_low at a, arguments_low (at + length (printed (argument_tree a)) + 1) others)
 
@@ -101,8 +113,9 @@ behind_deep at (p ∷ ps) (more t ts) = go (depth_all (moved_all _ (trees_of (ma
 
 -- how deep a line is nested at the most
 abbrev pub depth_of : Line → ℕ
-depth_of (steps s) = max (depth_all s.arguments + 2) 4
-depth_of l = 4
+depth_of (steps s) = max (depth_all s.arguments + 2) (levels_among s.literals + 4)
+depth_of (defines d) = levels_among d.arguments + 4
+depth_of (assumes n a) = levels a + 4
 
 line_depth : (at : ℕ) (l : Line) → depth (moved at (line_tree l)) ≤ depth_of l
 line_depth at (defines d) = grind (arith, arguments_low, sort_flat)

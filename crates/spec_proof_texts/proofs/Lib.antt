@@ -1,5 +1,6 @@
 -- The lemmas of this crate.
 pub mod Numbers
+mod Placed
 mod Told
 mod Planned
 pub mod Names

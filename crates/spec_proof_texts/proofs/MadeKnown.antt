@@ -1,8 +1,8 @@
 -- What lines make known is what their commands make known.
-use Rattle.std.proofs.Common.{◌≡◌, inl, inr, ℕ, zero, suc, ◌+◌, Bool, true, false, cond, List, [], ◌∷◌, ◌++◌, length, map, All, Option, Some, None, Contains, refl, sym, ap, ◌∙◌, subst, length-append, arith}
+use Rattle.std.proofs.Common.{◌≡◌, inl, inr, ℕ, zero, suc, ◌+◌, Bool, true, false, cond, List, [], ◌∷◌, ◌++◌, length, map, Option, Some, None, Contains, refl, sym, ap, ◌∙◌, subst, length-append, arith}
 use Rattle.std.specs.Prelude.{◌⊎◌, ◌≤◌, Ok, codes}
 use Rattle.std.specs.Str.{bytes_eq}
-use Rattle.std.proofs.lemmas.List.Elements.{All-cons, All-map, All-append, All-contains, Contains-push, Contains-push_cases, Contains-append_left, Contains-append_right}
+use Rattle.std.proofs.lemmas.List.Elements.{Contains-push_cases, Contains-append_left, Contains-append_right}
 use Rattle.std.proofs.lemmas.List.{length-map}
 use Rattle.spec_text.specs.Bytes.{Name, among as is_among}
 use Rattle.spec_text.specs.Printed.{printed}
@@ -13,7 +13,7 @@ use Rattle.spec_sorts.specs.Terms.{Sort, Truth, Number, Declared, True, False, T
 use Rattle.spec_sorts.specs.Signatures.{Definition, Known as Found, declared, defined as by_definition, Signature, known_as, sort_as, is_some, symbols_in, definition}
 use Rattle.spec_sorts.proofs.Signatures.{sort_same}
 use Rattle.spec_sorts.specs.Literals.{Clause}
-use Rattle.spec_sorts.specs.Subsets.{arguments_of, AreAmong, IsClosed}
+use Rattle.spec_sorts.specs.Subsets.{AreAmong}
 use Rattle.spec_reading.specs.Names.{is_function}
 use Rattle.spec_reading.specs.Sorts.{sort_found}
 use Rattle.spec_checking.specs.Commands.{Known, NamedClause, are_symbols}
@@ -24,8 +24,8 @@ use Rattle.spec_proof_texts.specs.Lines.{Argument, Reference, assumed, stepped, 
 use Rattle.spec_proof_texts.specs.Meaning.{Told, nothing_told, with_definition, with_assume, with_step, numbered, truth_term, clause_told, ArePremises}
 use Rattle.spec_proof_texts.specs.ReadBack.{AreScriptNames}
 use Rattle.spec_proof_texts.proofs.Lookups.{extended, not_extended, numbered_push, numbered_next, function_push, stays, entry, clause_push, told_apart, entry_unfound, head_same, tail_same}
-use Rattle.spec_proof_texts.proofs.Known.{number_term, number_terms, numbers_among, closed_numbers, closed_more}
-use Rattle.spec_proof_texts.proofs.ShortNumbers.{short_numbers, short_count, short_there, short_bare}
+use Rattle.spec_proof_texts.proofs.Known.{number_term, number_terms, numbers_among, IsHeld, IsHeldBelow, held_among, left_among, right_among, held_more}
+use Rattle.spec_proof_texts.proofs.ShortNumbers.{short_numbers, short_count, short_there}
 use Rattle.spec_proof_texts.proofs.Arguments.{IsDefinedAs, Knows, Holds}
 
 -- the truth values, and the numbers of few bytes
@@ -39,11 +39,10 @@ pub record IsKnownAfter (g : Signature) (told : Told) (s : Signature) (entries :
   pub sorts : (n : Name) → sort_as s n ≡ sort_as g n
   pub assumes : (n : ℕ) → clause_of entries (assume_name n) ≡ numbered told.assumes n
   pub steps : (n : ℕ) → clause_of entries (step_name n) ≡ numbered told.steps n
-  -- terms among which those are that are known, and with each its arguments
+  -- terms among which those are that are known or may be in place, and with each known one its subterms
   pub among : List Term
-  pub closed : IsClosed among
   pub holds : Holds g told among
-  pub few : length among ≤ length (symbols_in g) + numbers + length told.terms + spare
+  pub few : length among ≤ length (symbols_in g) + numbers + length told.terms + length told.placed + spare
 
 -- the symbols of a signature before no arguments
 abbrev constants : Signature → List Term
@@ -53,37 +52,26 @@ constants g = map constant_term (symbols_in g)
 abbrev leaves : Signature → List Term
 leaves g = of True [] ∷ of False [] ∷ constants g ++ short_numbers
 
-abbrev IsLeaf : Term → Type 0
-IsLeaf t = arguments_of t ≡ []
-
-leaves_bare : (g : Signature) → All IsLeaf (leaves g)
-leaves_bare g =
-    let constants_bare = All-map IsLeaf constant_term (symbols_in g) (λ k d lt. refl) in
-    All-cons IsLeaf (of True []) (of False [] ∷ constants g ++ short_numbers) refl (All-cons IsLeaf (of False []) (constants g ++ short_numbers) refl (All-append IsLeaf (constants g) short_numbers constants_bare short_bare))
-
-leaves_closed : (g : Signature) → IsClosed (leaves g)
-leaves_closed g t h u k = absurd (no_member u (subst (λ us. Contains us u) (All-contains IsLeaf (leaves g) t (leaves_bare g) h) k))
-
 others_there : (g : Signature) (t : Term) → Contains (constants g ++ short_numbers) t → Contains (leaves g) t
 others_there g t c = later (of True []) (of False [] ∷ constants g ++ short_numbers) t (later (of False []) (constants g ++ short_numbers) t c)
 
 -- no term has a name at first
-pub nothing_known : (g : Signature) → AreScriptNames g → IsKnownAfter g nothing_told g [] 0
-nothing_known g own = record {
+pub nothing_known : (g : Signature) → AreScriptNames g → (placed : List Term) → IsKnownAfter g (nothing_told placed) g [] 0
+nothing_known g own placed = record {
   knows = record { grown = λ n k e. e; terms = λ n. go n (known_as g (defined_name n)) (own.none_kept (defined_name n) refl); whole = λ t c. absurd (no_member t c) };
   count = omega arith;
   sorts = λ n. refl;
   assumes = none_numbered;
   steps = none_numbered;
-  among = leaves g;
-  closed = leaves_closed g;
+  among = leaves g ++ placed;
   holds = record {
-    truths = truth_there;
-    constants = λ f c. others_there g (constant_term f) (Contains-append_left (constants g) short_numbers (constant_term f) (to_image constant_term (symbols_in g) f c));
+    truths = λ b. left_among (leaves g) placed (truth_term b) (truth_there b);
+    constants = λ f c. left_among (leaves g) placed (constant_term f) (others_there g (constant_term f) (Contains-append_left (constants g) short_numbers (constant_term f) (to_image constant_term (symbols_in g) f c)));
     defined_terms = λ t c. absurd (no_member t c);
-    numbers = λ q d short. others_there g (number_term q) (Contains-append_right (constants g) short_numbers (number_term q) (short_there q d short));
+    placed_terms = right_among (leaves g) placed;
+    numbers = λ q d short. left_among (leaves g) placed (number_term q) (others_there g (number_term q) (Contains-append_right (constants g) short_numbers (number_term q) (short_there q d short)));
   };
-  few = omega (arith, length-map (symbols_in g) constant_term, length-append (constants g) short_numbers, short_count);
+  few = omega (arith, length-append (leaves g) placed, length-map (symbols_in g) constant_term, length-append (constants g) short_numbers, short_count);
 }
   where
     none_numbered : {A : Type 0} (n : ℕ) → None ≡ numbered {A = A} [] n
@@ -120,18 +108,20 @@ module _ (g : Signature) (told : Told) (s : Signature) (entries : List NamedClau
   abbrev pub with_numbers : List Argument → List Term
   with_numbers items = h.among ++ number_terms items
 
-  pub numbers_closed : (items : List Argument) → IsClosed (with_numbers items)
-  numbers_closed items = closed_numbers h.among items h.closed
-
   pub numbers_hold : (items : List Argument) → Holds g told (with_numbers items)
   numbers_hold items = record {
-    truths = λ b. Contains-append_left h.among (number_terms items) (truth_term b) (h.holds.truths b);
-    constants = λ f c. Contains-append_left h.among (number_terms items) (constant_term f) (h.holds.constants f c);
-    defined_terms = λ t c. Contains-append_left h.among (number_terms items) t (h.holds.defined_terms t c);
-    numbers = λ q d short. Contains-append_left h.among (number_terms items) (number_term q) (h.holds.numbers q d short);
+    truths = λ b. left_among h.among (number_terms items) (truth_term b) (h.holds.truths b);
+    constants = λ f c. left_among h.among (number_terms items) (constant_term f) (h.holds.constants f c);
+    defined_terms = λ t c. held_among h.among (with_numbers items) (left_among h.among (number_terms items)) t (h.holds.defined_terms t c);
+    placed_terms = λ t c. left_among h.among (number_terms items) t (h.holds.placed_terms t c);
+    numbers = λ q d short. left_among h.among (number_terms items) (number_term q) (h.holds.numbers q d short);
   }
 
-  pub numbers_few : (items : List Argument) → length (with_numbers items) ≤ length (symbols_in g) + (numbers + numbers_among items) + length told.terms + spare
+  -- and so are all that are printed with them
+  pub numbers_there : (items : List Argument) → AreAmong (number_terms items) (with_numbers items)
+  numbers_there items = right_among h.among (number_terms items)
+
+  pub numbers_few : (items : List Argument) → length (with_numbers items) ≤ length (symbols_in g) + (numbers + numbers_among items) + length told.terms + length told.placed + spare
   numbers_few items = omega (arith, h.few, length-append h.among (number_terms items))
 
   pub assume_known : (n : ℕ) (a : Argument) (c : Clause) → n ≡ length told.assumes + 1 → IsKnownAfter g (with_assume told c) s (entries ++ entry (assume_name n) c ∷ []) (numbers + numbers_among (a ∷ []))
@@ -142,8 +132,7 @@ module _ (g : Signature) (told : Told) (s : Signature) (entries : List NamedClau
     assumes = λ m. clause_push entries (assume_name n) (assume_name m) c ∙ next_is (codes "h") told.assumes c n m (clause_of entries (assume_name m)) is (h.assumes m);
     steps = λ m. clause_push entries (assume_name n) (step_name m) c ∙ not_extended (clause_of entries (step_name m)) c ∙ h.steps m;
     among = with_numbers (a ∷ []);
-    closed = numbers_closed (a ∷ []);
-    holds = let k = numbers_hold (a ∷ []) in record { truths = k.truths; constants = k.constants; defined_terms = k.defined_terms; numbers = k.numbers };
+    holds = let k = numbers_hold (a ∷ []) in record { truths = k.truths; constants = k.constants; defined_terms = k.defined_terms; placed_terms = k.placed_terms; numbers = k.numbers };
     few = numbers_few (a ∷ []);
   }
 
@@ -155,12 +144,11 @@ module _ (g : Signature) (told : Told) (s : Signature) (entries : List NamedClau
     assumes = λ m. clause_push entries (step_name n) (assume_name m) c ∙ not_extended (clause_of entries (assume_name m)) c ∙ h.assumes m;
     steps = λ m. clause_push entries (step_name n) (step_name m) c ∙ next_is (codes "t") told.steps c n m (clause_of entries (step_name m)) is (h.steps m);
     among = with_numbers items;
-    closed = numbers_closed items;
-    holds = let k = numbers_hold items in record { truths = k.truths; constants = k.constants; defined_terms = k.defined_terms; numbers = k.numbers };
+    holds = let k = numbers_hold items in record { truths = k.truths; constants = k.constants; defined_terms = k.defined_terms; placed_terms = k.placed_terms; numbers = k.numbers };
     few = numbers_few items;
   }
 
-  pub definition_known : (n : ℕ) (items : List Argument) (d : Definition) (t : Term) → d.name ≡ defined_name n → d.parameters ≡ [] → d.term ≡ t → n ≡ length told.terms + 1 → filled [] t ≡ t → AreAmong (arguments_of t) (with_numbers items) → IsKnownAfter g (with_definition told t) (s ++ definition d ∷ []) entries (numbers + numbers_among items)
+  pub definition_known : (n : ℕ) (items : List Argument) (d : Definition) (t : Term) → d.name ≡ defined_name n → d.parameters ≡ [] → d.term ≡ t → n ≡ length told.terms + 1 → filled [] t ≡ t → IsHeldBelow (with_numbers items) t → IsKnownAfter g (with_definition told t) (s ++ definition d ∷ []) entries (numbers + numbers_among items)
   definition_known n items d t named bare for is whole args = record {
     knows = record {
       grown = λ m k e. function_push s (by_definition d) m ∙ stays (known_as s m) (bytes_eq d.name m) (by_definition d) k (h.knows.grown m k e);
@@ -175,12 +163,12 @@ module _ (g : Signature) (told : Told) (s : Signature) (entries : List NamedClau
     assumes = h.assumes;
     steps = h.steps;
     among = with_numbers items ++ t ∷ [];
-    closed = closed_more (with_numbers items) t (numbers_closed items) args;
     holds = record {
-      truths = λ b. Contains-append_left (with_numbers items) (t ∷ []) (truth_term b) ((numbers_hold items).truths b);
-      constants = λ f c. Contains-append_left (with_numbers items) (t ∷ []) (constant_term f) ((numbers_hold items).constants f c);
+      truths = λ b. left_among (with_numbers items) (t ∷ []) (truth_term b) ((numbers_hold items).truths b);
+      constants = λ f c. left_among (with_numbers items) (t ∷ []) (constant_term f) ((numbers_hold items).constants f c);
       defined_terms = λ u c. defined_more u (Contains-push_cases told.terms t u c);
-      numbers = λ q d short. Contains-append_left (with_numbers items) (t ∷ []) (number_term q) ((numbers_hold items).numbers q d short);
+      placed_terms = λ u c. left_among (with_numbers items) (t ∷ []) u ((numbers_hold items).placed_terms u c);
+      numbers = λ q d short. left_among (with_numbers items) (t ∷ []) (number_term q) ((numbers_hold items).numbers q d short);
     };
     few = omega (arith, numbers_few items, length-append (with_numbers items) (t ∷ []), length-append told.terms (t ∷ []));
   }
@@ -192,9 +180,9 @@ module _ (g : Signature) (told : Told) (s : Signature) (entries : List NamedClau
       whole_more u (inl c) = h.knows.whole u c
       whole_more u (inr e) = subst (λ x. filled [] x ≡ x) e whole
 
-      defined_more : (u : Term) → Contains told.terms u ⊎ (t ≡ u) → Contains (with_numbers items ++ t ∷ []) u
-      defined_more u (inl c) = Contains-append_left (with_numbers items) (t ∷ []) u ((numbers_hold items).defined_terms u c)
-      defined_more u (inr e) = subst (Contains (with_numbers items ++ t ∷ [])) e (Contains-push (with_numbers items) t)
+      defined_more : (u : Term) → Contains told.terms u ⊎ (t ≡ u) → IsHeld (with_numbers items ++ t ∷ []) u
+      defined_more u (inl c) = held_among (with_numbers items) (with_numbers items ++ t ∷ []) (left_among (with_numbers items) (t ∷ [])) u ((numbers_hold items).defined_terms u c)
+      defined_more u (inr e) = subst (IsHeld (with_numbers items ++ t ∷ [])) e (held_more (with_numbers items) t args)
 
   -- the next names are new
   pub new_assume : (n : ℕ) → n ≡ length told.assumes + 1 → is_among (entry_names entries) (assume_name n) ≡ false

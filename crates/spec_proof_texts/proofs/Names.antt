@@ -20,10 +20,10 @@ use Rattle.spec_models.specs.Values.{trees_of, fraction_tree, sort_tree, numeral
 use Rattle.spec_models.proofs.Numerals.{numeral_is, numeral_digits, digits_in_symbols}
 use Rattle.spec_models.proofs.Values.{bare_word, name_spelled, sort_spelled}
 use Rattle.spec_proof_texts.specs.Decimals.{last_digits, places, in_last_place, behind_point, literal_text, literal_kind, has_decimal, literal_tree}
-use Rattle.spec_proof_texts.specs.Lines.{Argument, truth, number, symbol, defined, Reference, assumed, stepped, Line, defines, assumes, steps, truth_name, defined_name, reference_name, argument_tree, reference_tree, premise_trees, given_trees, line_tree}
+use Rattle.spec_proof_texts.specs.Lines.{Argument, Arguments, truth, number, symbol, defined, applied, no_items, item, Reference, assumed, stepped, Line, defines, assumes, steps, truth_name, defined_name, reference_name, argument_tree, argument_trees, reference_tree, premise_trees, given_trees, line_tree}
 use Rattle.spec_proof_texts.specs.Meaning.{IsSpelled, AreSpelled}
 use Rattle.spec_proof_texts.proofs.Given.{number_spelled}
-use Rattle.spec_proof_texts.specs.ReadBack.{IsWritableSort, IsWritableHead, IsWritableArgument, IsWritableLine}
+use Rattle.spec_proof_texts.specs.ReadBack.{IsWritableSort, IsWritableHead, IsWritableArgument, AreWritableArguments, IsWritableLine}
 
 -- bytes in two parts
 consists_both : (test : ℕ → Bool) (bs cs : List ℕ) → Consists test bs → Consists test cs → Consists test (bs ++ cs)
@@ -174,11 +174,17 @@ bare_name : (w : Name) → is_bare w ≡ true → IsWord Simple w
 bare_name [] e = cc
 bare_name (b ∷ bs) e = bare_word b bs e
 
-argument_words : (a : Argument) → IsWritableArgument a → HasWords (argument_tree a)
-argument_words (truth b) h = truth_word b
-argument_words (number q) h = literal_word q
-argument_words (symbol n) h = name_spelled n h
-argument_words (defined n) h = defined_word n
+mutual
+  argument_words : (a : Argument) → IsWritableArgument a → HasWords (argument_tree a)
+  argument_words (truth b) h = truth_word b
+  argument_words (number q) h = literal_word q
+  argument_words (symbol n) h = name_spelled n h
+  argument_words (defined n) h = defined_word n
+  argument_words (applied d items) h = (name_spelled (head_name d) (head_writable d h.0), within_words items h.1)
+
+  within_words : (items : Arguments) → AreWritableArguments items → HaveWords (argument_trees items)
+  within_words no_items h = tt
+  within_words (item a others) h = (argument_words a h.0, within_words others h.1)
 
 arguments_words : (items : List Argument) → All IsWritableArgument items → HaveWords (trees_of (map argument_tree items))
 arguments_words [] h = tt

@@ -1,5 +1,6 @@
 -- The numbers of what is marked, and what is under them.
 use Rattle.std.proofs.Common.{◌≡◌, ℕ, zero, suc, ◌+◌, ◌<◌, Bool, true, false, ◌&&◌, List, [], ◌∷◌, ◌++◌, length, get_or, Option, Some, None, refl, sym, ap, ◌∙◌, subst, arith}
+use Rattle.std.specs.Prelude.{nat_eq}
 use Rattle.std.specs.List.{slice_get}
 use Rattle.std.proofs.lemmas.Bool.{false≢true}
 use Rattle.std.proofs.lemmas.Option.{none-some}
@@ -8,7 +9,7 @@ use Rattle.spec_sorts.specs.Terms.{Term, same_term}
 use Rattle.spec_sorts.specs.Literals.{Clause}
 use Rattle.spec_sorts.proofs.SameTerms.{terms_decide}
 use Rattle.spec_derivations.specs.Derivations.{Inference, «assumption», by_rule, Derivation}
-use Rattle.spec_proof_texts.specs.Plans.{number_of, is_compound, compounds, counted, counted_inferences}
+use Rattle.spec_proof_texts.specs.Plans.{number_of, height_of, is_compound, definition_marks, counted, counted_inferences}
 
 -- the marked ones, in order
 abbrev pub picked : {A : Type 0} → List Bool → List A → List A
@@ -75,26 +76,39 @@ number_at_place (t ∷ ts) (n ∷ ns) (suc j) u h alone = go (same_term t u) ref
     go true same rest = let zeroth : zero ≡ suc j = alone zero (ap Some ((terms_decide t u).0 same)) in absurd (omega (arith, zeroth))
     go false same rest = rw same rest
 
--- what is marked and has arguments
-pub compound_at : (terms : List Term) (marks : List Bool) (j : ℕ) (u : Term) → length marks ≡ length terms → slice_get terms j ≡ Some u → get_or (compounds terms marks) j false ≡ get_or marks j false && is_compound u
-compound_at [] marks j u e h = absurd (none-some u h)
-compound_at (t ∷ ts) [] j u e h = absurd (omega (arith, e))
-compound_at (t ∷ ts) (b ∷ bs) zero u e h = ap (λ (o : Option Term). b && of_some o) h
+-- and its height
+pub height_at_place : (terms : List Term) (heights : List ℕ) (j : ℕ) (u : Term) → slice_get terms j ≡ Some u → ((i : ℕ) → slice_get terms i ≡ Some u → i ≡ j) → height_of terms heights u ≡ get_or heights j 0
+height_at_place [] heights j u h alone = absurd (none-some u h)
+height_at_place (t ∷ ts) [] j u h alone = refl
+height_at_place (t ∷ ts) (n ∷ ns) zero u h alone = let same : same_term t u ≡ true = (terms_decide t u).1 (ap (term_in t) h) in rw same refl
+height_at_place (t ∷ ts) (n ∷ ns) (suc j) u h alone = go (same_term t u) refl (height_at_place ts ns j u h (λ i at. omega (arith, alone (suc i) at)))
+  where
+    go : (b : Bool) → same_term t u ≡ b → height_of ts ns u ≡ get_or ns j 0 → height_of (t ∷ ts) (n ∷ ns) u ≡ get_or ns j 0
+    go true same rest = let zeroth : zero ≡ suc j = alone zero (ap Some ((terms_decide t u).0 same)) in absurd (omega (arith, zeroth))
+    go false same rest = rw same rest
+
+-- what is marked, has arguments, and is not in place
+pub definition_mark_at : (terms : List Term) (marks : List Bool) (heights : List ℕ) (j : ℕ) (u : Term) → length marks ≡ length terms → length heights ≡ length terms → slice_get terms j ≡ Some u → get_or (definition_marks terms marks heights) j false ≡ get_or marks j false && (is_compound u && nat_eq (get_or heights j 0) 0)
+definition_mark_at [] marks heights j u e f h = absurd (none-some u h)
+definition_mark_at (t ∷ ts) [] heights j u e f h = absurd (omega (arith, e))
+definition_mark_at (t ∷ ts) (b ∷ bs) [] j u e f h = absurd (omega (arith, f))
+definition_mark_at (t ∷ ts) (b ∷ bs) (n ∷ ns) zero u e f h = ap (λ (o : Option Term). b && (of_some o && nat_eq n 0)) h
   where
     of_some : Option Term → Bool
     of_some (Some x) = is_compound x
     of_some None = false
-compound_at (t ∷ ts) (b ∷ bs) (suc j) u e h = compound_at ts bs j u (omega (arith, e)) h
+definition_mark_at (t ∷ ts) (b ∷ bs) (n ∷ ns) (suc j) u e f h = definition_mark_at ts bs ns j u (omega (arith, e)) (omega (arith, f)) h
 
 pub counted_length : (n : ℕ) (bs : List Bool) → length (counted n bs) ≡ length bs
 counted_length n [] = refl
 counted_length n (true ∷ bs) = ap suc (counted_length (suc n) bs)
 counted_length n (false ∷ bs) = ap suc (counted_length n bs)
 
-pub compounds_length : (ts : List Term) (bs : List Bool) → length bs ≡ length ts → length (compounds ts bs) ≡ length ts
-compounds_length [] bs e = refl
-compounds_length (t ∷ ts) [] e = absurd (omega (arith, e))
-compounds_length (t ∷ ts) (b ∷ bs) e = ap suc (compounds_length ts bs (omega (arith, e)))
+pub definition_marks_length : (ts : List Term) (bs : List Bool) (ns : List ℕ) → length bs ≡ length ts → length ns ≡ length ts → length (definition_marks ts bs ns) ≡ length ts
+definition_marks_length [] bs ns e f = refl
+definition_marks_length (t ∷ ts) [] ns e f = absurd (omega (arith, e))
+definition_marks_length (t ∷ ts) (b ∷ bs) [] e f = absurd (omega (arith, f))
+definition_marks_length (t ∷ ts) (b ∷ bs) (n ∷ ns) e f = ap suc (definition_marks_length ts bs ns (omega (arith, e)) (omega (arith, f)))
 
 -- the clauses of marked assumptions, and of marked steps
 abbrev pub assumes_of : List Bool → Derivation → List Clause

@@ -14,8 +14,8 @@ use Rattle.spec_checking.specs.Examples.{the_check, known}
 use Rattle.spec_checking.specs.ProofTexts.{asserted_there}
 use Rattle.spec_checking.specs.OnLiterals.{proofs_on_literals}
 use Rattle.spec_checking.proofs.Verdicts.{units_resolve}
-use Rattle.spec_proof_texts.specs.Lines.{assumed, defined, symbol, defines, assumes}
-use Rattle.spec_proof_texts.specs.Meaning.{AreRightLines, IsDefinition, bare_term, nothing_told, with_definition, with_assume, with_step}
+use Rattle.spec_proof_texts.specs.Lines.{symbol, applied, no_items, item, assumed, assumes}
+use Rattle.spec_proof_texts.specs.Meaning.{AreRightLines, IsTold, bare_term, nothing_told, with_assume, with_step}
 use Rattle.spec_proof_texts.specs.Examples.{refutation, refutation_told}
 
 -- the script declares p
@@ -23,19 +23,23 @@ pub found : known_as known.scope (codes "p") ≡ Some (declared (constant (codes
 unfolding proofs_on_literals
 found = refl
 
--- a name of a negation
-definition : IsDefinition known.scope nothing_told (record { number = 1; sort = Truth; head = Not; arguments = symbol (codes "p") ∷ [] }) (negated p)
+-- p is printed so, and its negation is in place
+alone : IsTold known.scope (nothing_told (negated p ∷ [])) (symbol (codes "p")) p
+alone = ap bare_term found
+
+negation : IsTold known.scope (with_assume (nothing_told (negated p ∷ [])) (p ∷ [])) (applied Not (item (symbol (codes "p")) no_items)) (negated p)
 unfolding sort_of
-definition = record {
-  number = refl;
-  arguments = p ∷ [];
-  told = ap (λ o. bare_term o ∷ []) found;
-  some = λ e. cc;
-  takes = record { known = tt; takes = refl; linear = refl };
-  term = refl;
-  sort = refl;
-  known_sort = tt;
-}
+negation = (
+  p ∷ [],
+  (alone, tt),
+  record {
+    some = λ e. cc;
+    takes = record { known = tt; takes = refl; linear = refl };
+    term = refl;
+    there = first (negated p) [];
+    low = omega arith;
+  },
+)
 
 of_truth : (sort_of p ≡ Truth) × (sort_of (negated p) ≡ Truth)
 unfolding sort_of
@@ -44,29 +48,27 @@ of_truth = (refl, refl)
 -- each line is right after those before it
 right_from_both : AreRightLines known.scope (p ∷ negated p ∷ []) refutation
 right_from_both =
-    let one = with_definition nothing_told (negated p) in
-    let two_told = with_assume one (p ∷ []) in
-    let three = with_assume two_told (negated p ∷ []) in
+    let none_told = nothing_told (negated p ∷ []) in
+    let one_told = with_assume none_told (p ∷ []) in
+    let two_told = with_assume one_told (negated p ∷ []) in
     record {
+      placed = negated p ∷ [];
+      few = omega arith;
       end = refutation_told;
       right = (
-        one,
-        (negated p, definition, refl),
+        one_told,
+        (p, record { number = refl; told = alone; sort = of_truth.0; there = first p (negated p ∷ []) }, refl),
         (
           two_told,
-          (p, record { number = refl; told = ap bare_term found; sort = of_truth.0; there = first p (negated p ∷ []) }, refl),
+          (negated p, record { number = refl; told = negation; sort = of_truth.1; there = later p (negated p ∷ []) (negated p) (first (negated p) []) }, refl),
           (
-            three,
-            (negated p, record { number = refl; told = refl; sort = of_truth.1; there = later p (negated p ∷ []) (negated p) (first (negated p) []) }, refl),
-            (
-              with_step three [],
-              (record { clause = []; number = refl; literals = refl; sorts = All-nil (λ t. sort_of t ≡ Truth); premises = (p ∷ []) ∷ (negated p ∷ []) ∷ []; earlier = refl; given = record { spelled = tt; shallow = omega arith }; right = units_resolve }, refl),
-              refl,
-            ),
+            with_step two_told [],
+            (record { clause = []; number = refl; literals = tt; sorts = All-nil (λ t. sort_of t ≡ Truth); premises = (p ∷ []) ∷ (negated p ∷ []) ∷ []; earlier = refl; given = record { spelled = tt; shallow = omega arith }; right = units_resolve }, refl),
+            refl,
           ),
         ),
       );
-      earlier = defines (record { number = 1; sort = Truth; head = Not; arguments = symbol (codes "p") ∷ [] }) ∷ assumes 1 (symbol (codes "p")) ∷ assumes 2 (defined 1) ∷ [];
+      earlier = assumes 1 (symbol (codes "p")) ∷ assumes 2 (applied Not (item (symbol (codes "p")) no_items)) ∷ [];
       step = record { number = 1; literals = []; rule = rules.Resolution; premises = assumed 1 ∷ assumed 2 ∷ []; arguments = none };
       last = refl;
       empty = refl;

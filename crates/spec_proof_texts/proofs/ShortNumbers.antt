@@ -1,10 +1,10 @@
 -- Numbers of few bytes are few.
-use Rattle.std.proofs.Common.{◌≡◌, ◌≤◌, ◌<◌, ℕ, zero, suc, ◌+◌, ◌*◌, ◌/◌, ◌^◌, true, false, cond, not, ◌&&◌, All, List, [], ◌∷◌, ◌++◌, length, map, inl, inr, Contains, refl, ap, ◌∙◌, subst, length-append, arith}
+use Rattle.std.proofs.Common.{◌≡◌, ◌≤◌, ◌<◌, ℕ, zero, suc, ◌+◌, ◌*◌, ◌/◌, ◌^◌, true, false, cond, not, ◌&&◌, List, [], ◌∷◌, ◌++◌, length, map, inl, inr, Contains, refl, ap, ◌∙◌, subst, length-append, arith}
 use Rattle.std.specs.Prelude.{◌⊎◌, nat_le}
 use Rattle.std.proofs.lemmas.Bool.{cases_eq, and_parts}
 use Rattle.std.proofs.lemmas.Bool.Decides.{nat_tests}
 use Rattle.std.proofs.lemmas.List.{length-map}
-use Rattle.std.proofs.lemmas.List.Elements.{All-map, Contains-append_left, Contains-append_right}
+use Rattle.std.proofs.lemmas.List.Elements.{Contains-append_left, Contains-append_right}
 use Rattle.spec_text.specs.Bytes.{is_digit}
 use Rattle.spec_text.specs.Lexicon.{Consists}
 use Rattle.spec_text.specs.Trees.{atom}
@@ -13,7 +13,6 @@ use Rattle.spec_text.proofs.Members.{first, later, cases, none as no_member, to_
 use Rattle.spec_numbers.specs.Fractions.{Fraction}
 use Rattle.spec_sorts.specs.Numerals.{literal_value, is_wide}
 use Rattle.spec_sorts.specs.Terms.{Term, same_fraction}
-use Rattle.spec_sorts.specs.Subsets.{arguments_of}
 use Rattle.spec_sorts.proofs.SameTerms.{fractions_decide}
 use Rattle.spec_models.specs.Values.{numeral, fraction_tree}
 use Rattle.spec_models.proofs.Numerals.{numeral_digits}
@@ -136,7 +135,3 @@ short_there q e short =
     let le : length (literal_text q) ≤ 5 = subst (λ (w : List ℕ). length w ≤ 5) (printed_text q one.0) few in
     let same = (fractions_decide (literal_value (literal_text q)) q).0 two.0 in
     subst (λ x. Contains short_numbers (number_term x)) same (to_image (λ w. number_term (literal_value w)) (short_words 5) (literal_text q) (word_there 5 (literal_text q) (text_there q) le))
-
--- they have no arguments
-pub short_bare : All (λ t. arguments_of t ≡ []) short_numbers
-short_bare = All-map (λ t. arguments_of t ≡ []) (λ w. number_term (literal_value w)) (short_words 5) (λ k d lt. refl)

@@ -9,8 +9,8 @@ use Rattle.spec_proofs.specs.RuleNames.{rule_name}
 use Rattle.spec_models.specs.Values.{trees_of, in_list, word_tree, reserved_tree, symbol_tree, sort_tree}
 use Rattle.spec_sorts.specs.HeadNames.{head_name}
 use Rattle.spec_proof_texts.specs.Decimals.{literal_tree}
-use Rattle.spec_proof_texts.specs.Lines.{Argument, truth, number, symbol, defined, DefinitionLine, StepLine, Line, defines, assumes, steps, defined_name, assume_name, step_name, keyword_tree, argument_tree, premise_trees, given_trees, term_tree, definition_tree, clause_tree, step_tree, line_tree, line_text, proof_text}
-use Rattle.spec_proof_texts.proofs.Known.{number_term, is_long_number, number_terms, numbers_among, numbers_in, definitions_in}
+use Rattle.spec_proof_texts.specs.Lines.{Argument, Arguments, truth, number, symbol, defined, applied, no_items, item, DefinitionLine, StepLine, Line, defines, assumes, steps, defined_name, assume_name, step_name, keyword_tree, argument_tree, argument_trees, premise_trees, given_trees, term_tree, definition_tree, clause_tree, step_tree, line_tree, line_text, proof_text}
+use Rattle.spec_proof_texts.proofs.Known.{number_term, is_long_number, number_terms_in, number_terms_within, number_terms, numbers_among, numbers_in, definitions_in}
 
 listed_size : (ts : List Tree) → length (printed (in_list ts)) ≡ length (printed_all (trees_of ts)) + 2
 listed_size ts = omega (arith, length-append (printed_all (trees_of ts)) (41 ∷ []))
@@ -19,20 +19,30 @@ more_size : (t u : Tree) (us : Trees) → length (printed_all (more t (more u us
 more_size t u us = omega (arith, length-append (printed t) (32 ∷ printed_all (more u us)))
 
 -- a long number has six bytes, and one before it
-number_size : (b : Bool) (q : Fraction) (items : List Argument) → is_long_number q ≡ b → 7 * length (cond b (number_term q ∷ number_terms items) (number_terms items)) ≤ 1 + length (printed (literal_tree q)) + 7 * length (number_terms items)
-number_size true q items e = let long : 6 ≤ length (printed (literal_tree q)) = grind (arith, nat_tests, e) in omega (arith, long)
-number_size false q items e = omega arith
+number_size : (b : Bool) (q : Fraction) → is_long_number q ≡ b → 7 * length (cond b (number_term q ∷ []) []) ≤ 1 + length (printed (literal_tree q))
+number_size true q e = let long : 6 ≤ length (printed (literal_tree q)) = grind (arith, nat_tests, e) in omega (arith, long)
+number_size false q e = omega arith
 
-argument_size : (a : Argument) (items : List Argument) → 7 * numbers_among (a ∷ items) ≤ 1 + length (printed (argument_tree a)) + 7 * numbers_among items
-argument_size (number q) items = number_size (is_long_number q) q items refl
-argument_size (truth b) items = omega arith
-argument_size (symbol n) items = omega arith
-argument_size (defined n) items = omega arith
+mutual
+  argument_size : (a : Argument) → 7 * length (number_terms_in a) ≤ 1 + length (printed (argument_tree a))
+  argument_size (number q) = number_size (is_long_number q) q refl
+  argument_size (truth b) = omega arith
+  argument_size (symbol n) = omega arith
+  argument_size (defined n) = omega arith
+  argument_size (applied h items) =
+      let t = symbol_tree (head_name h) in
+      omega (arith, length-append (printed_all (more t (argument_trees items))) (41 ∷ []), within_size t items)
 
--- arguments behind a tree
+  -- terms behind a tree
+  within_size : (t : Tree) (items : Arguments) → length (printed t) + 7 * length (number_terms_within items) ≤ length (printed_all (more t (argument_trees items)))
+  within_size t no_items = omega arith
+  within_size t (item a others) =
+      omega (arith, more_size t (argument_tree a) (argument_trees others), length-append (number_terms_in a) (number_terms_within others), argument_size a, within_size (argument_tree a) others)
+
+-- and a list of them
 arguments_size : (t : Tree) (items : List Argument) → length (printed t) + 7 * numbers_among items ≤ length (printed_all (more t (trees_of (map argument_tree items))))
 arguments_size t [] = omega arith
-arguments_size t (a ∷ items) = omega (arith, more_size t (argument_tree a) (trees_of (map argument_tree items)), argument_size a items, arguments_size (argument_tree a) items)
+arguments_size t (a ∷ items) = omega (arith, more_size t (argument_tree a) (trees_of (map argument_tree items)), length-append (number_terms_in a) (number_terms items), argument_size a, arguments_size (argument_tree a) items)
 
 -- a definition has 23 bytes at least, and those of its numbers
 definition_size : (d : DefinitionLine) → 23 + 7 * numbers_among d.arguments ≤ length (line_text (defines d))

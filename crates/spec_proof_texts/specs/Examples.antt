@@ -1,27 +1,28 @@
 -- Refutations as they are printed, and what their lines say.
-use Rattle.std.specs.Prelude.{◌++◌, ◌≡◌, refl, ℕ, pos, negsuc, true, false, List, [], ◌∷◌, map, codes}
+use Rattle.std.specs.Prelude.{◌++◌, ◌≡◌, refl, ℕ, ◌+◌, Bool, pos, negsuc, true, false, List, [], ◌∷◌, map, codes}
 use Rattle.spec_text.specs.declared.Kind.TheVariants.{Numeral}
 use Rattle.spec_text.specs.Trees.{atom, none, more}
 use Rattle.spec_text.specs.Printed.{printed_all}
 use Rattle.spec_numbers.specs.Fractions.{Fraction}
 use Rattle.spec_sorts.specs.Terms.{Truth, Number, Declared, Symbol, True, Not, And, Or, Equal, Ite, Plus, Literal}
 use Rattle.spec_sorts.specs.Terms.{Apply, Term, of, constant, constant_term, negated, sort_of, same_term}
+use Rattle.spec_sorts.specs.Subsets.{arguments_of}
 use Rattle.spec_proofs.specs.declared.Rule.TheVariants as rules
 use Rattle.spec_rules.specs.Examples.{p}
 use Rattle.spec_derivations.specs.Derivations.{Derivation, «assumption», by_rule}
 use Rattle.spec_models.specs.Values.{trees_of, numeral}
 use Rattle.spec_proof_texts.specs.Decimals.{places, has_decimal, literal_text, literal_tree}
-use Rattle.spec_proof_texts.specs.Lines.{Line, truth, symbol, defined, assumed, defines, assumes, steps, line_text}
-use Rattle.spec_proof_texts.specs.Lines.{proof_text}
+use Rattle.spec_proof_texts.specs.Lines.{Line, truth, symbol, applied, no_items, item, assumed, assumes, steps}
+use Rattle.spec_proof_texts.specs.Lines.{line_text, proof_text}
 use Rattle.spec_proof_texts.specs.Meaning.{Told}
-use Rattle.spec_proof_texts.specs.Plans.{Plan, lines_of, counted, counted_inferences}
+use Rattle.spec_proof_texts.specs.Plans.{Plan, lines_of, counted, counted_inferences, times_among, times_in_clauses}
+use Rattle.spec_proof_texts.specs.Plans.{times_in_terms, height_of, height_over, greatest_height, definition_marks}
 
 -- the proof of `contradiction`: p and its negation are assumed
 abbrev pub refutation : List Line
 refutation =
-    defines (record { number = 1; sort = Truth; head = Not; arguments = symbol (codes "p") ∷ [] }) ∷
     assumes 1 (symbol (codes "p")) ∷
-    assumes 2 (defined 1) ∷
+    assumes 2 (applied Not (item (symbol (codes "p")) no_items)) ∷
     steps (record {
       number = 1;
       literals = [];
@@ -32,14 +33,19 @@ refutation =
 
 -- its text
 pub refutation_text : proof_text refutation
-    ≡ (codes "(\n(define-fun @p1 () Bool (not p))\n(assume h1 p)\n(assume h2 @p1)\n(step t1 (cl) "
+    ≡ (codes "(\n(assume h1 p)\n(assume h2 (not p))\n(step t1 (cl) "
     ++ codes ":rule resolution :premises (h1 h2))\n)\n")
 unfolding numeral
 refutation_text = refl
 
 -- what the lines of the refutation make known
 abbrev pub refutation_told : Told
-refutation_told = record { terms = negated p ∷ []; assumes = (p ∷ []) ∷ (negated p ∷ []) ∷ []; steps = [] ∷ [] }
+refutation_told = record {
+  terms = [];
+  assumes = (p ∷ []) ∷ (negated p ∷ []) ∷ [];
+  steps = [] ∷ [];
+  placed = negated p ∷ [];
+}
 
 -- what a search may have found: the disjunction of p and q, which `q p` stands for here, is opened, and something is
 -- stated that nothing depends on
@@ -61,17 +67,51 @@ derivation =
     by_rule rules.Or (2 ∷ []) none (p ∷ q_p ∷ []) ∷
     by_rule rules.Weakening (4 ∷ []) none (p ∷ q_p ∷ of True [] ∷ []) ∷ []
 
+-- which inferences are printed: all that the last one depends on
+abbrev pub support : List Bool
+support = true ∷ false ∷ true ∷ false ∷ true ∷ true ∷ []
+
+-- which terms are printed for them
+abbrev pub needed : List Bool
+needed = true ∷ true ∷ true ∷ true ∷ true ∷ false ∷ true ∷ []
+
+-- how often each of the terms is used: the disjunction is an argument and a literal, its negation is not
+pub uses_of_terms : map (λ t. times_in_clauses support derivation t + times_in_terms needed table t) table
+    ≡ 4 ∷ 3 ∷ 2 ∷ 1 ∷ 2 ∷ 0 ∷ 1 ∷ []
+unfolding same_term
+uses_of_terms = refl
+
+-- a term that is an argument twice is used twice
+pub both_arguments : times_among (arguments_of (of Equal (p ∷ p ∷ []))) p ≡ 2
+unfolding same_term
+both_arguments = refl
+
+-- a term is one deeper than its deepest argument in place, up to the limit; what is too deep is defined, and is a word
+-- where it is an argument
+pub heights_of_terms : map (λ n. height_over true n 0) (0 ∷ 1 ∷ 7 ∷ 8 ∷ []) ≡ 1 ∷ 2 ∷ 8 ∷ 0 ∷ []
+heights_of_terms = refl
+
+-- the negation is in place, and the conjunction over it
+pub heights_of_the_table : map (greatest_height (height_of table (0 ∷ 0 ∷ 0 ∷ 1 ∷ 0 ∷ 0 ∷ 2 ∷ [])))
+    (map arguments_of table) ≡ 0 ∷ 0 ∷ 0 ∷ 0 ∷ 0 ∷ 1 ∷ 1 ∷ []
+unfolding same_term
+heights_of_the_table = refl
+
+-- which terms are defined: those with arguments that are printed, and not in place
+pub defined_of_the_table : definition_marks table needed (0 ∷ 0 ∷ 0 ∷ 1 ∷ 0 ∷ 0 ∷ 2 ∷ [])
+    ≡ false ∷ false ∷ true ∷ false ∷ false ∷ false ∷ false ∷ []
+defined_of_the_table = refl
+
 -- the plan of the last but for the one that nothing depends on
 abbrev pub plan : Plan
 plan = record {
-  terms = counted 1 (false ∷ false ∷ true ∷ true ∷ false ∷ false ∷ true ∷ []);
-  inferences = counted_inferences 1 1 (true ∷ false ∷ true ∷ false ∷ true ∷ true ∷ []) derivation;
+  terms = counted 1 (false ∷ false ∷ true ∷ false ∷ false ∷ false ∷ false ∷ []);
+  inferences = counted_inferences 1 1 support derivation;
 }
 
 -- a name that needs bars has them, and a step without premises has no such keyword
 pub lines_of_a_derivation : proof_text (lines_of table derivation plan)
-    ≡ (codes "(\n(define-fun @p1 () Bool (or p |q p|))\n(define-fun @p2 () Bool (not p))\n"
-    ++ codes "(define-fun @p3 () Bool (and @p1 @p2 true))\n(assume h1 @p3)\n(step t1 (cl @p1) "
+    ≡ (codes "(\n(define-fun @p1 () Bool (or p |q p|))\n(assume h1 (and @p1 (not p) true))\n(step t1 (cl @p1) "
     ++ codes ":rule and :premises (h1))\n(step t2 (cl p |q p|) :rule or :premises (t1))\n"
     ++ codes "(step t3 (cl p |q p| true) :rule weakening :premises (t2))\n)\n")
 unfolding numeral same_term sort_of
@@ -139,6 +179,14 @@ pub terms_of_other_sorts : proof_text (lines_of sorted_table sorted_derivation s
     ++ codes "(assume h1 @p4)\n)\n")
 unfolding numeral same_term sort_of places has_decimal literal_text
 terms_of_other_sorts = refl
+
+-- where none has a number, all are in place, one inside the other
+pub terms_in_place : proof_text (lines_of sorted_table sorted_derivation (record {
+  terms = [];
+  inferences = counted_inferences 1 1 (true ∷ []) sorted_derivation;
+})) ≡ codes "(\n(assume h1 (= a (ite p a (f 20 (+ 0.5 1.25 0.5)))))\n)\n"
+unfolding numeral same_term places has_decimal literal_text
+terms_in_place = refl
 
 -- numbers in place, of which the last two have no decimal
 pub numbers_in_place : printed_all

@@ -1,7 +1,6 @@
 -- The lines of a printed proof, and their text: definitions of terms, assumes and steps, each by its number, in one
--- list. Source: Alethe specification, commands; that each term with arguments gets a name, and what the names are, is
--- own.
-use Rattle.std.specs.Prelude.{ℕ, Bool, true, false, List, [], ◌∷◌, ◌++◌, map, flat_map, codes}
+-- list. Source: Alethe specification, commands; which terms get a name, and what the names are, is own.
+use Rattle.std.specs.Prelude.{ℕ, suc, Bool, true, false, List, [], ◌∷◌, ◌++◌, map, flat_map, codes, max}
 use Rattle.spec_text.specs.declared.Kind.TheVariants.{Keyword}
 use Rattle.spec_text.specs.Bytes.{Name}
 use Rattle.spec_text.specs.Trees.{Tree, Trees, atom, list, none, more}
@@ -14,16 +13,54 @@ use Rattle.spec_proofs.specs.RuleNames.{rule_name}
 use Rattle.spec_models.specs.Values.{numeral, in_list, word_tree, reserved_tree, symbol_tree, sort_tree}
 use Rattle.spec_proof_texts.specs.Decimals.{literal_tree}
 
--- A term as it is printed in place.
-pub data Argument : Type 0 where
-  -- a truth value
-  truth : Bool → Argument
-  -- a number
-  number : Fraction → Argument
-  -- a declared symbol without parameters, by its name
-  symbol : Name → Argument
-  -- the term that is defined under a number
-  defined : ℕ → Argument
+mutual
+  -- A term as it is printed.
+  pub data Argument : Type 0 where
+    -- a truth value
+    truth : Bool → Argument
+    -- a number
+    number : Fraction → Argument
+    -- a declared symbol without parameters, by its name
+    symbol : Name → Argument
+    -- the term that is defined under a number
+    defined : ℕ → Argument
+    -- a head before its arguments, in place
+    applied : Head → Arguments → Argument
+
+  -- Printed terms, one after the other.
+  pub data Arguments : Type 0 where
+    -- no term
+    no_items : Arguments
+    -- a term before others
+    item : Argument → Arguments → Arguments
+
+-- the list of printed terms, in their order
+abbrev pub items_of : Arguments → List Argument
+items_of no_items = []
+items_of (item a others) = a ∷ items_of others
+
+-- how many heads stand in place, one inside the other
+abbrev mutual
+  -- in a term
+  pub levels : Argument → ℕ
+  levels (applied h items) = suc (most_levels items)
+  levels (truth b) = 0
+  levels (number q) = 0
+  levels (symbol n) = 0
+  levels (defined n) = 0
+
+  -- at the most in one of some terms
+  pub most_levels : Arguments → ℕ
+  most_levels no_items = 0
+  most_levels (item a others) = max (levels a) (most_levels others)
+
+-- how many heads may stand in place, one inside the other
+abbrev pub level_limit : ℕ
+level_limit = 8
+
+-- how many terms may be in place in one proof, so that all of them have room where it is read
+abbrev pub place_limit : ℕ
+place_limit = 900000
 
 -- A premise as it is printed.
 pub data Reference : Type 0 where
@@ -89,12 +126,19 @@ reference_name (stepped n) = step_name n
 abbrev pub keyword_tree : Name → Tree
 keyword_tree n = atom 0 Keyword n
 
--- a term in place
-abbrev pub argument_tree : Argument → Tree
-argument_tree (truth b) = word_tree (truth_name b)
-argument_tree (number q) = literal_tree q
-argument_tree (symbol n) = symbol_tree n
-argument_tree (defined n) = word_tree (defined_name n)
+abbrev mutual
+  -- a printed term
+  pub argument_tree : Argument → Tree
+  argument_tree (truth b) = word_tree (truth_name b)
+  argument_tree (number q) = literal_tree q
+  argument_tree (symbol n) = symbol_tree n
+  argument_tree (defined n) = word_tree (defined_name n)
+  argument_tree (applied h items) = list 0 (more (symbol_tree (head_name h)) (argument_trees items)) 0
+
+  -- printed terms, one after the other
+  pub argument_trees : Arguments → Trees
+  argument_trees no_items = none
+  argument_trees (item a others) = more (argument_tree a) (argument_trees others)
 
 -- a premise
 abbrev pub reference_tree : Reference → Tree

@@ -18,8 +18,9 @@ use Rattle.spec_sorts.specs.Literals.{Clause}
 use Rattle.spec_rules.specs.Rules.{IsRight}
 use Rattle.spec_models.specs.Meaning.{IsSortIn}
 use Rattle.spec_proof_texts.specs.Decimals.{is_decimal}
-use Rattle.spec_proof_texts.specs.Lines.{Argument, truth, number, symbol, defined, Reference, assumed, stepped}
-use Rattle.spec_proof_texts.specs.Lines.{DefinitionLine, StepLine, Line, defines, assumes, steps}
+use Rattle.spec_proof_texts.specs.Lines.{Argument, Arguments, truth, number, symbol, defined, applied, no_items}
+use Rattle.spec_proof_texts.specs.Lines.{item, levels, Reference, assumed, stepped, DefinitionLine, StepLine, Line}
+use Rattle.spec_proof_texts.specs.Lines.{defines, assumes, steps, level_limit, place_limit}
 
 -- What is known after lines, each by its number, from 1.
 pub record Told : Type 0 where
@@ -29,22 +30,24 @@ pub record Told : Type 0 where
   pub assumes : List Clause
   -- the clauses of the steps
   pub steps : List Clause
+  -- the terms with arguments that may be in place
+  pub placed : List Term
 
 -- what is known before the first line
-abbrev pub nothing_told : Told
-nothing_told = record { terms = []; assumes = []; steps = [] }
+abbrev pub nothing_told : List Term → Told
+nothing_told placed = record { terms = []; assumes = []; steps = []; placed = placed }
 
 -- one definition more
 abbrev pub with_definition : Told → Term → Told
-with_definition k t = record { terms = k.terms ++ t ∷ []; assumes = k.assumes; steps = k.steps }
+with_definition k t = record { terms = k.terms ++ t ∷ []; assumes = k.assumes; steps = k.steps; placed = k.placed }
 
 -- one assume more
 abbrev pub with_assume : Told → Clause → Told
-with_assume k c = record { terms = k.terms; assumes = k.assumes ++ c ∷ []; steps = k.steps }
+with_assume k c = record { terms = k.terms; assumes = k.assumes ++ c ∷ []; steps = k.steps; placed = k.placed }
 
 -- one step more
 abbrev pub with_step : Told → Clause → Told
-with_step k c = record { terms = k.terms; assumes = k.assumes; steps = k.steps ++ c ∷ [] }
+with_step k c = record { terms = k.terms; assumes = k.assumes; steps = k.steps ++ c ∷ []; placed = k.placed }
 
 -- what has a number, from 1
 abbrev pub numbered : {A : Type 0} → List A → ℕ → Option A
@@ -66,25 +69,13 @@ abbrev pub bare_term : Option Known → Option Term
 bare_term (Some (declared f)) = constant_if f f.parameters
 bare_term k = None
 
--- the term that is printed so, where there is one
-abbrev pub term_told : Signature → Told → Argument → Option Term
-term_told g k (truth b) = Some (truth_term b)
-term_told g k (number q) = only_if (is_decimal q) (of (Literal q) [])
-term_told g k (symbol n) = bare_term (known_as g n)
-term_told g k (defined n) = numbered k.terms n
-
--- these are the terms that are printed so
-abbrev pub AreTold : Signature → Told → List Argument → List Term → Type 0
-AreTold g k items ts = map (term_told g k) items ≡ map Some ts
-
--- the clause that a premise names, where there is one
-abbrev pub clause_told : Told → Reference → Option Clause
-clause_told k (assumed n) = numbered k.assumes n
-clause_told k (stepped n) = numbered k.steps n
-
--- these are the clauses that the premises name
-abbrev pub ArePremises : Told → List Reference → List Clause → Type 0
-ArePremises k ps cs = map (clause_told k) ps ≡ map Some cs
+-- the term that a printed word stands for, where there is one
+abbrev pub word_told : Signature → Told → Argument → Option Term
+word_told g k (truth b) = Some (truth_term b)
+word_told g k (number q) = only_if (is_decimal q) (of (Literal q) [])
+word_told g k (symbol n) = bare_term (known_as g n)
+word_told g k (defined n) = numbered k.terms n
+word_told g k (applied h items) = None
 
 -- a head by its text: a declared symbol is that of its name, and a number has a text
 abbrev pub IsKnownHead : Signature → Head → Type 0
@@ -106,6 +97,50 @@ pub record TakesAll (g : Signature) (h : Head) (ts : List Term) : Type 0 where
   pub takes : head_takes [] h (map sort_of ts) ≡ true
   -- and refuses none
   pub linear : linear_fault h ts ≡ None
+
+-- A head in place before arguments, so many levels deep: it takes them, and is not too deep.
+pub record IsPlaced (g : Signature) (k : Told) (h : Head) (ts : List Term) (deep : ℕ) (t : Term) : Type 0 where
+  -- there is one argument at least
+  pub some : ts ≢ []
+  -- the head takes them
+  pub takes : TakesAll g h ts
+  -- the term is the head before them
+  pub term : t ≡ of h ts
+  -- it may be in place
+  pub there : Contains k.placed t
+  -- and is no deeper than it may be
+  pub low : deep ≤ level_limit
+
+abbrev mutual
+  -- the term is printed so
+  pub IsTold : Signature → Told → Argument → Term → Type 0
+  IsTold g k (applied h items) t = (ts : List Term) × AreToldSo g k items ts
+      × IsPlaced g k h ts (levels (applied h items)) t
+  IsTold g k (truth b) t = word_told g k (truth b) ≡ Some t
+  IsTold g k (number q) t = word_told g k (number q) ≡ Some t
+  IsTold g k (symbol n) t = word_told g k (symbol n) ≡ Some t
+  IsTold g k (defined n) t = word_told g k (defined n) ≡ Some t
+
+  -- the terms are printed so, one after the other
+  pub AreToldSo : Signature → Told → Arguments → List Term → Type 0
+  AreToldSo g k no_items [] = Unit {0}
+  AreToldSo g k (item a others) (t ∷ ts) = IsTold g k a t × AreToldSo g k others ts
+  AreToldSo g k _ _ = ⊥
+
+-- these are the terms that are printed so
+abbrev pub AreTold : Signature → Told → List Argument → List Term → Type 0
+AreTold g k [] [] = Unit {0}
+AreTold g k (a ∷ items) (t ∷ ts) = IsTold g k a t × AreTold g k items ts
+AreTold g k _ _ = ⊥
+
+-- the clause that a premise names, where there is one
+abbrev pub clause_told : Told → Reference → Option Clause
+clause_told k (assumed n) = numbered k.assumes n
+clause_told k (stepped n) = numbered k.steps n
+
+-- these are the clauses that the premises name
+abbrev pub ArePremises : Told → List Reference → List Clause → Type 0
+ArePremises k ps cs = map (clause_told k) ps ≡ map Some cs
 
 -- A definition under the next number: a head before arguments that are known and that it takes, a term of the sort that
 -- is printed.
@@ -132,7 +167,7 @@ pub record IsAssume (g : Signature) (asserted : List Term) (k : Told) (n : ℕ) 
   -- the number is the next
   pub number : n ≡ length k.assumes + 1
   -- the term is printed so
-  pub told : term_told g k a ≡ Some t
+  pub told : IsTold g k a t
   -- it has the sort Bool
   pub sort : sort_of t ≡ Truth
   -- it is asserted
@@ -191,10 +226,14 @@ AreLinesAfter g asserted k (l ∷ ls) end = (next : Told) × IsLineAfter g asser
 -- The lines are a proof from what is asserted: each is right after those before it, and the last is a step with the
 -- empty clause.
 pub record AreRightLines (g : Signature) (asserted : List Term) (lines : List Line) : Type 0 where
-  -- what is known after them
+  -- the terms with arguments that may be in place
+  pub placed : List Term
+  -- there is room for them
+  pub few : length placed ≤ place_limit
+  -- what is known after the lines
   pub end : Told
   -- each is right
-  pub right : AreLinesAfter g asserted nothing_told lines end
+  pub right : AreLinesAfter g asserted (nothing_told placed) lines end
   -- the lines before the last
   pub earlier : List Line
   -- the last one

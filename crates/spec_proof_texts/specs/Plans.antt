@@ -1,14 +1,16 @@
--- Which lines a derivation has: a definition for each term with arguments that they need, and each inference that the
--- last one depends on. Source: Alethe specification, proofs as lists of commands; where definitions are, and the
--- numbers, are own.
-use Rattle.std.specs.Prelude.{◌≡◌, ℕ, suc, ◌+◌, Bool, true, false, ◌&&◌, List, [], ◌∷◌, ◌++◌, length, map, Option, Some}
-use Rattle.std.specs.Prelude.{None, Contains, get_or, if◌then◌else◌}
+-- Which lines a derivation has: a definition for each term with arguments that they need and that is not in place, and
+-- each inference that the last one depends on. Source: Alethe specification, proofs as lists of commands; what is in
+-- place, where definitions are, and the numbers, are own.
+use Rattle.std.specs.Prelude.{◌≡◌, ℕ, zero, suc, ◌+◌, Bool, true, false, ◌&&◌, List, [], ◌∷◌, ◌++◌, length, map, take}
+use Rattle.std.specs.Prelude.{Option, Some, None, Contains, get_or, nat_eq, nat_lt, max, if◌then◌else◌}
 use Rattle.std.specs.List.{slice_get}
-use Rattle.spec_sorts.specs.Terms.{True, Literal, Apply, Term, app, nil, cons, list_of, sort_of, same_term}
+use Rattle.spec_sorts.specs.Terms.{Head, True, Literal, Apply, Term, Terms, app, nil, cons, list_of, sort_of}
+use Rattle.spec_sorts.specs.Terms.{same_term}
 use Rattle.spec_sorts.specs.Subsets.{arguments_of}
-use Rattle.spec_derivations.specs.Derivations.{Inference, «assumption», by_rule, Derivation, conclusion_at}
-use Rattle.spec_derivations.specs.Derivations.{inference_at, DependsOn}
-use Rattle.spec_proof_texts.specs.Lines.{Argument, truth, number, symbol, defined, Reference, assumed, stepped, Line}
+use Rattle.spec_derivations.specs.Derivations.{Inference, «assumption», by_rule, Derivation, conclusion}
+use Rattle.spec_derivations.specs.Derivations.{conclusion_at, inference_at, DependsOn}
+use Rattle.spec_proof_texts.specs.Lines.{Argument, Arguments, truth, number, symbol, defined, applied, no_items}
+use Rattle.spec_proof_texts.specs.Lines.{item, level_limit, place_limit, Reference, assumed, stepped, Line}
 use Rattle.spec_proof_texts.specs.Lines.{defines, assumes, steps}
 
 -- The numbers under which terms and inferences are printed, each list by their places; none for what is not printed, or
@@ -24,21 +26,29 @@ abbrev pub number_of : List Term → List (Option ℕ) → Term → Option ℕ
 number_of (t ∷ ts) (n ∷ ns) u = if same_term t u then n else number_of ts ns u
 number_of _ _ u = None
 
--- a term without a number is in place; no other head than these comes without arguments
-abbrev pub in_place : Term → Argument
-in_place (app True ts) = truth true
-in_place (app (Literal q) ts) = number q
-in_place (app (Apply f) ts) = symbol f.name
-in_place (app h ts) = truth false
+-- a head in place before its arguments; no other head than these comes without any
+abbrev pub in_place : Head → Arguments → Argument
+in_place h (item a others) = applied h (item a others)
+in_place True no_items = truth true
+in_place (Literal q) no_items = number q
+in_place (Apply f) no_items = symbol f.name
+in_place h no_items = truth false
 
--- a term by its number, where it has one
-abbrev pub argument_by : Option ℕ → Term → Argument
-argument_by (Some n) u = defined n
-argument_by None u = in_place u
+-- a term by its number, where it has one, else in place
+abbrev pub argument_by : Option ℕ → Argument → Argument
+argument_by (Some n) a = defined n
+argument_by None a = a
 
--- a term as it is printed
-abbrev pub argument_for : List Term → List (Option ℕ) → Term → Argument
-argument_for terms numbers u = argument_by (number_of terms numbers u) u
+abbrev mutual
+  -- a term as it is printed
+  pub argument_for : List Term → List (Option ℕ) → Term → Argument
+  argument_for terms numbers (app h ts) =
+      argument_by (number_of terms numbers (app h ts)) (in_place h (arguments_for terms numbers ts))
+
+  -- terms as they are printed
+  pub arguments_for : List Term → List (Option ℕ) → Terms → Arguments
+  arguments_for terms numbers nil = no_items
+  arguments_for terms numbers (cons t ts) = item (argument_for terms numbers t) (arguments_for terms numbers ts)
 
 -- the definition of a term, where it has a number
 abbrev pub definition_by : (Term → Argument) → Option ℕ → Term → List Line
@@ -99,10 +109,22 @@ counted n [] = []
 counted n (true ∷ bs) = Some n ∷ counted (suc n) bs
 counted n (false ∷ bs) = None ∷ counted n bs
 
--- which of the marked terms have arguments
-abbrev pub compounds : List Term → List Bool → List Bool
-compounds (t ∷ ts) (b ∷ bs) = (b && is_compound t) ∷ compounds ts bs
-compounds _ _ = []
+-- how often a term is one of others
+abbrev pub times_among : List Term → Term → ℕ
+times_among [] u = 0
+times_among (t ∷ ts) u = if same_term t u then suc (times_among ts u) else times_among ts u
+
+-- how often a term is a literal of marked inferences
+abbrev pub times_in_clauses : List Bool → Derivation → Term → ℕ
+times_in_clauses (true ∷ bs) (x ∷ xs) u = times_among (conclusion x) u + times_in_clauses bs xs u
+times_in_clauses (false ∷ bs) (x ∷ xs) u = times_in_clauses bs xs u
+times_in_clauses _ _ u = 0
+
+-- how often a term is an argument of marked terms
+abbrev pub times_in_terms : List Bool → List Term → Term → ℕ
+times_in_terms (true ∷ bs) (t ∷ ts) u = times_among (arguments_of t) u + times_in_terms bs ts u
+times_in_terms (false ∷ bs) (t ∷ ts) u = times_in_terms bs ts u
+times_in_terms _ _ u = 0
 
 -- numbers for the inferences that are marked: the assumes and the steps each have their own
 abbrev pub counted_inferences : (h t : ℕ) → List Bool → Derivation → List (Option ℕ)
@@ -129,8 +151,53 @@ pub record ArePrinted (terms : List Term) (d : Derivation) (n : ℕ) (marks : Li
   -- and nothing else
   pub only : (k : ℕ) (t : Term) → slice_get terms k ≡ Some t → get_or marks k false ≡ true → IsPrinted d n t
 
--- The plan of an inference: what it depends on is printed, the terms with arguments that this needs are defined, and
--- nothing else; numbers begin with 1.
+-- the height of a term, by the first place that it is at
+abbrev pub height_of : List Term → List ℕ → Term → ℕ
+height_of (t ∷ ts) (n ∷ ns) u = if same_term t u then n else height_of ts ns u
+height_of _ _ u = 0
+
+-- the greatest of the heights of terms
+abbrev pub greatest_height : (Term → ℕ) → List Term → ℕ
+greatest_height height [] = 0
+greatest_height height (t ∷ ts) = max (height t) (greatest_height height ts)
+
+-- how many of the heights are above 0
+abbrev pub how_many : List ℕ → ℕ
+how_many [] = 0
+how_many (zero ∷ ns) = how_many ns
+how_many (suc n ∷ ns) = suc (how_many ns)
+
+-- the height of a term that may be in place, over that of its arguments, where so many are in place before it
+abbrev pub height_over : Bool → (deepest before : ℕ) → ℕ
+height_over wanted deepest before =
+    if wanted && (nat_lt before place_limit && nat_lt deepest level_limit) then suc deepest else 0
+
+-- Some terms may be in place: those with arguments that are used once, as a literal or as an argument.
+pub record AreSingle (terms : List Term) (d : Derivation) (support printed single : List Bool) : Type 0 where
+  -- there is a mark for each term
+  pub as_many : length single ≡ length terms
+  -- which are marked
+  pub each : (k : ℕ) (t : Term) → slice_get terms k ≡ Some t → get_or single k false
+      ≡ get_or printed k false
+      && (is_compound t && nat_eq (times_in_clauses support d t + times_in_terms printed terms t) 1)
+
+-- The heights of the terms that are in place; of each other term, 0. One that may be in place is so if it is not too
+-- deep, and not too many are in place before it.
+pub record AreHeights (terms : List Term) (single : List Bool) (heights : List ℕ) : Type 0 where
+  -- there is one for each term
+  pub as_many : length heights ≡ length terms
+  -- what they are
+  pub each : (k : ℕ) (t : Term) → slice_get terms k ≡ Some t → get_or heights k 0
+      ≡ height_over (get_or single k false) (greatest_height (height_of terms heights) (arguments_of t))
+      (how_many (take k heights))
+
+-- which of the marked terms have a definition: those with arguments that are not in place
+abbrev pub definition_marks : List Term → List Bool → List ℕ → List Bool
+definition_marks (t ∷ ts) (b ∷ bs) (n ∷ ns) = (b && (is_compound t && nat_eq n 0)) ∷ definition_marks ts bs ns
+definition_marks _ _ _ = []
+
+-- The plan of an inference: what it depends on is printed. Of the terms with arguments that this needs, those are in
+-- place that are used once and not too deep; each other one is defined, and nothing else. Numbers begin with 1.
 pub record IsPlan (terms : List Term) (d : Derivation) (n : ℕ) (plan : Plan) : Type 0 where
   -- which inferences are printed
   pub support : List Bool
@@ -140,5 +207,11 @@ pub record IsPlan (terms : List Term) (d : Derivation) (n : ℕ) (plan : Plan) :
   -- which terms are printed
   pub printed : List Bool
   pub are_printed : ArePrinted terms d n printed
-  -- the numbers of those with arguments
-  pub definitions : plan.terms ≡ counted 1 (compounds terms printed)
+  -- which of them may be in place
+  pub single : List Bool
+  pub are_single : AreSingle terms d support printed single
+  -- and how deep those are that are in place
+  pub heights : List ℕ
+  pub are_heights : AreHeights terms single heights
+  -- the numbers of the others with arguments
+  pub definitions : plan.terms ≡ counted 1 (definition_marks terms printed heights)

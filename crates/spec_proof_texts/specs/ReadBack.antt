@@ -11,7 +11,8 @@ use Rattle.spec_checking.specs.Commands.{Known}
 use Rattle.spec_models.specs.Values.{IsName}
 use Rattle.spec_models.specs.Meaning.{IsSortIn, IsSymbolIn}
 use Rattle.spec_proof_texts.specs.Meaning.{AreSpelled}
-use Rattle.spec_proof_texts.specs.Lines.{Argument, symbol, DefinitionLine, Line, defines, assumes, steps}
+use Rattle.spec_proof_texts.specs.Lines.{Argument, Arguments, truth, number, symbol, defined, applied, no_items}
+use Rattle.spec_proof_texts.specs.Lines.{item, DefinitionLine, Line, defines, assumes, steps}
 
 -- a sort whose name can be written
 abbrev pub IsWritableSort : Sort → Type 0
@@ -23,10 +24,19 @@ abbrev pub IsWritableHead : Head → Type 0
 IsWritableHead (Apply f) = IsName f.name
 IsWritableHead h = Unit {0}
 
--- an argument with such a name
-abbrev pub IsWritableArgument : Argument → Type 0
-IsWritableArgument (symbol n) = IsName n
-IsWritableArgument a = Unit {0}
+abbrev mutual
+  -- a printed term with such names
+  pub IsWritableArgument : Argument → Type 0
+  IsWritableArgument (symbol n) = IsName n
+  IsWritableArgument (applied h items) = IsWritableHead h × AreWritableArguments items
+  IsWritableArgument (truth b) = Unit {0}
+  IsWritableArgument (number q) = Unit {0}
+  IsWritableArgument (defined n) = Unit {0}
+
+  -- printed terms with such names
+  pub AreWritableArguments : Arguments → Type 0
+  AreWritableArguments no_items = Unit {0}
+  AreWritableArguments (item a others) = IsWritableArgument a × AreWritableArguments others
 
 -- A definition whose names can be written.
 pub record IsWritableDefinition (d : DefinitionLine) : Type 0 where

@@ -65,9 +65,9 @@ pub fn printed_proofs_are_read()
 
 /// States that lines which are right under the names of a script are read back, the whole of their text, as good
 /// commands. A definition has 23 bytes or more. A number of more than five bytes takes seven, with the blank before it;
-/// shorter ones and the truth values are at most 177,158. So the commands are within a limit with room for the names: the
-/// script's, and one for each 23 bytes of the text. It also has room for the terms: the script's symbols, those 177,158,
-/// and one for each seven bytes.
+/// shorter ones and the truth values are at most 177,158, and terms in place 900,000. So the commands are within a limit
+/// with room for the names: the script's, and one for each 23 bytes of the text. It also has room for the terms: the
+/// script's symbols, those 1,077,158, and one for each seven bytes.
 pub fn right_lines_are_good()
     ensures commands { (g : Signature) (asserted : List Term) (lines : List Line) → AreScriptNames g
         → AreRightLines g asserted lines
@@ -75,7 +75,7 @@ pub fn right_lines_are_good()
         × AreGood None (known_before g asserted) commands }
     ensures within { (limit : ℕ) (g : Signature) (asserted : List Term) (lines : List Line) → AreScriptNames g
         → AreRightLines g asserted lines → 23 * length g + length (proof_text lines) ≤ 23 * limit
-        → 7 * (length (symbols_in g) + 177158) + length (proof_text lines) ≤ 7 * limit
+        → 7 * (length (symbols_in g) + 1077158) + length (proof_text lines) ≤ 7 * limit
         → (commands : Trees) × IsWholeText (proof_text lines) commands
         × AreGood (Some limit) (known_before g asserted) commands }
 {}

@@ -1,6 +1,6 @@
 -- The proof of a contradiction, by what it has to be.
 use Rattle.std.proofs.Common.{◌≡◌, ◌<◌, ℕ, zero, suc, Bool, true, false, List, [], ◌∷◌, Some, Contains, get_or, refl, sym, ap, subst, inl, inr, arith}
-use Rattle.std.specs.Prelude.{◌⊎◌}
+use Rattle.std.specs.Prelude.{◌⊎◌, ◌&&◌, ◌+◌, nat_eq, take}
 use Rattle.std.specs.List.{slice_get}
 use Rattle.std.proofs.lemmas.List.Elements.{All-contains, All-cons, All-nil}
 use Rattle.spec_text.specs.Trees as trees
@@ -16,7 +16,7 @@ use Rattle.spec_checking.specs.OnLiterals.{proofs_on_literals}
 use Rattle.spec_checking.proofs.Verdicts.{units_resolve}
 use Rattle.spec_derivations.specs.Derivations.{«assumption», by_rule, Derivation, conclusion_at, premises_of, inference_at, FollowsFrom, IsDerivation, DependsOn, itself, by_premise, AssumesAmong, IsDerivedFrom}
 use Rattle.spec_proof_texts.specs.Lines.{proof_text}
-use Rattle.spec_proof_texts.specs.Plans.{Plan, lines_of, counted, counted_inferences, IsPrinted, in_clause, as_argument, IsSupport, IsPlan}
+use Rattle.spec_proof_texts.specs.Plans.{Plan, lines_of, counted, counted_inferences, is_compound, times_in_clauses, times_in_terms, height_of, greatest_height, how_many, height_over, IsPrinted, in_clause, as_argument, IsSupport, IsPlan}
 use Rattle.spec_proof_texts.specs.Printable.{IsPrintable, ArePrintable, ConcludesOver, HasGiven, AllConcludeOver}
 use Rattle.spec_proof_texts.specs.Examples.{refutation}
 use Rattle.spec_proof_texts.proofs.Refutation.{found}
@@ -33,7 +33,7 @@ abbrev all : List Bool
 all = true ∷ true ∷ true ∷ []
 
 abbrev plan : Plan
-plan = record { terms = counted 1 (false ∷ true ∷ []); inferences = counted_inferences 1 1 all derivation }
+plan = record { terms = counted 1 (false ∷ false ∷ []); inferences = counted_inferences 1 1 all derivation }
 
 -- its lines are those of the example
 lines_are : lines_of terms derivation plan ≡ refutation
@@ -168,6 +168,20 @@ only_printed zero t e m = let is : p ≡ t = cc in in_clause 0 t (support 0 (ome
 only_printed (suc zero) t e m = let is : negated p ≡ t = cc in in_clause 1 t (support 1 (omega arith)) (subst (λ x. Contains (negated p ∷ []) x) is (first (negated p) []))
 only_printed (suc (suc k)) t e m = cc
 
+-- the negation is used once
+each_single : (k : ℕ) (t : Term) → slice_get terms k ≡ Some t → get_or (false ∷ true ∷ []) k false ≡ get_or (true ∷ true ∷ []) k false && (is_compound t && nat_eq (times_in_clauses all derivation t + times_in_terms (true ∷ true ∷ []) terms t) 1)
+unfolding same_term
+each_single zero t e = let is : p ≡ t = cc in subst (λ x. false ≡ true && (is_compound x && nat_eq (times_in_clauses all derivation x + times_in_terms (true ∷ true ∷ []) terms x) 1)) is refl
+each_single (suc zero) t e = let is : negated p ≡ t = cc in subst (λ x. true ≡ true && (is_compound x && nat_eq (times_in_clauses all derivation x + times_in_terms (true ∷ true ∷ []) terms x) 1)) is refl
+each_single (suc (suc k)) t e = cc
+
+-- and in place
+each_height : (k : ℕ) (t : Term) → slice_get terms k ≡ Some t → get_or (0 ∷ 1 ∷ []) k 0 ≡ height_over (get_or (false ∷ true ∷ []) k false) (greatest_height (height_of terms (0 ∷ 1 ∷ [])) (arguments_of t)) (how_many (take k (0 ∷ 1 ∷ [])))
+unfolding same_term
+each_height zero t e = refl
+each_height (suc zero) t e = let is : negated p ≡ t = cc in subst (λ x. 1 ≡ height_over true (greatest_height (height_of terms (0 ∷ 1 ∷ [])) (arguments_of x)) 0) is refl
+each_height (suc (suc k)) t e = cc
+
 planned : IsPlan terms derivation 2 plan
 planned = record {
   support = all;
@@ -175,6 +189,10 @@ planned = record {
   inferences = refl;
   printed = true ∷ true ∷ [];
   are_printed = record { as_many = refl; each = λ k t e printed. each_printed k t e; only = only_printed };
+  single = false ∷ true ∷ [];
+  are_single = record { as_many = refl; each = each_single };
+  heights = 0 ∷ 1 ∷ [];
+  are_heights = record { as_many = refl; each = each_height };
   definitions = refl;
 }
 

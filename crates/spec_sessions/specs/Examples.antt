@@ -247,9 +247,8 @@ contradiction_written = lines (
     codes "success" ∷
     codes "unsat" ∷
     codes "(" ∷
-    codes "(define-fun @p1 () Bool (not p))" ∷
     codes "(assume h1 p)" ∷
-    codes "(assume h2 @p1)" ∷
+    codes "(assume h2 (not p))" ∷
     codes "(step t1 (cl) :rule resolution :premises (h1 h2))" ∷
     codes ")" ∷ [])
 

@@ -49,7 +49,7 @@ returns-clause-alone c = λ script k check lines current right e.
     let g = signature_of check.stack in
     let asserted = terms_asserted (asked check) in
     accepted_at script k check current own few symbols lines right (proof_text lines) 0 (omega arith) e
-    (alone_lexed lines (lines_writable g own asserted nothing_told right.end lines right.right) (lines_shallow g own asserted nothing_told right.end lines right.right))
+    (alone_lexed lines (lines_writable g own asserted (nothing_told right.placed) right.end lines right.right) (lines_shallow g own asserted (nothing_told right.placed) right.end lines right.right))
 
 pub returns-clause-answered : goal.returns-clause-answered
 returns-clause-answered c = λ script k check lines current right e.
@@ -59,4 +59,4 @@ returns-clause-answered c = λ script k check lines current right e.
     let g = signature_of check.stack in
     let asserted = terms_asserted (asked check) in
     accepted_at script k check current own few symbols lines right (codes "unsat\n" ++ proof_text lines) 6 (omega (arith, length-append (codes "unsat\n") (proof_text lines))) e
-    (answered_lexed lines (lines_writable g own asserted nothing_told right.end lines right.right) (lines_shallow g own asserted nothing_told right.end lines right.right))
+    (answered_lexed lines (lines_writable g own asserted (nothing_told right.placed) right.end lines right.right) (lines_shallow g own asserted (nothing_told right.placed) right.end lines right.right))

@@ -27,9 +27,9 @@ good_at limit script k c current own lines right text at read = record {
 pub returns-clause-alone : goal.returns-clause-alone
 returns-clause-alone c = λ limit script k check lines current right.
     let own = c.checks_have_script_names.ensures.names limit script k check current in
-    good_at limit script k check current own lines right (proof_text lines) 0 (alone_whole lines (lines_writable (signature_of check.stack) own (terms_asserted (asked check)) nothing_told right.end lines right.right))
+    good_at limit script k check current own lines right (proof_text lines) 0 (alone_whole lines (lines_writable (signature_of check.stack) own (terms_asserted (asked check)) (nothing_told right.placed) right.end lines right.right))
 
 pub returns-clause-answered : goal.returns-clause-answered
 returns-clause-answered c = λ limit script k check lines current right.
     let own = c.checks_have_script_names.ensures.names limit script k check current in
-    good_at limit script k check current own lines right (codes "unsat\n" ++ proof_text lines) 6 (answered_whole lines (lines_writable (signature_of check.stack) own (terms_asserted (asked check)) nothing_told right.end lines right.right))
+    good_at limit script k check current own lines right (codes "unsat\n" ++ proof_text lines) 6 (answered_whole lines (lines_writable (signature_of check.stack) own (terms_asserted (asked check)) (nothing_told right.placed) right.end lines right.right))
