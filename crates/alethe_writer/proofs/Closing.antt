@@ -7,10 +7,10 @@ use Rattle.std.proofs.lemmas.List.Elements.{Contains-append_left, Contains-appen
 use Rattle.alethe_writer.specs.Marks.{IsNumberMarked, MarksNumbers, Reaches, root, onward}
 
 -- what was written into a list's place, taken back
-pub written_back : (new items : List Bool) (n : ℕ) → n ≡ length new → take n (new ++ drop (length new) items) ≡ new
+pub written_back : {A : Type 0} (new items : List A) (n : ℕ) → n ≡ length new → take n (new ++ drop (length new) items) ≡ new
 written_back new items n e = ap (λ m. take m (new ++ drop (length new) items)) e ∙ front new (drop (length new) items)
   where
-    front : (xs ys : List Bool) → take (length xs) (xs ++ ys) ≡ xs
+    front : {A : Type 0} (xs ys : List A) → take (length xs) (xs ++ ys) ≡ xs
     front [] ys = refl
     front (x ∷ xs) ys = ap (λ zs. x ∷ zs) (front xs ys)
 

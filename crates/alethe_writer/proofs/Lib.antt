@@ -11,3 +11,5 @@ pub mod Listing
 pub mod Logging
 mod WellSorted
 mod Decimals
+mod Counts
+mod Heights

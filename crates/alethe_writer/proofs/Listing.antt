@@ -21,7 +21,7 @@ split_there terms k u e =
     sym (take-append-drop k terms) ∙ ap (λ l. take k terms ++ l) (drop-cons terms k u (slice_get_within terms k u e) ∙ ap (λ v. v ∷ drop (suc k) terms) (get_or_from_slice_get terms k u u e))
 
 module _ (t : TableView) (apart : AreDifferent t.terms) (first : (before after : List Term) (u : Term) → t.terms ≡ before ++ u ∷ after → AreAmong (arguments_of u) before) where
-  argument_before : (k : ℕ) (v u : Term) → slice_get t.terms k ≡ Some v → Contains (arguments_of v) u → (j : ℕ) × (j < k) × (slice_get t.terms j ≡ Some u)
+  pub argument_before : (k : ℕ) (v u : Term) → slice_get t.terms k ≡ Some v → Contains (arguments_of v) u → (j : ℕ) × (j < k) × (slice_get t.terms j ≡ Some u)
   argument_before k v u e a =
       let c : Contains (take k t.terms) u = first (take k t.terms) (drop (suc k) t.terms) v (split_there t.terms k v e) u a in
       let within : k < length t.terms = slice_get_within t.terms k v e in

@@ -1,15 +1,16 @@
 -- The pieces of which texts are written, before the first of them and one by one.
-use Rattle.std.proofs.Common.{◌≡◌, ℕ, ◌+◌, ◌≤◌, ◌<◌, List, [], ◌∷◌, ◌++◌, length, drop, map, flat_map, get_or, Some, codes, sym, ap, ◌∙◌}
+use Rattle.std.proofs.Common.{◌≡◌, ◌≢◌, Bool, false, ◌==◌, ℕ, ◌+◌, ◌≤◌, ◌<◌, List, [], ◌∷◌, ◌++◌, length, drop, map, flat_map, get_or, Some, codes, refl, sym, ap, ◌∙◌}
+use Rattle.std.proofs.lemmas.Bool.{false≢true}
 use Rattle.std.proofs.lemmas.List.{drop_more, drop_all}
 use Rattle.spec_text.specs.Printed.{printed}
 use Rattle.spec_numbers.specs.Fractions.{Fraction}
-use Rattle.spec_sorts.specs.Terms.{Sort, sort_of}
+use Rattle.spec_sorts.specs.Terms.{Sort, of, sort_of}
 use Rattle.spec_proofs.specs.RuleNames.{rule_name}
 use Rattle.spec_models.specs.Values.{numeral, sort_tree, fraction_tree}
 use Rattle.spec_proof_texts.specs.Lines.{proof_text, line_text}
 use Rattle.spec_proof_texts.specs.Plans.{Plan, definition_lines, inference_lines, lines_of}
 use Rattle.term_core.specs.declared.ids.TermId.{TermId}
-use Rattle.term_core.specs.Tables.{TableView, Shape, shape_term, term_at, clause_at}
+use Rattle.term_core.specs.Tables.{TableView, Shape, shape_term, term_at, clause_at, head_meant}
 use Rattle.ratio128.specs.declared.ratio.Ratio.{Ratio}
 use Rattle.ratio128.specs.Meant.{fraction}
 use Rattle.rule_bool.specs.Arguments.{fractions_of}
@@ -18,8 +19,8 @@ use Rattle.proof_log.specs.declared.step.Step.{Step}
 use Rattle.proof_log.specs.Logs.{Logged, derivation_in}
 use Rattle.world_io.specs.Writing.{SinkView}
 use Rattle.world_io.proofs.Chains.{IsSending, start, split, skip}
-use Rattle.alethe_writer.specs.Printing.{name_by, logged_reference, term_number, clause_number, clause_text, argument_text, arguments_text, references_text, reference_text, premises_listed, fractions_spaced, given_listed, head_text, definition_text, assume_text, step_text, definitions_text, clauses_text, refer_by}
-use Rattle.alethe_writer.proofs.Texts.{assume_pieces, step_pieces}
+use Rattle.alethe_writer.specs.Printing.{spaced, in_place_for, in_place_text, name_by, logged_reference, term_number, clause_number, clause_text, argument_text, arguments_text, references_text, reference_text, premises_listed, fractions_spaced, given_listed, head_text, definition_text, assume_text, step_text, definitions_text, clauses_text, refer_by}
+use Rattle.alethe_writer.proofs.Texts.{assume_pieces, step_pieces, in_place_pieces}
 use Rattle.alethe_writer.proofs.Wholes.{definition_whole, definitions_more, definitions_done, inferences_more, inferences_ended, proof_whole}
 
 -- the definitions from a term on
@@ -35,6 +36,22 @@ pub definition_start : (t : TableView) (plan : Plan) (id : TermId) (n : ℕ) (s 
     → IsSending (definition_text t plan id (Some n)) ((codes "(define-fun @p" ++ numeral n) ∷ (codes " () " ++ printed (sort_tree r)) ∷ (codes " (" ++ head_text t s.head) ∷ arguments_text t plan s.arguments ∷ codes "))\n" ∷ []) a a
 definition_start t plan id n s r a e f =
     start _ _ a (ap (λ (x : Sort). (codes "(define-fun @p" ++ numeral n) ++ ((codes " () " ++ printed (sort_tree x)) ++ ((codes " (" ++ head_text t s.head) ++ (arguments_text t plan s.arguments ++ codes "))\n")))) f ∙ sym (definition_whole t (name_by t plan) n s (term_at t id) e))
+
+-- a row that is not empty
+pub some_ids : (ids : List TermId) (b : Bool) → b ≡ (length ids == 0) → b ≡ false → ids ≢ []
+some_ids [] b is false_is = absurd (false≢true (sym false_is ∙ is))
+some_ids (i ∷ ids) b is false_is = λ e. cc
+
+-- a term in place, where its node has arguments
+pub in_place_start : (t : TableView) (plan : Plan) (id : TermId) (s : Shape) (a : SinkView) → term_at t id ≡ shape_term t s → s.arguments ≢ [] → IsSending (in_place_text t plan id) ((codes " (" ++ head_text t s.head) ∷ arguments_text t plan s.arguments ∷ codes ")" ∷ []) a a
+in_place_start t plan id s a e some = go s.arguments some refl
+  where
+    go : (ids : List TermId) → ids ≢ [] → s.arguments ≡ ids → IsSending (in_place_text t plan id) ((codes " (" ++ head_text t s.head) ∷ arguments_text t plan s.arguments ∷ codes ")" ∷ []) a a
+    go [] some is = absurd (some refl)
+    go (i ∷ ids) some is =
+        let whole : in_place_text t plan id ≡ spaced (in_place_for t.terms plan.terms (of (head_meant t s.head) (clause_at t (i ∷ ids)))) = ap (λ u. spaced (in_place_for t.terms plan.terms u)) e ∙ ap (λ js. spaced (in_place_for t.terms plan.terms (of (head_meant t s.head) (clause_at t js)))) is in
+        let pieces = in_place_pieces t.terms plan.terms (head_meant t s.head) (term_at t i) (clause_at t ids) in
+        start _ _ a (ap (λ js. (codes " (" ++ head_text t s.head) ++ (arguments_text t plan js ++ codes ")")) is ∙ sym (whole ∙ pieces))
 
 pub assume_start : (t : TableView) (plan : Plan) (id : TermId) (n : ℕ) (a : SinkView) → IsSending (assume_text t plan id n) ((codes "(assume h" ++ numeral n) ∷ argument_text t plan id ∷ codes ")\n" ∷ []) a a
 assume_start t plan id n a = start _ _ a (sym (assume_pieces n (name_by t plan (term_at t id))))

@@ -1,10 +1,11 @@
 -- The number of a term of a table is that of its place.
 use Rattle.std.proofs.Common.{◌≡◌, ℕ, ◌<◌, Bool, false, not, ◌&&◌, ◌==◌, List, [], ◌∷◌, length, Option, None, get_or, refl, arith}
+use Rattle.std.specs.Prelude.{nat_eq}
 use Rattle.std.proofs.lemmas.Bool.Decides.{nat_tests}
 use Rattle.std.proofs.lemmas.Option.{slice_get-get_or, slice_get_within, get_or_from_slice_get}
 use Rattle.spec_sorts.specs.Terms.{of, no_term}
-use Rattle.spec_proof_texts.specs.Plans.{number_of, is_compound, compounds}
-use Rattle.spec_proof_texts.proofs.Numbers.{number_at_place, compound_at}
+use Rattle.spec_proof_texts.specs.Plans.{number_of, is_compound, definition_marks}
+use Rattle.spec_proof_texts.proofs.Numbers.{number_at_place, definition_mark_at}
 use Rattle.term_core.specs.declared.ids.TermId.{TermId}
 use Rattle.term_core.specs.Tables.{TableView, term_at, IsIn, AreDifferent, Shape, shape_term, clause_at, head_meant}
 
@@ -19,6 +20,6 @@ compound_shape t s = go s.arguments
     go [] = refl
     go (id ∷ ids) = grind (arith, nat_tests)
 
--- whether a term is marked and has arguments
-pub compound_there : (t : TableView) (marks : List Bool) (k : ℕ) → length marks ≡ length t.terms → k < length marks → get_or (compounds t.terms marks) k false ≡ get_or marks k false && is_compound (get_or t.terms k no_term)
-compound_there t marks k as_many lt = let within : k < length t.terms = omega (arith, as_many, lt) in compound_at t.terms marks k (get_or t.terms k no_term) as_many (slice_get-get_or t.terms k no_term within)
+-- whether a term is marked, has arguments, and is not in place
+pub definition_there : (t : TableView) (marks : List Bool) (heights : List ℕ) (k : ℕ) → length marks ≡ length t.terms → length heights ≡ length t.terms → k < length marks → get_or (definition_marks t.terms marks heights) k false ≡ get_or marks k false && (is_compound (get_or t.terms k no_term) && nat_eq (get_or heights k 0) 0)
+definition_there t marks heights k as_many as_high lt = let within : k < length t.terms = omega (arith, as_many, lt) in definition_mark_at t.terms marks heights k (get_or t.terms k no_term) as_many as_high (slice_get-get_or t.terms k no_term within)

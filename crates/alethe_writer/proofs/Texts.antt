@@ -1,15 +1,17 @@
 -- The texts of lines, piece by piece.
-use Rattle.std.proofs.Common.{◌≡◌, ℕ, List, [], ◌∷◌, ◌++◌, map, flat_map, codes, refl, sym, ap, ◌∙◌, append_assoc, append-nil}
+use Rattle.std.proofs.Common.{◌≡◌, ℕ, List, [], ◌∷◌, ◌++◌, map, flat_map, Option, codes, refl, sym, ap, ◌∙◌, append_assoc, append-nil}
 use Rattle.std.proofs.lemmas.Grind.{flat_map-append}
-use Rattle.spec_text.specs.Trees.{Tree}
+use Rattle.spec_text.specs.Trees.{Tree, list, more}
 use Rattle.spec_text.specs.Printed.{printed, printed_all, printed_symbol}
 use Rattle.spec_numbers.specs.Fractions.{Fraction}
+use Rattle.spec_sorts.specs.Terms.{Head, Term, app, of, terms_of}
 use Rattle.spec_sorts.specs.HeadNames.{head_name}
 use Rattle.spec_proofs.specs.declared.Rule.{Rule}
 use Rattle.spec_proofs.specs.RuleNames.{rule_name}
 use Rattle.spec_models.specs.Values.{trees_of, in_list, word_tree, reserved_tree, symbol_tree, sort_tree, fraction_tree, numeral}
-use Rattle.spec_proof_texts.specs.Lines.{Argument, Reference, DefinitionLine, defines, assumes, steps, reference_name, defined_name, step_name, keyword_tree, argument_tree, reference_tree, premise_trees, given_trees, term_tree, clause_tree, line_text}
-use Rattle.alethe_writer.specs.Printing.{spaced, all_spaced, references_spaced, premises_text, fractions_spaced, given_listed}
+use Rattle.spec_proof_texts.specs.Lines.{Argument, Reference, DefinitionLine, defines, assumes, steps, reference_name, defined_name, step_name, keyword_tree, argument_tree, argument_trees, reference_tree, premise_trees, given_trees, term_tree, clause_tree, line_text}
+use Rattle.spec_proof_texts.specs.Plans.{number_of, argument_by, argument_for, arguments_for}
+use Rattle.alethe_writer.specs.Printing.{spaced, all_spaced, in_place_for, references_spaced, premises_text, fractions_spaced, given_listed}
 
 -- trees, each after a space
 abbrev after_spaces : List Tree → List ℕ
@@ -87,3 +89,21 @@ definition_pieces d =
     ∙ ap (λ x. (32 ∷ printed (sort_tree d.sort)) ++ (32 ∷ x)) (append_assoc (printed term) [] (codes ")\n")
     ∙ list_text (symbol_tree (head_name d.head)) (map argument_tree d.arguments) (codes ")\n")
     ∙ ap (λ x. 40 ∷ (printed_symbol (head_name d.head) ++ (x ++ codes "))\n"))) (arguments_spaced d.arguments))))
+
+-- a term by its number, where it has one
+pub named_by : (terms : List Term) (numbers : List (Option ℕ)) (u : Term) → argument_for terms numbers u ≡ argument_by (number_of terms numbers u) (in_place_for terms numbers u)
+named_by terms numbers (app h ts) = refl
+
+-- terms in place are printed as those of a list
+trees_for : (terms : List Term) (numbers : List (Option ℕ)) (ts : List Term) → argument_trees (arguments_for terms numbers (terms_of ts)) ≡ trees_of (map argument_tree (map (argument_for terms numbers) ts))
+trees_for terms numbers [] = refl
+trees_for terms numbers (t ∷ ts) = ap (λ us. more (argument_tree (argument_for terms numbers t)) us) (trees_for terms numbers ts)
+
+-- a head before its arguments
+pub in_place_pieces : (terms : List Term) (numbers : List (Option ℕ)) (h : Head) (t : Term) (ts : List Term) → spaced (in_place_for terms numbers (of h (t ∷ ts))) ≡ (codes " (" ++ printed_symbol (head_name h)) ++ (all_spaced (map (argument_for terms numbers) (t ∷ ts)) ++ codes ")")
+in_place_pieces terms numbers h t ts =
+    let items = map (argument_for terms numbers) (t ∷ ts) in
+    let front = symbol_tree (head_name h) in
+    ap (λ us. 32 ∷ printed (list 0 (more front us) 0)) (trees_for terms numbers (t ∷ ts))
+    ∙ ap (λ r. 32 ∷ r) (sym (append-nil (printed (in_list (front ∷ map argument_tree items)))) ∙ list_text front (map argument_tree items) [])
+    ∙ ap (λ r. 32 ∷ 40 ∷ (printed_symbol (head_name h) ++ (r ++ 41 ∷ []))) (arguments_spaced items)

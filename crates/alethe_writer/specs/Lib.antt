@@ -3,3 +3,4 @@ pub mod Marks
 pub mod Counting
 pub mod Digits
 pub mod Printing
+pub mod Uses

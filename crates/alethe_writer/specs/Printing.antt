@@ -2,12 +2,12 @@
 use Rattle.std.specs.Prelude.{ℕ, ◌≤◌, List, [], ◌∷◌, ◌++◌, length, map, flat_map, Option, None, get_or, codes}
 use Rattle.spec_text.specs.Printed.{printed, printed_symbol}
 use Rattle.spec_numbers.specs.Fractions.{Fraction}
-use Rattle.spec_sorts.specs.Terms.{Term}
+use Rattle.spec_sorts.specs.Terms.{Term, app}
 use Rattle.spec_sorts.specs.HeadNames.{head_name}
 use Rattle.spec_proof_texts.specs.Lines.{Argument, argument_tree, Reference, assumed, stepped, reference_name, assumes}
 use Rattle.spec_proof_texts.specs.Lines.{steps, line_text}
-use Rattle.spec_proof_texts.specs.Plans.{Plan, number_or_zero, argument_for, reference_for, definition_by}
-use Rattle.spec_proof_texts.specs.Plans.{definition_lines, inference_by, inference_lines}
+use Rattle.spec_proof_texts.specs.Plans.{Plan, number_or_zero, in_place, argument_for, arguments_for, reference_for}
+use Rattle.spec_proof_texts.specs.Plans.{definition_by, definition_lines, inference_by, inference_lines}
 use Rattle.spec_models.specs.Values.{fraction_tree}
 use Rattle.rule_bool.specs.Arguments.{texts_of}
 use Rattle.term_core.specs.declared.ids.TermId.{TermId}
@@ -25,11 +25,11 @@ pub record PlanFits (t : TableView) (log : List Logged) (plan : Plan) : Type 0 w
   -- of clauses
   pub inferences : length plan.inferences ≤ length log
 
--- a term in place after a space
+-- a printed term after a space
 abbrev pub spaced : Argument → List ℕ
 spaced a = 32 ∷ printed (argument_tree a)
 
--- terms in place, each after a space
+-- printed terms, each after a space
 abbrev pub all_spaced : List Argument → List ℕ
 all_spaced items = flat_map spaced items
 
@@ -64,6 +64,10 @@ given_listed (q ∷ qs) = codes " :args (" ++ (printed (fraction_tree q) ++ (fra
 abbrev pub name_by : TableView → Plan → Term → Argument
 name_by t plan = argument_for t.terms plan.terms
 
+-- a term in place, whether it has a number or not
+abbrev pub in_place_for : List Term → List (Option ℕ) → Term → Argument
+in_place_for terms numbers (app h ts) = in_place h (arguments_for terms numbers ts)
+
 -- a premise of a log as a plan prints it
 abbrev pub refer_by : TableView → List Logged → Plan → ℕ → Reference
 refer_by t log plan = reference_for (derivation_in t log) plan.inferences
@@ -71,6 +75,10 @@ refer_by t log plan = reference_for (derivation_in t log) plan.inferences
 -- a term after a space
 abbrev pub argument_text : TableView → Plan → TermId → List ℕ
 argument_text t plan id = spaced (name_by t plan (term_at t id))
+
+-- a term in place after a space
+abbrev pub in_place_text : TableView → Plan → TermId → List ℕ
+in_place_text t plan id = spaced (in_place_for t.terms plan.terms (term_at t id))
 
 -- terms, each after a space
 abbrev pub arguments_text : TableView → Plan → List TermId → List ℕ

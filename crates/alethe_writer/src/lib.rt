@@ -9,6 +9,7 @@ mod numbers;
 mod plans;
 pub mod printable;
 mod proof;
+mod uses;
 
 pub use plans::{Plan, prepare};
 pub use proof::send;

@@ -2,19 +2,19 @@
 
 ghost use Rattle.std.specs.Prelude.{◌<◌, ◌++◌, length, Some, codes};
 ghost use Rattle.spec_proofs.specs.RuleNames.{rule_name};
-ghost use Rattle.term_core.specs.Tables.{IsIn, AreIn, HasHead};
+ghost use Rattle.term_core.specs.Tables.{IsIn, AreIn};
 ghost use Rattle.proof_log.specs.Logs.{IsLogOf};
 ghost use Rattle.rule_bool.specs.Arguments.{fractions_of};
 ghost use Rattle.world_io.specs.Writing.{Sends};
-ghost use Rattle.alethe_writer.specs.Printing.{premises_listed, given_listed, fractions_spaced, references_text, reference_text, head_text, definition_text, clause_text, assume_text, step_text};
+ghost use Rattle.alethe_writer.specs.Printing.{premises_listed, given_listed, fractions_spaced, references_text, reference_text, definition_text, clause_text, assume_text, step_text};
 
-use crate::arguments::{write_argument, write_arguments, write_name, write_sort, write_words};
+use crate::arguments::{write_argument, write_arguments, write_head, write_sort, write_words};
 use crate::numbers::{write_fraction, write_number};
 use crate::plans::Plan;
 use itoa::Buffer;
 use proof_log::{ProofLog, Ratio, Rule, Step, StepId};
 use spec_models::laws::numerals_are_decimal;
-use term_core::{Head, TermId, TermTable, head_name};
+use term_core::{TermId, TermTable};
 use world_io::{Failed, Sink, write_all, write_pieces};
 
 /// Writes the definition of a term by its number.
@@ -35,14 +35,6 @@ pub(crate) fn write_definition<K: Sink>(
     write_head(table, node.head, out)?;
     write_arguments(plan, table, node.arguments.as_slice(), out)?;
     write_all(out, b"))\n")
-}
-
-/// Writes the head of a definition's term.
-fn write_head<K: Sink>(table: &TermTable, head: Head, out: &mut K) -> Result<(), Failed>
-    requires { HasHead table.now head }
-    ensures { Sends (codes " (" ++ head_text table.now head) result (K.state out.old) (K.state out.new) }
-{
-    write_name(b" (", head_name(table, head), out)
 }
 
 /// Writes the line of a clause by its number: an assume or a step.

@@ -1,7 +1,7 @@
 //! What is printed for a clause, by numbers.
 
 ghost use Rattle.std.specs.Prelude.{◌≡◌, ◌-◌, ◌<◌, ◌≤◌, ◌^◌, false, length, IfOk, None, get_or};
-ghost use Rattle.spec_proof_texts.specs.Plans.{IsPlan, counted, compounds, is_compound, counted_inferences, number_or_zero};
+ghost use Rattle.spec_proof_texts.specs.Plans.{IsPlan, counted, definition_marks, is_compound, counted_inferences, number_or_zero};
 ghost use Rattle.term_core.specs.Tables.{TableView, IsIn, term_at};
 ghost use Rattle.proof_log.specs.Logs.{IsLogOf, logged_at, derivation_in};
 ghost use Rattle.alethe_writer.specs.Counting.{IsNextOf};
@@ -9,6 +9,7 @@ ghost use Rattle.alethe_writer.specs.Printing.{PlanFits};
 
 use crate::counter::Counter;
 use crate::marks::{printed_of, support_of};
+use crate::uses::{heights_of, single_of};
 use no_memory::NoMemory;
 use proof_log::{ProofLog, StepId};
 use std::alloc::Global;
@@ -76,7 +77,8 @@ fn number_at(numbers: &[Option<u64>], place: u64) -> Option<u64>
     *numbers.get(place as usize)?
 }
 
-/// Prepares the printing of a clause of a log: of all that it depends on, and of the terms that this needs.
+/// Prepares the printing of a clause of a log: of all that it depends on, and of the terms that this needs. A term with arguments has
+/// no number, and is in place, where it is used once and at most 8 deep; at most 900,000 terms are.
 ///
 /// It takes time and memory in proportion to the clauses up to that one and to the table's terms.
 ///
@@ -94,44 +96,53 @@ pub fn prepare(
 {
     let support = support_of(alloc, log, step)?;
     let printed = printed_of(alloc, log, table, &support)?;
+    let single = single_of(alloc, log, table, &support, &printed)?;
+    let heights = heights_of(alloc, table, &single)?;
     Ok(Plan {
-        terms: number_terms(alloc, table, &printed)?,
+        terms: number_terms(alloc, table, &printed, &heights)?,
         steps: number_steps(alloc, log, &support)?,
     })
 }
 
-/// Numbers the terms that are defined: those with arguments among the marked ones.
+/// Numbers the terms that are defined: of the marked ones, those with arguments that are not in place.
 fn number_terms(
     alloc: Global,
     table: &TermTable,
     printed: &[bool],
+    heights: &[u8],
 ) -> Result<Vec<Option<u64>>, NoMemory>
-    requires { length printed.now ≡ length table.now.terms }
-    ensures { IfOk result (λ numbers. numbers.items ≡ counted 1 (compounds table.now.terms printed.now)) }
+    requires as_many { length printed.now ≡ length table.now.terms }
+    requires as_many_heights { length heights.now ≡ length table.now.terms }
+    ensures { IfOk result (λ numbers. numbers.items
+        ≡ counted 1 (definition_marks table.now.terms printed.now heights.now)) }
 {
     let mut numbers = Vec::new(alloc);
     let mut counter = Counter::new();
     'terms: for number in 0..printed.len() {
-        let wanted = is_defined(table, printed, number);
+        let wanted = is_defined(table, printed, heights, number);
         numbers.push(counter.number(wanted))?;
     }
     Ok(numbers)
 }
 
-/// Tells whether a term is marked and has arguments.
-fn is_defined(table: &TermTable, printed: &[bool], number: usize) -> bool
+/// Tells whether a term is marked, has arguments, and is not in place.
+fn is_defined(table: &TermTable, printed: &[bool], heights: &[u8], number: usize) -> bool
     requires as_many { length printed.now ≡ length table.now.terms }
+    requires as_many_heights { length heights.now ≡ length table.now.terms }
     requires there { number < length printed.now }
-    ensures { result ≡ get_or (compounds table.now.terms printed.now) number false }
+    ensures { result ≡ get_or (definition_marks table.now.terms printed.now heights.now) number false }
 {
     if !printed[number] {
+        return false;
+    }
+    if heights[number] != 0 {
         return false;
     }
     has_arguments(table, TermId(number as u64))
 }
 
 /// Tells whether a term has arguments.
-fn has_arguments(table: &TermTable, id: TermId) -> bool
+pub(crate) fn has_arguments(table: &TermTable, id: TermId) -> bool
     requires { IsIn table.now id }
     ensures { result ≡ is_compound (term_at table.now id) }
 {

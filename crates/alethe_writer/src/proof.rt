@@ -17,8 +17,8 @@ use world_io::{Failed, Sink, write_all};
 /// Writes a proof by a plan that was prepared for the log and the table: `(`, one command on each line, and `)`, each line with a
 /// line feed after it. It takes no memory.
 ///
-/// Each term with arguments that a printed clause needs is defined once, as `@p1` and so on, before the assumes and steps; assumes
-/// are `h1` and so on, steps `t1` and so on, in the log's order.
+/// Each term with arguments that a printed clause needs is in place where the plan has no number for it. Each other one is defined
+/// once, as `@p1` and so on, before the assumes and steps; assumes are `h1` and so on, steps `t1` and so on, in the log's order.
 ///
 /// `Failed` comes only where the sink's count of faults rose in this call; a prefix of the text was then appended.
 /// Source: Alethe specification, proofs as lists of commands; what is defined, and the names, are own.
