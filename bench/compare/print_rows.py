@@ -1,7 +1,7 @@
 """States of derivations by chance how their proofs are printed, for the prover to compute.
 
-The text is that of docs/FORMATS.md: a definition for each term with arguments that is needed, and then the assumes and
-steps that the last one rests on. The independent judge has to take what is printed.
+The text is that of docs/FORMATS.md: a definition for each term with arguments that is needed and not in place, and then
+the assumes and steps that the last one rests on. The independent judge has to take what is printed.
 """
 
 import random
@@ -13,6 +13,7 @@ from proofs import Invented, a_script, refutation
 from reading import Fault, printed_name, read_one
 
 HEAD = read("PrintRows.antt.txt")
+DEEPEST = 8  # in place
 
 
 def shortest(number):
@@ -78,27 +79,44 @@ class Printer:
         self.rests = derivation.rests(last)
         self.needed = self.terms.below([term for place in self.rests for term in derivation.clause(place)])
         self.names = {}
+        self.depths = self.depths_in_place()
+
+    def depths_in_place(self):
+        """Returns the depths of the terms with arguments that are in place."""
+        uses = [term for place in self.rests for term in self.derivation.clause(place)]
+        uses += [part for term in self.needed for part in self.terms.nodes[term][1]]
+        depths = {}
+        for term in self.needed:
+            given = self.terms.nodes[term][1]
+            depth = 1 + max((depths.get(part, 0) for part in given), default=0)
+            if given and uses.count(term) == 1 and depth <= DEEPEST:
+                depths[term] = depth
+        return depths
+
+    def applied(self, term):
+        """Writes a head before its arguments."""
+        head, given = self.terms.nodes[term]
+        name = printed_name(head[1]) if head[0] == "symbol" else head
+        return b"(" + b" ".join([name, *map(self.argument, given)]) + b")"
 
     def argument(self, term):
-        """Writes a term in place."""
+        """Writes a term as an argument or a literal."""
         head, given = self.terms.nodes[term]
         if given:
-            return b"@p%d" % self.names[term]
+            return self.applied(term) if term in self.depths else b"@p%d" % self.names[term]
         if head[0] == "number":
             return shortest(head[1])
         return printed_name(head[1]) if head[0] == "symbol" else head
 
     def definitions(self):
-        """Returns the lines of the terms with arguments."""
+        """Returns the lines of the terms with arguments that are not in place."""
         lines = []
         for term in self.needed:
-            head, given = self.terms.nodes[term]
-            if given:
-                name = printed_name(head[1]) if head[0] == "symbol" else head
-                inner = b" ".join([name, *map(self.argument, given)])
+            if self.terms.nodes[term][1] and term not in self.depths:
+                inner = self.applied(term)
                 self.names[term] = len(lines) + 1
                 sort = printed_name(self.terms.sorts[term][0])
-                lines.append(b"(define-fun @p%d () %s (%s))" % (self.names[term], sort, inner))
+                lines.append(b"(define-fun @p%d () %s %s)" % (self.names[term], sort, inner))
         return lines
 
     def inferences(self):
@@ -172,6 +190,7 @@ def row_of(seed):
             clause = terms_written(command.clause)
             inferences.append(f"by_rule {rule_written(command.rule)} {listed(map(str, premises))} none {clause}")
     printed = listed(str(term in printer.needed).lower() for term in table)
+    heights = listed(str(printer.depths.get(term, 0)) for term in table)
     rests = listed(str(place in printer.rests).lower() for place in range(last + 1))
     statement = f"""
 abbrev d{seed}_terms : List Term
@@ -180,7 +199,7 @@ d{seed}_terms = {terms_written(table)}
 abbrev d{seed}_derivation : Derivation
 d{seed}_derivation = {listed(inferences)}
 
-pub d{seed} : printed_by d{seed}_terms d{seed}_derivation {printed} {rests} ≡ {lines_written(text)}
+pub d{seed} : printed_by d{seed}_terms d{seed}_derivation {printed} {rests} {heights} ≡ ({heights}, {lines_written(text)})
 unfolding numeral same_term sort_of second_sort places has_decimal literal_text
 d{seed} = refl
 """

@@ -1,5 +1,7 @@
 """Checks the form of proofs that `certify` prints, as docs/FORMATS.md says, beside what a judge says of them."""
 
+from collections import Counter
+
 from printed_values import Wrong, number_of
 from reading import Fault, printed_name, read_one
 
@@ -22,9 +24,12 @@ def is_shortest(item):
     return item[0] == "num" or (item[0] == "dec" and not item[1].endswith(b"0"))
 
 
-def is_in_place(item):
-    """Tells whether an item stands for a term in place: a name, or a number where it is an argument."""
-    return item[0] == "sym" or is_shortest(item)
+DEEPEST = 8  # in place
+
+
+def depth(item):
+    """Counts how deep a term is in place: 0 for a word."""
+    return 1 + max(map(depth, item[1][1:]), default=0) if item[0] == "list" else 0
 
 
 def proof_end(judge, output, at):
@@ -53,32 +58,53 @@ class PrintedProof:
         self.steps = []
         self.named = set()
         self.defined_terms = set()
+        self.times = Counter()
+        self.depths = {}
+        self.placed = set()
 
-    def take_definition(self, parts):
-        """Checks the form of a definition: one head over names, which stand before it, and numbers."""
-        body = parts[4]
-        if self.steps or body[0] != "list" or len(body[1]) < 2 or body[1][0][0] != "sym":
-            raise Wrong("a definition behind a step, or without a head")
-        if not all(map(is_in_place, body[1][1:])):
-            raise Wrong("a definition that is not of names and numbers")
-        head, *given = [item[1] for item in body[1]]
+    def take_item(self, item):
+        """Checks the form of a printed term, and returns the names of definitions in it: a word, or one head over terms."""
+        if item[0] != "list":
+            if item[0] != "sym" and not is_shortest(item):
+                raise Wrong("a number that is not the shortest")
+            names = [item[1]] if item[0] == "sym" and item[1].startswith(b"@p") else []
+            self.times.update(names)
+            return names
+        if depth(item) > DEEPEST:
+            raise Wrong("a term in place that is too deep")
+        if printed(item) in self.placed:
+            raise Wrong("a term is in place twice")
+        self.placed.add(printed(item))
+        return self.take_head(item)
+
+    def take_head(self, item):
+        """Checks that a list is one head over terms as they are read, and returns the names of definitions in it."""
+        if len(item[1]) < 2 or item[1][0][0] != "sym":
+            raise Wrong("a term without a head or without arguments")
+        head, given = item[1][0][1], item[1][1:]
         is_head = head in HEADS or self.judge.names.is_declared(head)
         if not is_head or (head in PAIRED and len(given) != 2) or (head == b"-" and len(given) > 2):
-            raise Wrong("a definition that is not of a term as read")
-        used = [name for name in given if name.startswith(b"@p")]
+            raise Wrong("a list that is not a term as read")
+        return [name for part in given for name in self.take_item(part)]
+
+    def take_definition(self, parts):
+        """Checks the form of a definition: one head over terms, whose names are defined before it."""
+        body = parts[4]
+        if self.steps or body[0] != "list":
+            raise Wrong("a definition behind a step, or of a word")
+        used = self.take_head(body)
         if any(name not in self.uses for name in used):
             raise Wrong("a name is used before its definition")
         self.uses[parts[1][1]] = used
+        self.depths[parts[1][1]] = depth(body)
 
     def take_step(self, parts):
-        """Checks the form of a step: names alone as literals, and `:premises` behind `:rule` if there are any.
+        """Checks the form of a step: terms as literals, and `:premises` behind `:rule` if there are any.
 
         Of `la_generic` the arguments come last, a value for each literal; no other rule has any.
         """
         literals = parts[2][1]
         found = {key[1]: value for key, value in zip(parts[3::2], parts[4::2])}
-        if any(item[0] != "sym" for item in literals):
-            raise Wrong("a literal that is no name")
         wanted = [b":rule", *[key for key in (b":premises", b":args") if key in found]]
         if [item[1] for item in parts[3::2]] != wanted:
             raise Wrong("a step with other attributes")
@@ -89,7 +115,7 @@ class PrintedProof:
         premises = [item[1] for item in found[b":premises"][1]] if b":premises" in found else []
         if b":premises" in found and not premises:
             raise Wrong("an empty list of premises")
-        self.named.update(item[1] for item in literals[1:])
+        self.named.update(name for item in literals[1:] for name in self.take_item(item))
         self.steps.append((parts[1][1], premises))
 
     def take(self, command):
@@ -115,9 +141,7 @@ class PrintedProof:
         elif verb == b"step":
             self.take_step(parts)
         else:
-            if parts[2][0] != "sym":
-                raise Wrong("an assumption that is no name")
-            self.named.add(parts[2][1])
+            self.named.update(self.take_item(parts[2]))
             self.steps.append((name, []))
 
     def take_all(self, commands):
@@ -136,3 +160,5 @@ class PrintedProof:
             if name not in needed:
                 raise Wrong(f"definition {name!r} is not needed")
             needed.update(self.uses[name])
+            if self.times[name] == 1 and self.depths[name] <= DEEPEST:
+                raise Wrong(f"definition {name!r} is used once, and could be in place")
