@@ -3,6 +3,7 @@ use Rattle.std.specs.Prelude.{◌≡◌, ℕ, true, List, [], ◌++◌}
 use Rattle.spec_text.specs.Lexemes.{lexemes, lexemes_from}
 use Rattle.spec_text.specs.Trees.{Trees}
 use Rattle.spec_text.specs.Readings.{kept, prefix, AreTrees}
+use Rattle.stream_scan.specs.Next.{IsOpen}
 use Rattle.sexpr_stream.specs.declared.stream.Stream.{Stream}
 use Rattle.sexpr_stream.specs.Streams.{bytes_of, taken_to}
 
@@ -17,3 +18,14 @@ pub record HasTaken (s : Stream) (fed : List ℕ) (ts : Trees) : Type 0 where
   -- in each text that goes on so the trees come first, and end where the bytes were taken to
   pub trees : (rest : List ℕ) → MayCome s rest
       → AreTrees 0 (lexemes 0 0 (kept (fed ++ rest))) ts (lexemes_from (kept (fed ++ rest)) (taken_to s))
+
+-- The bytes of a text that may go on hold these s-expressions: they come first in each text that goes on so, and no one
+-- s-expression, fault or end is next in each.
+pub record HoldTrees (bytes : List ℕ) (ts : Trees) : Type 0 where
+  -- the offset up to which they go
+  pub at : ℕ
+  -- they come first
+  pub trees : (rest : List ℕ)
+      → AreTrees 0 (lexemes 0 0 (kept (bytes ++ rest))) ts (lexemes_from (kept (bytes ++ rest)) at)
+  -- what is next depends on bytes that may come
+  pub unsettled : IsOpen bytes at
