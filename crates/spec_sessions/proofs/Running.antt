@@ -7,12 +7,12 @@ use Rattle.std.proofs.Math.Bool.{or-false}
 use Rattle.spec_text.specs.Lexemes.{Lexeme, lexemes, lexemes_from}
 use Rattle.spec_text.specs.Trees.{Tree, Trees, none, more, spelled, spelled_all}
 use Rattle.spec_text.specs.Faults.{Located, nesting_limit}
-use Rattle.spec_text.specs.Readings.{depth, AreTrees, StopsAt, EndsTrees, kept, is_long, limited, IsReadUpTo}
+use Rattle.spec_text.specs.Readings.{depth, depth_all, AreTrees, StopsAt, EndsTrees, kept, is_long, limited, IsReadUpTo}
 use Rattle.spec_text.proofs.Stopping.{stop_of}
 use Rattle.spec_sessions.specs.Evidence.{Limits}
 use Rattle.spec_sessions.specs.States.{State, first_state}
 use Rattle.spec_sessions.specs.Responses.{Mode, Response, success, not_supported, answered, echoed, ended, replied, rejected, Answered, Answers, response_text, is_rejected, is_end}
-use Rattle.spec_sessions.specs.Transcripts.{Follows, Runs, Begins, answers_text, closing_by, closing, closing_text, is_fault, IsTranscript, IsBegun}
+use Rattle.spec_sessions.specs.Transcripts.{Follows, Runs, Begins, state_left, answers_text, closing_by, closing, closing_text, is_fault, IsTranscript, IsBegun}
 
 -- no tree comes first
 nothing_first : (xs : List (ℕ × Lexeme)) → AreTrees 0 xs none xs
@@ -45,6 +45,16 @@ follows_none ended P e = refl
 follows_none (replied lines) P e = cc
 follows_none (rejected f) P e = cc
 
+-- what follows a response that does not end the script is so
+follows_back : (r : Response) (P : List Answered → Type 0) (given : List Answered) → is_end r ≡ false → Follows r P given → P given
+follows_back success P given e h = h
+follows_back not_supported P given e h = h
+follows_back (answered f) P given e h = h
+follows_back (echoed s) P given e h = h
+follows_back ended P given e h = cc
+follows_back (replied lines) P given e h = h
+follows_back (rejected f) P given e h = h
+
 -- after a response nothing need be answered yet
 follows_nothing : (r : Response) (limits : Limits) (s : State) (ts : Trees) → Follows r (Begins limits s ts) []
 unfolding Begins
@@ -74,6 +84,62 @@ begins_all limits s none (a ∷ given) h = cc
 begins_all limits s (more t ts) [] h = tt
 begins_all limits s (more t ts) (a ∷ given) h = (h.0, follows_weaker a.response (Runs limits a.state ts) (Begins limits a.state ts) given (begins_all limits a.state ts given) h.1)
 
+-- trees, and others after them
+abbrev pub followed : Trees → Trees → Trees
+followed none us = us
+followed (more t ts) us = more t (followed ts us)
+
+spelled_followed : (ts us : Trees) → spelled_all (followed ts us) ≡ spelled_all ts ++ spelled_all us
+spelled_followed none us = refl
+spelled_followed (more t ts) us = ap (λ r. spelled t ++ r) (spelled_followed ts us) ∙ sym (append_assoc (spelled t) (spelled_all ts) (spelled_all us))
+
+shallow_followed : (n : ℕ) (ts us : Trees) → depth_all ts ≤ n → depth_all us ≤ n → depth_all (followed ts us) ≤ n
+shallow_followed n none us h k = k
+shallow_followed n (more t ts) us h k =
+    let first : depth t ≤ n = omega (arith, h) in
+    let rest : depth_all ts ≤ n = omega (arith, h) in
+    omega (arith, first, shallow_followed n ts us rest k)
+
+trees_followed : (xs ys rest : List (ℕ × Lexeme)) (ts us : Trees) → AreTrees 0 xs ts ys → AreTrees 0 ys us rest → AreTrees 0 xs (followed ts us) rest
+trees_followed xs ys rest ts us h k = record {
+  split = h.split ∙ ap (λ zs. spelled_all ts ++ zs) k.split ∙ sym (append_assoc (spelled_all ts) (spelled_all us) rest) ∙ ap (λ zs. zs ++ rest) (sym (spelled_followed ts us));
+  within = omega (arith, shallow_followed nesting_limit ts us (omega (arith, h.within)) (omega (arith, k.within)));
+}
+
+neither : (x y : Bool) → (x || y) ≡ false → (x ≡ false) × (y ≡ false)
+neither true y e = cc
+neither false y e = (refl, e)
+
+module _ (limits : Limits) where
+  -- after commands none of which ended the script, others are answered
+  pub runs_later : (s : State) (ts : Trees) (given : List Answered) → Runs limits s ts given → list_any (λ (x : Answered). is_end x.response) given ≡ false → (us : Trees) (later : List Answered) → Runs limits (state_left s given) us later → Runs limits s (followed ts us) (given ++ later)
+  unfolding Runs
+  runs_later s none [] r on us later h = h
+  runs_later s none (a ∷ given) r on us later h = cc
+  runs_later s (more t ts) [] r on us later h = absurd r
+  runs_later s (more t ts) (a ∷ given) r on us later h =
+      let n = neither (is_end a.response) (list_any (λ (x : Answered). is_end x.response) given) on in
+      (r.0, follows_on a.response (Runs limits a.state (followed ts us)) (given ++ later) n.0 (runs_later a.state ts given (follows_back a.response (Runs limits a.state ts) given n.0 r.1) n.1 us later h))
+
+  pub begins_later : (s : State) (ts : Trees) (given : List Answered) → Runs limits s ts given → list_any (λ (x : Answered). is_end x.response) given ≡ false → (us : Trees) (later : List Answered) → Begins limits (state_left s given) us later → Begins limits s (followed ts us) (given ++ later)
+  unfolding Runs Begins
+  begins_later s none [] r on us later h = h
+  begins_later s none (a ∷ given) r on us later h = cc
+  begins_later s (more t ts) [] r on us later h = absurd r
+  begins_later s (more t ts) (a ∷ given) r on us later h =
+      let n = neither (is_end a.response) (list_any (λ (x : Answered). is_end x.response) given) on in
+      (r.0, follows_on a.response (Begins limits a.state (followed ts us)) (given ++ later) n.0 (begins_later a.state ts given (follows_back a.response (Runs limits a.state ts) given n.0 r.1) n.1 us later h))
+
+  -- one command more is answered
+  pub runs_one_more : (ts : Trees) (given : List Answered) (s : State) (t : Tree) (a : Answered) → Runs limits s ts given → list_any (λ (x : Answered). is_end x.response) given ≡ false → Answers limits (state_left s given) t a → is_end a.response ≡ false → Runs limits s (followed ts (more t none)) (given ++ a ∷ [])
+  unfolding Runs
+  runs_one_more ts given s t a r on answers last = runs_later s ts given r on (more t none) (a ∷ []) (answers, follows_on a.response (Runs limits a.state none) [] last refl)
+
+-- it leaves its own state
+pub left_by_last : (s : State) (given : List Answered) (a : Answered) → state_left s (given ++ a ∷ []) ≡ a.state
+left_by_last s [] a = refl
+left_by_last s (b ∷ given) a = left_by_last b.state given a
+
 module _ (limits : Limits) (bytes : List ℕ) where
   -- The commands up to an offset were answered so: what is answered from there on is answered after them.
   pub record Going (at : ℕ) (state : State) (given : List Answered) : Type 0 where
@@ -82,23 +148,21 @@ module _ (limits : Limits) (bytes : List ℕ) where
         × ((later : List Answered) → Runs limits state us later → Runs limits first_state ts (given ++ later))
         × ((later : List Answered) → Begins limits state us later → Begins limits first_state ts (given ++ later))
 
+  -- commands that come first in the bytes were answered, and none ended the script
+  pub going_after : (at : ℕ) (ts : Trees) (given : List Answered) → AreTrees 0 (lexemes 0 0 bytes) ts (lexemes_from bytes at) → Runs limits first_state ts given → list_any (λ (x : Answered). is_end x.response) given ≡ false → Going at (state_left first_state given) given
+  going_after at ts given trees runs on = record {
+    onward = λ us rest h. (
+      followed ts us,
+      trees_followed (lexemes 0 0 bytes) (lexemes_from bytes at) rest ts us trees h,
+      λ later x. runs_later limits first_state ts given runs on us later x,
+      λ later x. begins_later limits first_state ts given runs on us later x,
+    );
+  }
+
   pub going_begins : (at : ℕ) → at ≡ 0 → Going at first_state []
   going_begins at e = record { onward = λ us rest a. (us, subst (λ n. AreTrees 0 (lexemes_from bytes n) us rest) e a, λ later h. h, λ later h. h) }
 
   module _ (from after : ℕ) (t : Tree) (first : lexemes_from bytes from ≡ spelled t ++ lexemes_from bytes after) (flat : depth t ≤ nesting_limit) (state : State) (given : List Answered) (g : Going from state given) (a : Answered) (answers : Answers limits state t a) where
-    -- the next command was answered, and the script goes on
-    pub answered_on : is_end a.response ≡ false → Going after a.state (given ++ a ∷ [])
-    unfolding Runs Begins
-    answered_on e = record {
-      onward = λ us rest h.
-          let o = g.onward (more t us) rest (first_tree (lexemes_from bytes from) (lexemes_from bytes after) t first flat us rest h) in (
-            o.0,
-            o.1,
-            λ later x. subst (Runs limits first_state o.0) (sym (append_assoc given (a ∷ []) later)) (o.2 (a ∷ later) (answers, follows_on a.response (Runs limits a.state us) later e x)),
-            λ later x. subst (Begins limits first_state o.0) (sym (append_assoc given (a ∷ []) later)) (o.3 (a ∷ later) (answers, follows_on a.response (Begins limits a.state us) later e x)),
-          );
-    }
-
     -- the next command was answered: so much was answered in all
     pub answered_begins : (us : Trees) (rest : List (ℕ × Lexeme)) → AreTrees 0 (lexemes_from bytes after) us rest → (ts : Trees) × AreTrees 0 (lexemes 0 0 bytes) ts rest × Begins limits first_state ts (given ++ a ∷ [])
     unfolding Begins
@@ -174,6 +238,11 @@ module _ (limits : Limits) (mode : Mode) (text bytes : List ℕ) (whole : bytes 
           begins = subst (Begins limits first_state o.0) (append-nil given) (o.3 [] tt);
           written = inl (told_kept given);
         }
+
+    -- with these answers
+    pub begun_with : EachIsRead bytes at → (t : IsBegun limits mode text (Told given)) × (t.answers ≡ given)
+    unfolding begun_here
+    begun_with r = (begun_here r, refl)
 
     module _ (going_on : list_any (λ (x : Answered). is_end x.response) given ≡ false) (stop : Option Located) (stops : EndsTrees (length bytes) (lexemes_from bytes at) stop) where
       -- all of the text was run

@@ -1,5 +1,5 @@
--- What answers a question, or its first fault. Source: SMT-LIB 2.6, sections 4.1.7, 4.1.8, 4.2.4 and 4.2.6 to 4.2.8; the
--- texts of infos, the mode of `unknown`, the order of faults, and that each mode takes `get-assertions` are own.
+-- What answers a question, or its first fault. Source: SMT-LIB 2.6, sections 4.1.7, 4.1.8, 4.2.4 and 4.2.6 to 4.2.8;
+-- the texts of infos, the mode of `unknown`, the order of faults, and that each mode takes `get-assertions` are own.
 use Rattle.std.specs.Prelude.{ℕ, Bool, true, false, List, [], ◌∷◌, ◌++◌, map, Option, Some, None, Result, Ok, Err}
 use Rattle.std.specs.Prelude.{codes, decimal, if◌then◌else◌}
 use Rattle.std.specs.Str.{bytes_eq}

@@ -27,6 +27,11 @@ Begins limits s ts [] = Unit {0}
 Begins limits s none (a ∷ given) = ⊥
 Begins limits s (more t ts) (a ∷ given) = Answers limits s t a × Follows a.response (Begins limits a.state ts) given
 
+-- the state in which answers leave a script
+abbrev pub state_left : State → List Answered → State
+state_left s [] = s
+state_left s (a ∷ given) = state_left a.state given
+
 -- what is written for the answers
 abbrev pub answers_text : Mode → List ℕ → List Answered → List ℕ
 answers_text mode text given = flat_map (response_text mode text) given

@@ -1,5 +1,5 @@
 -- What is written where a model and values are asked for.
-use Rattle.std.proofs.Common.{true, None, [], ◌∷◌, All, refl, arith}
+use Rattle.std.proofs.Common.{None, [], ◌∷◌, All, refl, arith}
 use Rattle.std.specs.Fmt.{digits}
 use Rattle.std.proofs.lemmas.List.Elements.{All-from_recursion}
 use Rattle.spec_text.specs.Readings.{IsReadUpTo}
@@ -7,7 +7,7 @@ use Rattle.spec_numbers.specs.Fractions.{compare}
 use Rattle.spec_numbers.proofs.Field.{zero-reduced}
 use Rattle.spec_sorts.specs.BoundedValues.{folded, bounded_value}
 use Rattle.spec_sorts.specs.Written.{trees_in}
-use Rattle.spec_sorts.specs.Values.{truth, IsTableOf}
+use Rattle.spec_sorts.specs.Values.{IsTableOf}
 use Rattle.spec_sorts.specs.Signatures.{symbols_in}
 use Rattle.spec_commands.specs.Stack.{signature_of}
 use Rattle.spec_commands.specs.OnLiterals.{commands_on_literals}
