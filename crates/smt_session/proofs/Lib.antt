@@ -1,6 +1,4 @@
--- Lemmas on sessions and runs.
+-- Lemmas on sessions.
 pub mod Delivering
 pub mod Taking
 pub mod Answering
-pub mod TextRuns
-pub mod Saying

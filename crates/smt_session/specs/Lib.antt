@@ -1,3 +1,2 @@
 -- What sessions do.
 pub mod Sessions
-pub mod Runs

@@ -8,15 +8,16 @@ use Rattle.spec_sessions.specs.Evidence.{Limits}
 use Rattle.spec_sessions.specs.States.{first_state}
 use Rattle.spec_sessions.specs.Responses.{Mode}
 use Rattle.spec_sessions.proofs.Running.{begins_all}
-use Rattle.smt_session.specs.declared.status.Status.{Status}
-use Rattle.smt_session.specs.declared.status.Status.TheVariants.{Done, Refused, Words, Memory, ReadFault, WriteFault}
+use Rattle.script_run.specs.declared.status.Status.{Status}
+use Rattle.script_run.specs.declared.status.Status.TheVariants.{Done, Refused, Words, Memory, ReadFault, WriteFault}
 use Rattle.smt_session.specs.Sessions.{Delivers}
 use Rattle.spec_sessions.specs.Statements.{OnTranscript, OnBegun}
-use Rattle.smt_session.specs.Runs.{Delivered}
+use Rattle.script_run.specs.Runs.{Delivered}
+use Rattle.script_run.specs.Scripts.{Holdings}
 use Rattle.smt_session.proofs.Delivering.{flushed, not_flushed}
 use Rattle.smt_top.specs.Arguments.{Asked, runs, checks, limits_by}
 use Rattle.smt_top.specs.Output.{longest_line}
-use Rattle.smt_top.specs.RunMeans.{Holdings, RunMeans, IsUnread, is_answered}
+use Rattle.smt_top.specs.RunMeans.{RunMeans, IsUnread, is_answered}
 
 -- a whole transcript is one that was begun
 whole_is_begun : (limits : Limits) (mode : Mode) (text : List ℕ) (refused : Bool) (P Q : List ℕ → Type 0) → ((all : List ℕ) → P all → Q all) → OnTranscript limits mode text refused P → OnBegun limits mode text Q

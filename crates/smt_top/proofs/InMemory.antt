@@ -5,11 +5,13 @@ use Rattle.std.proofs.lemmas.Bool.{false≢true}
 use Rattle.world_io.specs.Memory.{Text, text_named, SinkState, promised, seen_sink}
 use Rattle.world_io.specs.Outside.{Rose}
 use Rattle.world_io.specs.Writing.{SinkView, IsRoomFor, HasRoom, Sent, NotSent}
-use Rattle.smt_session.specs.declared.status.Status.{Status}
-use Rattle.smt_session.specs.declared.status.Status.TheVariants.{Done, Refused, Words, Memory, ReadFault, WriteFault}
+use Rattle.script_run.specs.declared.status.Status.{Status}
+use Rattle.script_run.specs.declared.status.Status.TheVariants.{Done, Refused, Words, Memory, ReadFault, WriteFault}
+use Rattle.script_run.specs.Scripts.{Holdings, ScriptRun, ScriptMeans}
+use Rattle.script_run.proofs.Leaving.{answered_as}
 use Rattle.smt_top.specs.Arguments.{ProofNames, Asked, runs, checks, limits_by}
 use Rattle.smt_top.specs.Output.{longest_line}
-use Rattle.smt_top.specs.RunMeans.{Holdings, ScriptRun, CheckMeans, ScriptMeans, RunMeans, AreHeld, BothHold, IsUnread}
+use Rattle.smt_top.specs.RunMeans.{CheckMeans, RunMeans, AreHeld, BothHold, IsUnread}
 use Rattle.smt_top.specs.InMemory.{WritesBytes, LacksRoom, GrowsByPrefix, CheckEndsInMemory, ScriptEndsInMemory, UsageEndsInMemory, EndsInMemory}
 
 -- a text that is known, and is this one
@@ -81,7 +83,9 @@ module _ (texts : List Text) (old new : SinkState) where
   ran Memory r (inl (text, e, (begun, t, say, d))) (inl held) = inl (text, known_is _ text held e, (begun, t, say, grows begun d.sent))
   ran Memory r (inr same) (inl held) = inr (same_written old new same)
   ran Memory r h (inr (e, same)) = inr (same_written old new same)
-  ran ReadFault r h found = same_written old new h
+  ran ReadFault r (inl (text, e, (read, rest, is, a))) (inl held) = inl (text, known_is _ text held e, (read, rest, is, answered_as r.limits r.mode read _ (WritesBytes old new) (λ begun d. grows begun d.sent) a))
+  ran ReadFault r (inr same) (inl held) = inr (same_written old new same)
+  ran ReadFault r h (inr (e, same)) = inr (same_written old new same)
   ran WriteFault r (text, e, (begun, t, say, d)) (inl held) = (text, known_is _ text held e, (begun, t, say, cut begun d))
   ran WriteFault r h (inr (inl e, same)) = cc
   ran WriteFault r h (inr (inr e, same)) = cc

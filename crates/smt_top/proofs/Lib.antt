@@ -3,7 +3,6 @@ pub mod Verdicts
 pub mod Statuses
 pub mod Numbers
 pub mod Asked
-pub mod Scripts
 pub mod Lengths
 pub mod InMemory
 pub mod Buffers

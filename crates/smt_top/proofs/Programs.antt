@@ -1,12 +1,13 @@
 -- From a run to the exit code of the program.
 use Rattle.std.proofs.Common.{◌≡◌, ◌⊎◌, inl, inr, refl, subst, ℕ, true, List, [], map, Option, Some, None, Global, String, string_bytes}
 use Rattle.world_io.specs.Writing.{SinkView}
-use Rattle.smt_session.specs.declared.status.Status.{Status}
-use Rattle.smt_session.specs.declared.status.Status.TheVariants.{Done, Refused, Words, Memory, ReadFault, WriteFault}
-use Rattle.smt_session.specs.Runs.{code_of}
+use Rattle.script_run.specs.declared.status.Status.{Status}
+use Rattle.script_run.specs.declared.status.Status.TheVariants.{Done, Refused, Words, Memory, ReadFault, WriteFault}
+use Rattle.script_run.specs.Runs.{code_of}
+use Rattle.script_run.specs.Scripts.{Holdings}
 use Rattle.smt_top.specs.Arguments.{Asked, runs, checks, asked, asked_of}
 use Rattle.smt_top.specs.CommandLine.{AreTaken}
-use Rattle.smt_top.specs.RunMeans.{Holdings, RunMeans, is_answered}
+use Rattle.smt_top.specs.RunMeans.{RunMeans, is_answered}
 use Rattle.smt_top.specs.Program.{Exits}
 
 -- what is asked for is so by the bytes of the arguments

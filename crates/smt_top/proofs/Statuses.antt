@@ -1,10 +1,11 @@
 -- From what was written for two texts to the end of a run.
 use Rattle.std.proofs.Common.{◌≡◌, ℕ, List, Some, IfSome}
 use Rattle.world_io.specs.Writing.{SinkView}
-use Rattle.smt_session.specs.declared.status.Status.{Status}
-use Rattle.smt_session.specs.declared.status.Status.TheVariants.{Done, Refused, Words, Memory, ReadFault, WriteFault}
+use Rattle.script_run.specs.declared.status.Status.{Status}
+use Rattle.script_run.specs.declared.status.Status.TheVariants.{Done, Refused, Words, Memory, ReadFault, WriteFault}
 use Rattle.smt_top.specs.Arguments.{ProofNames}
-use Rattle.smt_top.specs.RunMeans.{Holdings, CheckMeans}
+use Rattle.script_run.specs.Scripts.{Holdings}
+use Rattle.smt_top.specs.RunMeans.{CheckMeans}
 use Rattle.smt_top.specs.Calls.{Reports}
 
 -- the names are known, and the texts are those that they hold

@@ -4,7 +4,7 @@ use Rattle.std.proofs.lemmas.Bool.{false≢true}
 use Rattle.std.specs.Prelude.{Result, Ok, Err, IfOk, IsOk}
 use Rattle.world_io.specs.Ends.{HasTakenPrefix}
 use Rattle.spec_text.specs.Readings.{text_limit}
-use Rattle.smt_top.specs.RunMeans.{TakesText}
+use Rattle.script_run.specs.Scripts.{TakesText}
 
 taken_of : (bytes : List ℕ) (old new : Option (List ℕ)) → HasTakenPrefix (text_limit + 1) bytes old new → TakesText old new
 taken_of bytes None new taken = tt

@@ -5,8 +5,8 @@ use Rattle.spec_proofs.specs.Faults.{Fault}
 use Rattle.spec_checking.specs.Accepted.{IsVerdict}
 use Rattle.alethe_reader.specs.declared.errors.ProofStop.{ProofStop}
 use Rattle.alethe_check.specs.Verdicts.{AnswersVerdict}
-use Rattle.smt_session.specs.declared.status.Status.{Status}
-use Rattle.smt_session.specs.declared.status.Status.TheVariants.{Done, Refused, Memory, WriteFault}
+use Rattle.script_run.specs.declared.status.Status.{Status}
+use Rattle.script_run.specs.declared.status.Status.TheVariants.{Done, Refused, Memory, WriteFault}
 use Rattle.smt_session.specs.Sessions.{mode_meant, Delivers}
 use Rattle.smt_top.specs.declared.arguments.CheckRequest.{CheckRequest}
 use Rattle.smt_top.specs.declared.arguments.RunRequest.{RunRequest}
@@ -14,7 +14,8 @@ use Rattle.smt_top.specs.declared.arguments.Request.{Request}
 use Rattle.smt_top.specs.declared.arguments.Request.TheVariants as request
 use Rattle.smt_top.specs.declared.arguments.ArgumentsStop.{ArgumentsStop}
 use Rattle.smt_top.specs.declared.arguments.ArgumentsStop.TheVariants as stop
-use Rattle.smt_top.specs.RunMeans.{IsValid, IsRefused, ScriptRun}
+use Rattle.script_run.specs.Scripts.{ScriptRun}
+use Rattle.smt_top.specs.RunMeans.{IsValid, IsRefused}
 use Rattle.smt_top.specs.Arguments.{ProofNames, Budgets, Asked, runs, checks, limits_by}
 use Rattle.smt_top.specs.Output.{valid, output_of, longest_line}
 

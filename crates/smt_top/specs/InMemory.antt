@@ -3,11 +3,12 @@ use Rattle.std.specs.Prelude.{◌≡◌, ℕ, ◌<◌, ◌≤◌, true, false, L
 use Rattle.world_io.specs.Memory.{Text, text_named, SinkState}
 use Rattle.spec_proofs.specs.Faults.{Fault}
 use Rattle.spec_checking.specs.Accepted.{IsVerdict}
-use Rattle.smt_session.specs.declared.status.Status.{Status}
-use Rattle.smt_session.specs.declared.status.Status.TheVariants.{Done, Refused, Words, Memory, ReadFault, WriteFault}
+use Rattle.script_run.specs.declared.status.Status.{Status}
+use Rattle.script_run.specs.declared.status.Status.TheVariants.{Done, Refused, Words, Memory, ReadFault, WriteFault}
 use Rattle.spec_sessions.specs.Statements.{OnTranscript, OnBegun}
 use Rattle.smt_top.specs.Arguments.{ProofNames, Asked, runs, checks, limits_by}
-use Rattle.smt_top.specs.RunMeans.{IsValid, ScriptRun}
+use Rattle.script_run.specs.Scripts.{ScriptRun, OnRead}
+use Rattle.smt_top.specs.RunMeans.{IsValid}
 use Rattle.smt_top.specs.Output.{usage, valid, error_line, output_of, longest_line}
 
 -- both names have texts, and P is true of these and of the check that is meant
@@ -57,7 +58,8 @@ ScriptEndsInMemory Refused r texts old new =
 ScriptEndsInMemory Words r texts old new = ⊥
 ScriptEndsInMemory Memory r texts old new =
     OnScript r.name texts (λ text. OnBegun r.limits r.mode text (WritesBytes old new)) ⊎ (new.written ≡ old.written)
-ScriptEndsInMemory ReadFault r texts old new = new.written ≡ old.written
+ScriptEndsInMemory ReadFault r texts old new =
+    OnScript r.name texts (λ text. OnRead r.limits r.mode text (WritesBytes old new)) ⊎ (new.written ≡ old.written)
 ScriptEndsInMemory WriteFault r texts old new =
     OnScript r.name texts (λ text. OnBegun r.limits r.mode text (GrowsByPrefix old new))
 

@@ -1,13 +1,14 @@
 -- How the program ends.
 use Rattle.std.specs.Prelude.{◌≡◌, ℕ, true, List, [], Option, None}
 use Rattle.world_io.specs.Writing.{SinkView}
-use Rattle.smt_session.specs.declared.status.Status.{Status}
-use Rattle.smt_session.specs.Runs.{code_of}
+use Rattle.script_run.specs.declared.status.Status.{Status}
+use Rattle.script_run.specs.Runs.{code_of}
+use Rattle.script_run.specs.Scripts.{Holdings}
 use Rattle.std.specs.Process.{exit_status}
 use Rattle.smt_top.specs.declared.program.ProgramEnd.{ProgramEnd}
 use Rattle.smt_top.specs.Arguments.{asked_of}
 use Rattle.smt_top.specs.CommandLine.{AreTaken}
-use Rattle.smt_top.specs.RunMeans.{Holdings, RunMeans, is_answered}
+use Rattle.smt_top.specs.RunMeans.{RunMeans, is_answered}
 
 -- The exit code is the number of the status of a run, and it is the run that the program's arguments ask for.
 pub record Exits (code : ℕ) (known : Option (List (List ℕ))) (holds : Holdings) (old new : SinkView) : Type 0 where

@@ -1,5 +1,5 @@
 -- How a run ends: what it was given, what it judged, and what it wrote.
-use Rattle.std.specs.Prelude.{◌≡◌, ◌+◌, ◌^◌, ◌≤◌, ℕ, Bool, true, false, List, ◌++◌, length, Option, Some, None, Ok}
+use Rattle.std.specs.Prelude.{◌≡◌, ◌≤◌, ℕ, Bool, true, false, List, length, Option, Some, None, Ok}
 use Rattle.std.specs.Prelude.{IsSome, IfSome, ⊤, ◌⊎◌}
 use Rattle.world_io.specs.Writing.{SinkView, HasRoom, NotSent}
 use Rattle.world_io.specs.Buffering.{sink_of, pending_in, buffered}
@@ -7,19 +7,12 @@ use Rattle.world_io.specs.declared.buffered_sink.BufferedSink.{BufferedSink}
 use Rattle.spec_commands.specs.Checks.{HasNoModel, term_limit}
 use Rattle.spec_proofs.specs.Faults.{Fault}
 use Rattle.spec_checking.specs.Accepted.{IsAccepted, IsVerdict}
-use Rattle.smt_session.specs.declared.status.Status.{Status}
-use Rattle.smt_session.specs.declared.status.Status.TheVariants.{Done, Refused, Words, Memory, ReadFault, WriteFault}
-use Rattle.spec_sessions.specs.Evidence.{Limits}
-use Rattle.spec_sessions.specs.Responses.{Mode}
+use Rattle.script_run.specs.declared.status.Status.{Status}
+use Rattle.script_run.specs.declared.status.Status.TheVariants.{Done, Refused, Words, Memory, ReadFault, WriteFault}
 use Rattle.smt_session.specs.Sessions.{Delivers}
-use Rattle.spec_sessions.specs.Statements.{OnTranscript, OnBegun}
-use Rattle.smt_session.specs.Runs.{Delivered}
+use Rattle.script_run.specs.Scripts.{Holdings, TakesText, ScriptMeans, ReadsSoFar}
 use Rattle.smt_top.specs.Arguments.{ProofNames, Asked, runs, checks, limits_by}
 use Rattle.smt_top.specs.Output.{usage, valid, error_line, output_of, longest_line}
-
--- what each name holds, where that is known
-abbrev pub Holdings : Type 0
-Holdings = List ℕ → Option (List ℕ)
 
 -- a sink with a buffer before it, by how the sink is seen
 abbrev pub through : {K : Type 0} → (K → SinkView) → BufferedSink K → SinkView
@@ -49,16 +42,6 @@ OnTexts (Some n) holds P =
 abbrev pub BothHold : Option ProofNames → Holdings → Type 0
 BothHold None holds = ⊤
 BothHold (Some n) holds = IsSome (holds n.script) × IsSome (holds n.proof)
-
--- no more bytes are taken of a text: those that are read, and one read more
-abbrev pub most_taken : ℕ
-most_taken = 2 ^ 26 + 2 ^ 16
-
--- a prefix of the known bytes was taken, of so many bytes at most, and the rest is left
-abbrev pub TakesText : Option (List ℕ) → Option (List ℕ) → Type 0
-TakesText None new = ⊤
-TakesText (Some old) None = ⊥
-TakesText (Some old) (Some new) = (taken : List ℕ) × (old ≡ taken ++ new) × (length taken ≤ most_taken)
 
 -- the proof was read last: what is left on the shelf is what is left of it, where that is known
 abbrev pub ProofIsLast : Option ProofNames → Holdings → Option (List ℕ) → Type 0
@@ -95,38 +78,6 @@ CheckMeans Memory names holds old new = new ≡ old
 CheckMeans ReadFault names holds old new = IsSome names × (new ≡ old)
 CheckMeans WriteFault names holds old new = WritesPrefix names holds old new × (HasRoom old longest_line → ⊥)
 
--- P is true of a text that is the name's, where that is known
-abbrev pub OnText : List ℕ → Holdings → (List ℕ → Type 0) → Type 0
-OnText name holds P = (text : List ℕ) × IfSome (holds name) (λ t. t ≡ text) × P text
-
--- A run of a script: how much is written, its name, and its limits.
-pub record ScriptRun : Type 0 where
-  -- how much is written
-  pub mode : Mode
-  -- the script's name
-  pub name : List ℕ
-  -- what each search of a check may spend
-  pub limits : Limits
-
--- how the run of a script ends, by its status: a transcript of its text was written; or what is to be written for the
--- commands that
--- were run, where memory ran out; or a prefix of that, where the sink failed and had no room for all of it; where
--- memory ran out or the
--- shelf failed before the text was read, nothing was. What the answers say is so: the limits of a run have the limit on
--- terms under
--- which proofs are checked
-abbrev pub ScriptMeans : Status → ScriptRun → Holdings → SinkView → SinkView → Type 0
-ScriptMeans Done r holds old new =
-    OnText r.name holds (λ text. OnTranscript r.limits r.mode text false (λ all. Delivered all old new))
-ScriptMeans Refused r holds old new =
-    OnText r.name holds (λ text. OnTranscript r.limits r.mode text true (λ all. Delivered all old new))
-ScriptMeans Words r holds old new = ⊥
-ScriptMeans Memory r holds old new =
-    OnText r.name holds (λ text. OnBegun r.limits r.mode text (λ begun. Delivered begun old new)) ⊎ (new ≡ old)
-ScriptMeans ReadFault r holds old new = new ≡ old
-ScriptMeans WriteFault r holds old new =
-    OnText r.name holds (λ text. OnBegun r.limits r.mode text (λ begun. NotSent begun old new))
-
 -- all that was to be written was written
 abbrev pub is_answered : Status → Bool
 is_answered Done = true
@@ -141,13 +92,21 @@ RunMeans status (Some (checks n)) holds old new = CheckMeans status (Some n) hol
 RunMeans status (Some (runs mode name budgets)) holds old new =
     ScriptMeans status (record { mode = mode; name = name; limits = limits_by budgets }) holds old new
 
+-- where a read fails: what was written is exactly the responses to the commands that were read; for a proof to judge
+-- nothing was
+abbrev pub AnswersSoFar : Option Asked → Holdings → (before left : Option (List ℕ)) → SinkView → SinkView → Type 0
+AnswersSoFar None holds before left old new = ⊤
+AnswersSoFar (Some (checks n)) holds before left old new = new ≡ old
+AnswersSoFar (Some (runs mode name budgets)) holds before left old new =
+    ReadsSoFar (record { mode = mode; name = name; limits = limits_by budgets }) (holds name) before left old new
+
 -- the texts that are asked for are held
 abbrev pub AreHeld : Option Asked → Holdings → Type 0
 AreHeld None holds = ⊤
 AreHeld (Some (checks n)) holds = BothHold (Some n) holds
 AreHeld (Some (runs mode name budgets)) holds = IsSome (holds name)
 
--- the run ended before the texts were read, and nothing was written: the shelf failed, or memory ran out
+-- the run ended, and nothing was written: the shelf failed, or memory ran out
 abbrev pub IsUnread : Status → SinkView → SinkView → Type 0
 IsUnread status old new = ((status ≡ ReadFault) ⊎ (status ≡ Memory)) × (new ≡ old)
 

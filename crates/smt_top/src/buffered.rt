@@ -3,10 +3,10 @@
 ghost use Rattle.std.specs.Prelude.{◌≡◌, ◌≢◌, ◌≤◌, ◌⊎◌, ℕ, List, [], None, IsSome};
 ghost use Rattle.world_io.specs.Outside.{Rose};
 ghost use Rattle.smt_top.specs.Arguments.{asked};
-ghost use Rattle.smt_top.specs.RunMeans.{RunMeans, AreHeld, LastIsRead, IsUnread, is_answered, through};
+ghost use Rattle.smt_top.specs.RunMeans.{RunMeans, AnswersSoFar, AreHeld, LastIsRead, IsUnread, is_answered, through};
 
 use crate::run;
-use smt_session::Status;
+use script_run::Status;
 use std::alloc::Global;
 use world_io::{BufferedSink, Shelf, Sink};
 
@@ -24,6 +24,8 @@ pub fn run_buffered<F: Shelf, K: Sink + Drop>(
         (through K.state out.new) }
     ensures passed_on { (result ≡ Status.Done) ⊎ ((result ≡ Status.Refused) ⊎ (result ≡ Status.Words))
         → (through K.state out.new).pending ≡ [] }
+    ensures so_far { result ≡ Status.ReadFault → AnswersSoFar (asked arguments.now) (F.holds shelf.old)
+        (F.left shelf.old) (F.left shelf.new) (through K.state out.old) (through K.state out.new) }
     ensures read_fault { result ≡ Status.ReadFault → Rose (F.faults shelf.old) (F.faults shelf.new) }
     ensures read { F.is_sound shelf.old → AreHeld (asked arguments.now) (F.holds shelf.old)
         → result ≢ Status.ReadFault }

@@ -4,15 +4,16 @@ ghost use Rattle.std.specs.Prelude.{◌≡◌, ◌≢◌, ℕ, ◌≤◌, ◌⊎
 ghost use Rattle.world_io.specs.Outside.{Rose};
 ghost use Rattle.smt_top.specs.Arguments.{asked};
 ghost use Rattle.smt_top.specs.Calls.{names_of, run_of};
-ghost use Rattle.smt_top.specs.RunMeans.{Holdings, BothHold, ProofIsLast, TakesText, CheckMeans, ScriptMeans, RunMeans, AreHeld, LastIsRead, IsUnread};
+ghost use Rattle.smt_top.specs.RunMeans.{BothHold, ProofIsLast, CheckMeans, RunMeans, AnswersSoFar, AreHeld, LastIsRead, IsUnread};
+ghost use Rattle.script_run.specs.Scripts.{Holdings, TakesText, ScriptMeans, ReadsSoFar};
 
 use crate::arguments::{ArgumentsStop, CheckRequest, Request, RunRequest, request_from};
 use crate::output::write_usage;
-use crate::read::{read_both, read_text};
+use crate::read::read_both;
 use crate::verdict::{judge, report};
 use assertion_stack::TERM_LIMIT;
 use sat_budget::Limits;
-use smt_session::{Status, run_text};
+use script_run::Status;
 use std::alloc::Global;
 use world_io::{ReadStop, Shelf, Sink};
 
@@ -46,7 +47,8 @@ fn run_check<F: Shelf, K: Sink>(
     }
 }
 
-/// Runs the script of a request: its text is read to its end, and then each command is taken and its response written.
+/// Runs the script of a request: each command is taken as soon as it has come, and its response is written and passed on before
+/// more of the text is read.
 fn run_script<F: Shelf, K: Sink>(
     alloc: Global,
     request: RunRequest<'_>,
@@ -54,6 +56,8 @@ fn run_script<F: Shelf, K: Sink>(
     out: &mut K,
 ) -> Status
     ensures ends { ScriptMeans result (run_of request.entry) (F.holds shelf.old) (K.state out.old) (K.state out.new) }
+    ensures so_far { result ≡ Status.ReadFault → ReadsSoFar (run_of request.entry)
+        (F.holds shelf.old request.entry.name.now) (F.left shelf.old) (F.left shelf.new) (K.state out.old) (K.state out.new) }
     ensures read_fault { result ≡ Status.ReadFault → Rose (F.faults shelf.old) (F.faults shelf.new) }
     ensures read { F.is_sound shelf.old → IsSome (F.holds shelf.old request.entry.name.now)
         → result ≢ Status.ReadFault }
@@ -65,20 +69,12 @@ fn run_script<F: Shelf, K: Sink>(
     ensures reads { F.faults shelf.old ≤ F.faults shelf.new }
     ensures sound { F.is_sound shelf.old → F.is_sound shelf.new }
 {
-    spec_sessions::laws::transcripts_need_a_prefix_alone();
-    spec_sessions::laws::answers_say_what_is_so();
-    match read_text(alloc, shelf, request.name) {
-        Ok(bytes) => {
-            let limits = Limits {
-                conflicts: request.conflicts,
-                pivots: request.pivots,
-                terms: TERM_LIMIT,
-            };
-            run_text(alloc, bytes.as_slice(), &limits, request.mode, out)
-        }
-        Err(ReadStop::Failed) => Status::ReadFault,
-        Err(ReadStop::Memory) => Status::Memory,
-    }
+    let limits = Limits {
+        conflicts: request.conflicts,
+        pivots: request.pivots,
+        terms: TERM_LIMIT,
+    };
+    script_run::run_script(alloc, request.name, &limits, request.mode, shelf, out)
 }
 
 /// Writes the usage text.
@@ -97,15 +93,17 @@ fn run_usage<K: Sink>(out: &mut K) -> Status
 /// - `solve [--conflicts N] [--pivots N] [NAME]` runs the script of that name and writes the standard's responses; an absent
 ///   name is the empty one. `certify` does the same, and writes after the answer of each check what shows it: a model, a
 ///   proof or a reason. N is the most conflicts of each search of a check (1,000,000 where it is not given) or its most
-///   pivots (10,000,000). Of the text the first 2^26 bytes are run.
+///   pivots (10,000,000). Of the text the first 2^26 bytes are run. A read is asked for only where no further command is whole in
+///   the bytes that came, and the responses to all that are were written and passed on.
 /// - `check [--at K] SCRIPT PROOF` judges the proof against the script's K-th check, from 1, or the first where K is not
 ///   given: it writes `valid`, or the proof's first fault with its line and column.
 /// - All other arguments give the usage text, and `Words`.
 ///
 /// `Done` and `Refused` tell of a script whether something in it was refused, of a proof whether it is accepted. `Memory`
-/// comes where an allocation was refused, `ReadFault` where the shelf failed, `WriteFault` where the sink failed: what was
-/// written is then a prefix of what was to be written for the commands that were run, or of the line, and the sink had no
-/// room for all of it.
+/// comes where an allocation was refused, `ReadFault` where the shelf failed. Of a script exactly the responses to the commands
+/// are written then that the bytes hold which were read: a shelf may fail at each read, so this is so where each read begins.
+/// `WriteFault` comes where the sink failed: what was written is a prefix of what was to be written for the commands that were
+/// run, or of the line, and the sink had no room for all of it.
 ///
 /// What is written is passed on: where nothing waited in a buffer before, nothing waits after `Done`, `Refused` and `Words`.
 /// Of the text that was read last at most 2^26 bytes and one read more are taken. After `Memory` and `ReadFault` no clause
@@ -117,6 +115,8 @@ pub fn run<F: Shelf, K: Sink>(
     out: &mut K,
 ) -> Status
     ensures ends { RunMeans result (asked arguments.now) (F.holds shelf.old) (K.state out.old) (K.state out.new) }
+    ensures so_far { result ≡ Status.ReadFault → AnswersSoFar (asked arguments.now) (F.holds shelf.old)
+        (F.left shelf.old) (F.left shelf.new) (K.state out.old) (K.state out.new) }
     ensures read_fault { result ≡ Status.ReadFault → Rose (F.faults shelf.old) (F.faults shelf.new) }
     ensures read { F.is_sound shelf.old → AreHeld (asked arguments.now) (F.holds shelf.old)
         → result ≢ Status.ReadFault }

@@ -16,4 +16,5 @@ pub use check_run::run;
 pub use command_line::{CommandLine, HostCommandLine, UnreadArguments, arguments_of};
 pub use in_memory::run_in_memory;
 pub use program::{ProgramEnd, exit_code, run_command_line, run_program};
-pub use smt_session::{After, Halt, Mode, Session, Status, run_text};
+pub use script_run::{Status, run_text};
+pub use smt_session::{After, Halt, Mode, Session};

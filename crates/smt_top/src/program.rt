@@ -3,14 +3,14 @@
 ghost use Rattle.std.specs.Prelude.{◌≡◌, ℕ, List, map, string_bytes, IfOk};
 ghost use Rattle.std.specs.Process.{exit_status};
 ghost use Rattle.world_io.specs.Outside.{Rose};
-ghost use Rattle.smt_session.specs.Runs.{code_of};
+ghost use Rattle.script_run.specs.Runs.{code_of};
 ghost use Rattle.smt_top.specs.CommandLine.{AreTaken};
 ghost use Rattle.smt_top.specs.RunMeans.{through};
 ghost use Rattle.smt_top.specs.Program.{Exits, ExitsOutside, code_at};
 
 use crate::command_line::{CommandLine, HostCommandLine, UnreadArguments, arguments_of};
 use crate::run_buffered;
-use smt_session::Status;
+use script_run::Status;
 use std::alloc::{AllocError, Global};
 use std::process::{ExitCode, Termination};
 use std::rt::{Env, Files};

@@ -3,7 +3,7 @@
 ghost use Rattle.std.specs.Prelude.{◌≡◌, ◌≢◌, ℕ, ◌≤◌, List, IfOk, IfSome, IsSome, IsOk, IsErrOf};
 ghost use Rattle.world_io.specs.Outside.{Rose};
 ghost use Rattle.spec_text.specs.Readings.{prefix};
-ghost use Rattle.smt_top.specs.RunMeans.{TakesText};
+ghost use Rattle.script_run.specs.Scripts.{TakesText};
 
 use crate::arguments::Names;
 use smt_sexpr::TEXT_LIMIT;

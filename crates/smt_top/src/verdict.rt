@@ -7,7 +7,7 @@ ghost use Rattle.smt_top.specs.Calls.{JudgesProof, Reports};
 use crate::output::{write_fault, write_valid};
 use crate::read::Texts;
 use alethe_check::{ProofStop, check};
-use smt_session::Status;
+use script_run::Status;
 use std::alloc::Global;
 use world_io::Sink;
 

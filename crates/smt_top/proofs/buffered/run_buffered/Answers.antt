@@ -1,6 +1,6 @@
 -- What was written waits no longer, or a prefix of it was passed on.
 use Rattle.std.proofs.Common.{◌∙◌, refl, sym}
-use Rattle.smt_session.specs.declared.status.Status.TheVariants.{Memory, ReadFault}
+use Rattle.script_run.specs.declared.status.Status.TheVariants.{Memory, ReadFault}
 use Rattle.smt_top.specs.Arguments.{asked}
 use Rattle.smt_top.proofs.Buffers.{ends_kept, ends_cut, still_found, is_no_other}
 use Rattle.smt_top.proofs.buffered.run_buffered.Goals as goal
@@ -26,3 +26,6 @@ pub returns-in-Err-clause-order : goal.returns-in-Err-clause-order
 returns-in-Err-clause-order g c = λ _ _.
     let e = sym c.is_answered.ensures ∙ c.if-not-is_answered.false in
     c.run-status.ensures.order (is_no_other _ Memory e refl) (is_no_other _ ReadFault e refl)
+
+pub returns-in-Ok-clause-so_far : goal.returns-in-Ok-clause-so_far
+returns-in-Ok-clause-so_far g c = λ e. absurd (is_no_other c.run-status.result ReadFault (sym c.is_answered.ensures ∙ c.if-not-is_answered.false) refl e)

@@ -1,6 +1,6 @@
 -- What was read was taken.
 use Rattle.std.proofs.Common.{subst}
-use Rattle.smt_top.specs.RunMeans.{TakesText}
+use Rattle.script_run.specs.Scripts.{TakesText}
 use Rattle.smt_top.proofs.Taken.{text_taken}
 use Rattle.smt_top.proofs.read.read_text.Goals as goal
 

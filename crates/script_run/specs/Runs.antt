@@ -10,8 +10,8 @@ use Rattle.spec_sessions.specs.Statements.{OnTranscript, OnBegun}
 use Rattle.smt_lexer.specs.declared.Refusal.{Refusal}
 use Rattle.smt_session.specs.declared.session.After.{After}
 use Rattle.smt_session.specs.declared.session.After.TheVariants as afters
-use Rattle.smt_session.specs.declared.status.Status.{Status}
-use Rattle.smt_session.specs.declared.status.Status.TheVariants as statuses
+use Rattle.script_run.specs.declared.status.Status.{Status}
+use Rattle.script_run.specs.declared.status.Status.TheVariants as statuses
 use Rattle.smt_session.specs.Sessions.{Delivers}
 
 -- the number that the program ends with

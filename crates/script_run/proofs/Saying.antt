@@ -5,9 +5,9 @@ use Rattle.spec_sessions.specs.Evidence.{Limits}
 use Rattle.spec_sessions.specs.Responses.{Mode}
 use Rattle.spec_sessions.specs.Transcripts.{IsTranscript, IsBegun, checks_in}
 use Rattle.spec_sessions.specs.Meaning.{AllSay}
-use Rattle.smt_session.specs.declared.status.Status.{Status}
-use Rattle.smt_session.specs.declared.status.Status.TheVariants.{Done, Refused, Words, Memory, ReadFault, WriteFault}
-use Rattle.smt_session.specs.Runs.{RunsText, EndsText}
+use Rattle.script_run.specs.declared.status.Status.{Status}
+use Rattle.script_run.specs.declared.status.Status.TheVariants.{Done, Refused, Words, Memory, ReadFault, WriteFault}
+use Rattle.script_run.specs.Runs.{RunsText, EndsText}
 
 -- that what the answers of a transcript say is so, and of one that was begun
 abbrev pub WholeSays : Type 0

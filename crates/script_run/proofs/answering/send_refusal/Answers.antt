@@ -4,7 +4,7 @@ use Rattle.spec_text.specs.Places.{name_of}
 use Rattle.spec_models.specs.Replies.{error_text}
 use Rattle.smt_session.specs.Sessions.{Delivers}
 use Rattle.smt_session.proofs.Delivering.{delivered}
-use Rattle.smt_session.proofs.whole_text.send_refusal.Goals as goal
+use Rattle.script_run.proofs.answering.send_refusal.Goals as goal
 
 pub returns : goal.returns
 returns g c =

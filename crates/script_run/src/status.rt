@@ -1,7 +1,7 @@
 //! How a run ends.
 
 ghost use Rattle.std.specs.Prelude.{◌≡◌};
-ghost use Rattle.smt_session.specs.Runs.{code_of};
+ghost use Rattle.script_run.specs.Runs.{code_of};
 
 /// Tells how a run ended.
 #[derive(Clone, Copy, Debug, PartialEq, Eq)]
