@@ -244,35 +244,39 @@ def perform(state, item):
     raise Fault(verb_start, b"UnknownCommand")
 
 
-def read_script(text, limit=2**24):
-    """Returns what each command of a script is answered, up to its end or `exit`, and what it stated.
+def answer_to(state, text, item):
+    """Performs a command of a text; returns what is answered, None where nothing is, and whether the script ends there.
 
     An answer is a line, or of a check what is current there, or a question about that.
     """
-    state, answers, at = State(limit), [], 0
-    while True:
+    try:
+        answer = perform(state, item)
+    except Fault as fault:
+        return error_line(text, fault), False
+    if answer == "unsupported":
+        return b"unsupported\n", False
+    if isinstance(answer, list):
+        return state.asked, False
+    if isinstance(answer, (bytes, Question)):
+        return answer, False
+    return b"success\n" if state.options[b":print-success"] else None, answer == "exit"
+
+
+def read_script(text, limit=2**24):
+    """Returns what each command of a script is answered, up to its end or `exit`, and what it stated."""
+    state, answers, at, is_over = State(limit), [], 0, False
+    while not is_over:
         try:
             found = read_one(text, at)
         except Fault as fault:
             return [*answers, error_line(text, fault)], state
         if found is None:
-            return answers, state
+            break
         item, at = found
-        try:
-            answer = perform(state, item)
-        except Fault as fault:
-            answers.append(error_line(text, fault))
-            continue
-        if answer == "unsupported":
-            answers.append(b"unsupported\n")
-        elif isinstance(answer, list):
-            answers.append(state.asked)
-        elif isinstance(answer, (bytes, Question)):
+        answer, is_over = answer_to(state, text, item)
+        if answer is not None:
             answers.append(answer)
-        elif state.options[b":print-success"]:
-            answers.append(b"success\n")
-        if answer == "exit":
-            return answers, state
+    return answers, state
 
 
 def checks_of(answers):

@@ -208,18 +208,19 @@ def reason_asked(check, output, at, limits):
     return text, end
 
 
-def judge(script, output, status, limits=NONE, shows=None, known=None, is_foretold=True):
+def judge(script, output, status, limits=NONE, shows=None, known=None, is_foretold=True, starts=None):
     """Returns what is wrong with an output and its status, or nothing, and what was found at each check.
 
     Where `shows` is given, each answer to a check is followed by what shows it, of which this is the end; else what is
     shown of it may be known before. Where answers are not foretold, their models and proofs alone decide: to foretell
-    them may take time exponential in the script.
+    them may take time exponential in the script. To `starts` the offset of each answer is added.
     """
     answers, wanted_status = run_script(script)
-    founds, at = [], 0
+    founds, at, starts = [], 0, [] if starts is None else starts
     try:
         for answer in answers:
             start = at
+            starts.append(start)
             if isinstance(answer, Question):
                 at = question_end(answer, founds[-1], script, output, at, limits)
                 wanted_status = max(wanted_status, int(output.startswith(REFUSAL, start)))
