@@ -35,6 +35,14 @@ has() {
     return 1
 }
 
+# Tells whether a library of Haskell is there, and says what is missing.
+has_library() {
+    has "$1" ghc || return 1
+    if [ -n "$(ghc-pkg list --simple-output "$1")" ]; then return 0; fi
+    echo "$1: not here, as ghc has no such library"
+    return 1
+}
+
 # Gives the proofs of a script to `check`, one for each answer `unsat`.
 check_proofs() {
     local k=0 answer
@@ -46,6 +54,28 @@ check_proofs() {
         awk -v k="$k" '/^(sat|unsat|unknown)$/ {n++} n == k; n == k && /^\)$/ {exit}' "$folder/certified" >"$folder/proof"
         [ "$(smt_cli check --at "$k" "$1" "$folder/proof")" = valid ] || differs "the proof of check $k of ${1##*/}"
     done < <(grep -Ex 'sat|unsat|unknown' "$folder/certified")
+}
+
+# Tells whether the program answers a command before its input ends, three seconds later.
+answers_at_once() {
+    rm -f "$folder/ended"
+    if {
+        echo '(echo "here")'
+        sleep 3
+        : >"$folder/ended"
+    } | smt_cli solve | {
+        read -r _
+        [ ! -e "$folder/ended" ]
+    }; then return 0; fi
+    differs "$1: not run, as the program answers nothing before its input ends"
+    return 1
+}
+
+# Runs a program that asks what follows, and compares what it writes with what z3 made it write.
+ask() {
+    runs=$((runs + 1))
+    timeout 60 "$@" >"$folder/output" || differs "status of $*"
+    diff "$folder/wanted" "$folder/output" || differs "$*"
 }
 
 # Runs Why3 as its page says, without the user's own configuration.
@@ -85,8 +115,23 @@ check_why3() {
     refuse success 1
 }
 
+check_simple_smt() {
+    local program=$folder/Measures
+    has_library simple-smt || return 0
+    clients=$((clients + 1))
+    echo "simple-smt: $(ghc-pkg list --simple-output simple-smt)"
+    answers_at_once simple-smt || return 0
+    ghc -v0 -outputdir "$folder/objects" -o "$program" simple-smt/Measures.hs
+    "$program" z3 -smt2 -in >"$folder/wanted"
+    if has "simple-smt by cvc5" cvc5; then ask "$program" cvc5 --lang smt2 --incremental; fi
+    ask "$program" smt_cli solve
+    ask "$program" bash -c "exec smt_cli solve < <(tee '$folder/measures.smt2')"
+    check_proofs "$folder/measures.smt2"
+}
+
 if ! has "what to compare with" z3; then exit 2; fi
 check_why3
+check_simple_smt
 echo "$clients clients, $runs runs, $proofs proofs, $wrong wrong"
 if [ "$clients" -eq 0 ]; then exit 2; fi
 [ "$wrong" -eq 0 ]
