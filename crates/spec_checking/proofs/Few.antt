@@ -15,9 +15,9 @@ use Rattle.spec_reading.specs.Sorts.{sort_in, sorts_in}
 use Rattle.spec_reading.specs.Reading.{reading_of_sort}
 use Rattle.spec_reading.specs.Definitions.{definitions_in}
 use Rattle.spec_commands.specs.Commands.{Command, SetLogic, SetOption, SetInfo, DeclareSort, DefineSort, DeclareFun, DefineFun, Assert, Push, Pop, CheckSat, CheckSatAssuming, ResetAssertions, Reset, Echo, Exit, command_of}
-use Rattle.spec_commands.specs.Stack.{Stack, Key, Taken, signature_of, terms_asserted, levels_open, up_to_level, level_limit, logics, key_named, truth_in, option_set, roomy, terms_defined, literals_in, performed, step}
+use Rattle.spec_commands.specs.Stack.{Stack, Key, Taken, signature_of, terms_asserted, levels_open, up_to_level, emptied, level_limit, logics, key_named, truth_in, may_set, option_set, roomy, terms_defined, literals_in, performed, step}
 use Rattle.spec_commands.specs.Checks.{Check, current_at}
-use Rattle.spec_commands.proofs.Levels.{shorter_up_to}
+use Rattle.spec_commands.proofs.Levels.{shorter_up_to, shorter_emptied}
 use Rattle.spec_commands.proofs.Carried.{current_carried}
 
 module _ (limit : ℕ) where
@@ -35,7 +35,7 @@ module _ (limit : ℕ) where
     roomy_few ts s = in_turn LeavesFew (λ _. tt) (require (has_room limit (signature_of s) ts) at Full) _ λ room e. (and_parts _ _ (require_true (has_room limit (signature_of s) ts) at Full room e)).0
 
     option_few : (s : Stack) (k : Option Key) (b : Option Bool) → AreFew s → LeavesFew (option_set at s k b)
-    option_few s (Some k) (Some b) h = h
+    option_few s (Some k) (Some b) h = in_turn LeavesFew (λ _. tt) (require (may_set k s) at WrongMode) _ λ early _. h
     option_few s (Some k) None h = tt
     option_few s None b h = h
 
@@ -68,7 +68,7 @@ module _ (limit : ℕ) where
     performed_few s (CheckSatAssuming place ts) h =
         in_turn LeavesFew (λ _. tt) (literals_in (signature_of s) ts) _ λ ls _.
         in_turn LeavesFew (λ _. tt) (require (has_room limit (signature_of s) (terms_asserted ls)) at Full) _ λ room _. h
-    performed_few s ResetAssertions h = le-leb 0 limit (omega arith)
+    performed_few s ResetAssertions h = le-leb (length (signature_of (emptied s))) limit (omega (arith, shorter_emptied s, leb-true (length (signature_of s)) limit h))
     performed_few s Reset h = le-leb 0 limit (omega arith)
     performed_few s (Echo text) h = h
     performed_few s Exit h = h

@@ -16,7 +16,7 @@ use Rattle.spec_reading.specs.Sorts.{sort_in, sorts_in}
 use Rattle.spec_reading.specs.Reading.{reading_of_sort}
 use Rattle.spec_reading.specs.Definitions.{definitions_in}
 use Rattle.spec_commands.specs.Commands.{Command, SetLogic, SetOption, SetInfo, DeclareSort, DefineSort, DeclareFun, DefineFun, Assert, Push, Pop, CheckSat, CheckSatAssuming, ResetAssertions, Reset, Echo, Exit, command_of}
-use Rattle.spec_commands.specs.Stack.{Assertion, Stack, Key, Effect, check, Taken, signature_of, assertions_of, terms_asserted, levels_open, level_limit, logics, key_named, truth_in, option_set, roomy, terms_defined, literals_in, performed, step}
+use Rattle.spec_commands.specs.Stack.{Assertion, Stack, Key, Effect, check, Taken, signature_of, assertions_of, terms_asserted, levels_open, level_limit, logics, key_named, truth_in, may_set, option_set, roomy, terms_defined, literals_in, performed, step}
 use Rattle.spec_commands.specs.Checks.{Check, asked, current_at}
 use Rattle.spec_commands.specs.Kept.{IsAsserted, AreSoundNames, IsSoundStack}
 use Rattle.spec_commands.proofs.Carried.{EffectHas, current_has}
@@ -41,7 +41,7 @@ module _ (limit : ℕ) where
     roomy_read ts s = in_turn TakesRead (λ _. tt) (require (has_room limit (signature_of s) ts) at Full) _ λ room _. tt
 
     option_read : (s : Stack) (k : Option Key) (b : Option Bool) → TakesRead (option_set at s k b)
-    option_read s (Some k) (Some b) = tt
+    option_read s (Some k) (Some b) = in_turn TakesRead (λ _. tt) (require (may_set k s) at WrongMode) _ λ early _. tt
     option_read s (Some k) None = tt
     option_read s None b = tt
 

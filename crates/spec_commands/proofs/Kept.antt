@@ -2,7 +2,7 @@
 use Rattle.std.proofs.Common.{◌≡◌, ℕ, Bool, List, [], ◌∷◌, ◌++◌, map, All, Some, refl, sym, ap, ◌∙◌, subst}
 use Rattle.std.specs.Prelude.{Ok}
 use Rattle.std.proofs.lemmas.List.{append_assoc, append-nil}
-use Rattle.std.proofs.lemmas.List.Elements.{All-push, All-weaker, All-nil}
+use Rattle.std.proofs.lemmas.List.Elements.{All-nil, All-cons, All-head, All-tail, All-push, All-weaker}
 use Rattle.spec_text.specs.Trees.{Tree, Trees}
 use Rattle.spec_sorts.specs.Terms.{Truth, Declared, sort_of}
 use Rattle.spec_sorts.specs.WellSorted.{IsWellSorted, IsFormulaOver}
@@ -41,6 +41,11 @@ read_later s t a w = record {
 asserted_later : (limit : ℕ) (s t : Signature) (a : Assertion) → IsAsserted limit s a → IsAsserted limit (s ++ t) a
 asserted_later limit s t a w = record { read = read_later s t a w.read; sort = w.sort; room = w.room }
 
+-- what holds of each holds of the first ones
+first_ones : (P : Assertion → Type 0) (front more : List Assertion) → All P (front ++ more) → All P front
+first_ones P [] more h = All-nil P
+first_ones P (a ∷ front) more h = All-cons P a front (All-head P a (front ++ more) h) (first_ones P front more (All-tail P a (front ++ more) h))
+
 module _ (limit : ℕ) where
   -- names more
   sound_later : (g t : Signature) (assertions : List Assertion) → AreSound (g ++ t) → AreWellSorted (g ++ t) → AreSoundNames limit g assertions → AreSoundNames limit (g ++ t) assertions
@@ -72,12 +77,16 @@ module _ (limit : ℕ) where
       }
   command_sound c = tt
 
+  -- and what holds of assertions does of fewer
+  fewer_sound : (g : Signature) (front more : List Assertion) → AreSoundNames limit g (front ++ more) → AreSoundNames limit g front
+  fewer_sound g front more h = record { names = h.names; sorts = h.sorts; assertions_read = first_ones (IsAsserted limit g) front more h.assertions_read }
+
   none_sound : AreSoundNames limit [] []
   none_sound = record { names = tt; sorts = All-nil (IsDeclaredOver []); assertions_read = All-nil (IsAsserted limit []) }
 
   -- what a command leaves is kept
   pub step_kept : (s : Stack) (t : Tree) (d : Taken) → step limit s t ≡ Ok d → IsSoundStack limit s → IsSoundStack limit d.stack
-  step_kept s t d e h = step_carried limit (AreSoundNames limit) none_sound command_sound s t d e h
+  step_kept s t d e h = step_carried limit (AreSoundNames limit) fewer_sound none_sound command_sound s t d e h
 
   -- and so is what is at a check
   pub current_kept : (s : Stack) (k : ℕ) (ts : Trees) (c : Check) → current_at limit s k ts ≡ Some c → IsSoundStack limit s → IsSoundStack limit c.stack

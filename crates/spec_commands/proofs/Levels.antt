@@ -1,14 +1,14 @@
 -- Stacks up to a level, and levels more: what they leave as it was.
-use Rattle.std.proofs.Common.{◌≡◌, ℕ, zero, suc, ◌+◌, ◌-◌, ◌<◌, ◌≤◌, Bool, true, false, cond, List, [], ◌∷◌, ◌++◌, length, map, take, replicate, All, filter, nat_le, refl, sym, ap, ◌∙◌, subst, ap₂, ⊎_elim, true≢false, arith}
+use Rattle.std.proofs.Common.{◌≡◌, ℕ, zero, suc, ◌+◌, ◌-◌, ◌<◌, ◌≤◌, Bool, true, false, not, cond, List, [], ◌∷◌, ◌++◌, length, map, take, replicate, All, filter, Option, Some, None, refl, sym, ap, ◌∙◌, subst, ap₂, ⊎_elim, true≢false, arith}
 use Rattle.std.proofs.lemmas.Bool.{cases_lt, le-leb, lt-leb, leb-true}
 use Rattle.std.proofs.lemmas.List.{append_assoc, append-nil, map-append, length-map, length-append, length-replicate, length-take, length-take-le, take_all, take-append-le, take-take}
-use Rattle.std.proofs.lemmas.List.Elements.{All-nil, All-head, All-tail, All-push, All-weaker, filter_passes}
+use Rattle.std.proofs.lemmas.List.Elements.{All-nil, All-head, All-tail, All-push, All-weaker, All-filter, filter_passes}
 use Rattle.std.proofs.lemmas.List.Sums.{length-filter, count_by-le-length}
 use Rattle.spec_text.specs.Trees.{Tree}
 use Rattle.spec_sorts.specs.Terms.{Term}
 use Rattle.spec_sorts.specs.Signatures.{Definition, Declaration, definition}
 use Rattle.spec_sorts.specs.Signatures as signatures
-use Rattle.spec_commands.specs.Stack.{Assertion, ScopedDeclaration, Stack, empty_stack, signature_of, joined, assertions_of, levels_open, with_last, begun, with_declaration, with_definitions, with_assertion, with_levels, up_to_level, emptied}
+use Rattle.spec_commands.specs.Stack.{Assertion, ScopedDeclaration, Stack, Key, success_key, models_key, proofs_key, assertions_key, global_key, empty_stack, signature_of, joined, assertions_of, levels_open, level_now, with_last, begun, with_declaration, with_definitions, with_assertion, with_levels, is_up_to, up_to_level, is_global, emptied, with_option, may_set}
 use Rattle.spec_commands.specs.Kept.{AreLeveled}
 
 -- one declaration more is the last of the signature
@@ -28,6 +28,11 @@ pub levels_with : (s : Stack) (ds : List Definition) → (with_definitions s ds)
 levels_with s [] = refl
 levels_with s (d ∷ ds) = levels_with (with_declaration s (definition d)) ds
 
+-- nor an option
+pub options_with : (s : Stack) (ds : List Definition) → (with_definitions s ds).options ≡ s.options
+options_with s [] = refl
+options_with s (d ∷ ds) = options_with (with_declaration s (definition d)) ds
+
 -- an assertion more is the last of all
 pub joined_last : (ls : List (List Assertion)) (a : Assertion) → joined (with_last ls a) ≡ joined ls ++ a ∷ []
 joined_last [] a = refl
@@ -45,6 +50,12 @@ module _ {A : Type 0} (p : A → Bool) where
   filter_out : (xs : List A) (x : A) → p x ≡ false → filter p (xs ++ x ∷ []) ≡ filter p xs
   filter_out [] x e = ap (λ (b : Bool). cond b (x ∷ []) []) e
   filter_out (y ∷ xs) x e = ap (λ l. cond (p y) (y ∷ l) l) (filter_out xs x e)
+
+  -- what passes nowhere
+  filter_none : (xs : List A) → All (λ x. p x ≡ false) xs → filter p xs ≡ []
+  filter_none [] h = refl
+  filter_none (x ∷ xs) h =
+      ap (λ (b : Bool). cond b (x ∷ filter p xs) (filter p xs)) (All-head (λ y. p y ≡ false) x xs h) ∙ filter_none xs (All-tail (λ y. p y ≡ false) x xs h)
 
 -- what passes the narrower of two tests
 filter_twice : {A : Type 0} (p q : A → Bool) → ((x : A) → p x ≡ true → q x ≡ true) → (xs : List A) → filter p (filter q xs) ≡ filter p xs
@@ -88,11 +99,44 @@ pub open_up_to_most : (k : ℕ) (s : Stack) → levels_open (up_to_level k s).le
 open_up_to_most k s = omega (arith, open_is (take (suc k) s.levels), length-take (suc k) s.levels)
 
 -- nor more names
+fewer_names : (p : ScopedDeclaration → Bool) (ns : List ScopedDeclaration)
+    → length (map (λ (e : ScopedDeclaration). e.declaration) (filter p ns)) ≤ length (map (λ (e : ScopedDeclaration). e.declaration) ns)
+fewer_names p ns =
+    omega (arith, length-map (filter p ns) (λ (e : ScopedDeclaration). e.declaration), length-map ns (λ (e : ScopedDeclaration). e.declaration), length-filter p ns, count_by-le-length p ns)
+
 pub shorter_up_to : (k : ℕ) (s : Stack) → length (signature_of (up_to_level k s)) ≤ length (signature_of s)
-shorter_up_to k s =
-    let p = λ (e : ScopedDeclaration). nat_le e.level k in
-    let kept = filter p s.names in
-    omega (arith, length-map kept (λ (e : ScopedDeclaration). e.declaration), length-map s.names (λ (e : ScopedDeclaration). e.declaration), length-filter p s.names, count_by-le-length p s.names)
+shorter_up_to k s = fewer_names (λ (e : ScopedDeclaration). is_up_to k e.level) s.names
+
+pub shorter_emptied : (s : Stack) → length (signature_of (emptied s)) ≤ length (signature_of s)
+shorter_emptied s = fewer_names (λ (e : ScopedDeclaration). is_global e.level) s.names
+
+-- what is there up to a level is there up to a later one
+up_to_later : (j k : ℕ) → j ≤ k → (l : Option ℕ) → is_up_to j l ≡ true → is_up_to k l ≡ true
+up_to_later j k le None h = refl
+up_to_later j k le (Some l) h = le-leb l k (omega (arith, leb-true l j h, le))
+
+-- and what is global up to each
+global_up_to : (k : ℕ) (l : Option ℕ) → is_global l ≡ true → is_up_to k l ≡ true
+global_up_to k None h = refl
+global_up_to k (Some l) h = absurd (true≢false (sym h))
+
+-- the level of what is declared now
+level_low : (s : Stack) → is_up_to (levels_open s.levels) (level_now s) ≡ true
+level_low s = go s.options.global_declarations
+  where
+    go : (b : Bool) → is_up_to (levels_open s.levels) (cond {A = Option ℕ} b None (Some (levels_open s.levels))) ≡ true
+    go true = refl
+    go false = le-leb (levels_open s.levels) (levels_open s.levels) (omega arith)
+
+level_alike : (s : Stack) → is_global (level_now s) ≡ s.options.global_declarations
+level_alike s = go s.options.global_declarations
+  where
+    go : (b : Bool) → is_global (cond {A = Option ℕ} b None (Some (levels_open s.levels))) ≡ b
+    go true = refl
+    go false = refl
+
+level_high : (k : ℕ) (s : Stack) → s.options.global_declarations ≡ false → k < levels_open s.levels → is_up_to k (level_now s) ≡ false
+level_high k s off lt = ap (λ (b : Bool). is_up_to k (cond {A = Option ℕ} b None (Some (levels_open s.levels)))) off ∙ lt-leb (levels_open s.levels) k lt
 
 pub open_pushed : (n : ℕ) (s : Stack) → 0 < length s.levels → levels_open (with_levels n s).levels ≡ levels_open s.levels + n
 open_pushed n s first =
@@ -102,29 +146,59 @@ open_pushed n s first =
 pub up_to_twice : (j k : ℕ) (s : Stack) → j ≤ k → up_to_level j (up_to_level k s) ≡ up_to_level j s
 up_to_twice j k s le =
     ap₂ (λ (ns : List ScopedDeclaration) (ls : List (List Assertion)). record s { names = ns; levels = ls })
-    (filter_twice (λ (e : ScopedDeclaration). nat_le e.level j) (λ (e : ScopedDeclaration). nat_le e.level k) (λ e h. le-leb e.level k (omega (arith, leb-true e.level j h, le))) s.names)
+    (filter_twice (λ (e : ScopedDeclaration). is_up_to j e.level) (λ (e : ScopedDeclaration). is_up_to k e.level) (λ e h. up_to_later j k le e.level h) s.names)
     (take-take (suc j) (suc k) s.levels (omega (arith, le)))
 
 -- up to the last level, or past it, nothing is closed
-all_up_to : (s : Stack) (k : ℕ) → AreLeveled s → levels_open s.levels ≤ k → filter (λ (e : ScopedDeclaration). nat_le e.level k) s.names ≡ s.names
+all_up_to : (s : Stack) (k : ℕ) → AreLeveled s → levels_open s.levels ≤ k → filter (λ (e : ScopedDeclaration). is_up_to k e.level) s.names ≡ s.names
 all_up_to s k h le =
-    filter_all (λ (e : ScopedDeclaration). nat_le e.level k) s.names
-    (All-weaker (λ (e : ScopedDeclaration). nat_le e.level (levels_open s.levels) ≡ true) (λ (e : ScopedDeclaration). nat_le e.level k ≡ true) (λ e low. le-leb e.level k (omega (arith, leb-true e.level (levels_open s.levels) low, le))) s.names h.names)
+    filter_all (λ (e : ScopedDeclaration). is_up_to k e.level) s.names
+    (All-weaker (λ (e : ScopedDeclaration). is_up_to (levels_open s.levels) e.level ≡ true) (λ (e : ScopedDeclaration). is_up_to k e.level ≡ true) (λ e low. up_to_later (levels_open s.levels) k le e.level low) s.names h.names)
 
 pub up_to_all : (s : Stack) (k : ℕ) → AreLeveled s → levels_open s.levels ≤ k → up_to_level k s ≡ s
 up_to_all s k h le =
     ap₂ (λ (ns : List ScopedDeclaration) (ls : List (List Assertion)). record s { names = ns; levels = ls }) (all_up_to s k h le)
     (take_all (suc k) s.levels (omega (arith, levels_most s.levels, le)))
 
--- what is done at the last level changes none below it
-pub up_to_declared : (k : ℕ) (s : Stack) (d : Declaration) → k < levels_open s.levels → up_to_level k (with_declaration s d) ≡ up_to_level k s
-up_to_declared k s d lt =
-    ap (λ (ns : List ScopedDeclaration). record s { names = ns; levels = take (suc k) s.levels })
-    (filter_out (λ (e : ScopedDeclaration). nat_le e.level k) s.names (record { level = levels_open s.levels; declaration = d }) (lt-leb (levels_open s.levels) k lt))
+-- where declarations are global, all are there up to each level
+each_global : (s : Stack) → AreLeveled s → s.options.global_declarations ≡ true → All (λ (e : ScopedDeclaration). is_global e.level ≡ true) s.names
+each_global s h on =
+    All-weaker (λ (e : ScopedDeclaration). is_global e.level ≡ s.options.global_declarations) (λ (e : ScopedDeclaration). is_global e.level ≡ true) (λ e same. same ∙ on) s.names h.alike
 
-pub up_to_defined : (k : ℕ) (s : Stack) (ds : List Definition) → k < levels_open s.levels → up_to_level k (with_definitions s ds) ≡ up_to_level k s
-up_to_defined k s [] lt = refl
-up_to_defined k s (d ∷ ds) lt = up_to_defined k (with_declaration s (definition d)) ds lt ∙ up_to_declared k s (definition d) lt
+pub global_names : (k : ℕ) (s : Stack) → AreLeveled s → s.options.global_declarations ≡ true → signature_of (up_to_level k s) ≡ signature_of s
+global_names k s h on =
+    ap (λ (ns : List ScopedDeclaration). map (λ (e : ScopedDeclaration). e.declaration) ns)
+    (filter_all (λ (e : ScopedDeclaration). is_up_to k e.level) s.names
+    (All-weaker (λ (e : ScopedDeclaration). is_global e.level ≡ true) (λ (e : ScopedDeclaration). is_up_to k e.level ≡ true) (λ e is. global_up_to k e.level is) s.names (each_global s h on)))
+
+-- and stay where assertions are taken back; else none does
+pub global_emptied : (s : Stack) → AreLeveled s → s.options.global_declarations ≡ true → signature_of (emptied s) ≡ signature_of s
+global_emptied s h on = ap (λ (ns : List ScopedDeclaration). map (λ (e : ScopedDeclaration). e.declaration) ns) (filter_all (λ (e : ScopedDeclaration). is_global e.level) s.names (each_global s h on))
+
+pub local_emptied : (s : Stack) → AreLeveled s → s.options.global_declarations ≡ false → signature_of (emptied s) ≡ []
+local_emptied s h off =
+    ap (λ (ns : List ScopedDeclaration). map (λ (e : ScopedDeclaration). e.declaration) ns)
+    (filter_none (λ (e : ScopedDeclaration). is_global e.level) s.names
+    (All-weaker (λ (e : ScopedDeclaration). is_global e.level ≡ s.options.global_declarations) (λ (e : ScopedDeclaration). is_global e.level ≡ false) (λ e same. same ∙ off) s.names h.alike))
+
+-- what is asserted up to a level comes first
+joined_front : (n : ℕ) (ls : List (List Assertion)) → (more : List Assertion) × (joined ls ≡ joined (take n ls) ++ more)
+joined_front zero ls = (joined ls, refl)
+joined_front (suc n) [] = ([], refl)
+joined_front (suc n) (l ∷ ls) = let rest = joined_front n ls in (rest.0, ap (λ x. l ++ x) rest.1 ∙ sym (append_assoc l (joined (take n ls)) rest.0))
+
+pub assertions_up_to : (k : ℕ) (s : Stack) → (more : List Assertion) × (assertions_of s ≡ assertions_of (up_to_level k s) ++ more)
+assertions_up_to k s = joined_front (suc k) s.levels
+
+-- what is done at the last level changes none below it, where declarations belong to levels
+pub up_to_declared : (k : ℕ) (s : Stack) (d : Declaration) → s.options.global_declarations ≡ false → k < levels_open s.levels → up_to_level k (with_declaration s d) ≡ up_to_level k s
+up_to_declared k s d off lt =
+    ap (λ (ns : List ScopedDeclaration). record s { names = ns; levels = take (suc k) s.levels })
+    (filter_out (λ (e : ScopedDeclaration). is_up_to k e.level) s.names (record { level = level_now s; declaration = d }) (level_high k s off lt))
+
+pub up_to_defined : (k : ℕ) (s : Stack) (ds : List Definition) → s.options.global_declarations ≡ false → k < levels_open s.levels → up_to_level k (with_definitions s ds) ≡ up_to_level k s
+up_to_defined k s [] off lt = refl
+up_to_defined k s (d ∷ ds) off lt = up_to_defined k (with_declaration s (definition d)) ds off lt ∙ up_to_declared k s (definition d) off lt
 
 take_last : (k : ℕ) (ls : List (List Assertion)) (a : Assertion) → k ≤ levels_open ls → take k (with_last ls a) ≡ take k ls
 take_last zero ls a le = refl
@@ -163,21 +237,37 @@ pub same_up_to_pushed : (n k : ℕ) (s : Stack) → levels_open s.levels ≤ k �
 same_up_to_pushed n k s le h =
     (ap (λ (ns : List ScopedDeclaration). map (λ (e : ScopedDeclaration). e.declaration) ns) (all_up_to s k h le), joined_more (suc k) n s.levels (omega (arith, levels_most s.levels, le)))
 
+-- a command that ends the start does so before or after names that come
+pub begun_defined : (s : Stack) (ds : List Definition) → with_definitions (begun s) ds ≡ begun (with_definitions s ds)
+begun_defined s [] = refl
+begun_defined s (d ∷ ds) = begun_defined (with_declaration s (definition d)) ds
+
 -- names belong to levels that are there, after each change
 abbrev IsLow : ℕ → ScopedDeclaration → Type 0
-IsLow k e = nat_le e.level k ≡ true
+IsLow k e = is_up_to k e.level ≡ true
 
-pub leveled_declared : (s : Stack) (d : Declaration) → AreLeveled s → AreLeveled (with_declaration s d)
-leveled_declared s d h = record {
-  first = h.first;
-  names =
-      All-push (IsLow (levels_open s.levels)) s.names (record { level = levels_open s.levels; declaration = d }) h.names
-      (le-leb (levels_open s.levels) (levels_open s.levels) (omega arith));
-}
+abbrev IsAlike : Bool → ScopedDeclaration → Type 0
+IsAlike b e = is_global e.level ≡ b
 
-pub leveled_defined : (s : Stack) (ds : List Definition) → AreLeveled s → AreLeveled (with_definitions s ds)
-leveled_defined s [] h = h
-leveled_defined s (d ∷ ds) h = leveled_defined (with_declaration s (definition d)) ds (leveled_declared s (definition d) h)
+abbrev IsEarly : Stack → Type 0
+IsEarly s = s.started ≡ false → (s.names ≡ []) × (levels_open s.levels ≡ 0)
+
+-- after the start
+late : (s : Stack) → s.started ≡ true → IsEarly s
+late s on e = absurd (true≢false (sym on ∙ e))
+
+pub leveled_declared : (s : Stack) (d : Declaration) → s.started ≡ true → AreLeveled s → AreLeveled (with_declaration s d)
+leveled_declared s d on h =
+    let new : ScopedDeclaration = record { level = level_now s; declaration = d } in record {
+      first = h.first;
+      names = All-push (IsLow (levels_open s.levels)) s.names new h.names (level_low s);
+      alike = All-push (IsAlike s.options.global_declarations) s.names new h.alike (level_alike s);
+      early = late (with_declaration s d) on;
+    }
+
+pub leveled_defined : (s : Stack) (ds : List Definition) → s.started ≡ true → AreLeveled s → AreLeveled (with_definitions s ds)
+leveled_defined s [] on h = h
+leveled_defined s (d ∷ ds) on h = leveled_defined (with_declaration s (definition d)) ds on (leveled_declared s (definition d) on h)
 
 first_last : (ls : List (List Assertion)) (a : Assertion) → 0 < length (with_last ls a)
 first_last [] a = omega arith
@@ -188,13 +278,17 @@ leveled_asserted s t u h =
     let a : Assertion = record { text = t; term = u } in record {
       first = first_last s.levels a;
       names = subst (λ k. All (IsLow k) s.names) (sym (open_last s.levels a)) h.names;
+      alike = h.alike;
+      early = λ e. let start = h.early e in (start.0, open_last s.levels a ∙ start.1);
     }
 
-pub leveled_pushed : (n : ℕ) (s : Stack) → AreLeveled s → AreLeveled (with_levels n s)
-leveled_pushed n s h = record {
+pub leveled_pushed : (n : ℕ) (s : Stack) → s.started ≡ true → AreLeveled s → AreLeveled (with_levels n s)
+leveled_pushed n s on h = record {
   first = omega (arith, h.first, length-append s.levels (replicate n []));
   names = subst (λ k. All (IsLow k) s.names) (sym (open_pushed n s h.first))
-      (All-weaker (IsLow (levels_open s.levels)) (IsLow (levels_open s.levels + n)) (λ e low. le-leb e.level (levels_open s.levels + n) (omega (arith, leb-true e.level (levels_open s.levels) low))) s.names h.names);
+      (All-weaker (IsLow (levels_open s.levels)) (IsLow (levels_open s.levels + n)) (λ e low. up_to_later (levels_open s.levels) (levels_open s.levels + n) (omega arith) e.level low) s.names h.names);
+  alike = h.alike;
+  early = late (with_levels n s) on;
 }
 
 pub leveled_up_to : (k : ℕ) (s : Stack) → AreLeveled s → AreLeveled (up_to_level k s)
@@ -203,18 +297,44 @@ leveled_up_to k s h = ⊎_elim below above (cases_lt k (levels_open s.levels))
     below : k < levels_open s.levels → AreLeveled (up_to_level k s)
     below lt = record {
       first = omega (arith, h.first, length-take (suc k) s.levels);
-      names = subst (λ j. All (IsLow j) (filter (λ (e : ScopedDeclaration). nat_le e.level k) s.names)) (sym (open_up_to k s h.first (omega (arith, lt))))
-          (filter_passes (λ (e : ScopedDeclaration). nat_le e.level k) s.names);
+      names = subst (λ j. All (IsLow j) (filter (λ (e : ScopedDeclaration). is_up_to k e.level) s.names)) (sym (open_up_to k s h.first (omega (arith, lt))))
+          (filter_passes (λ (e : ScopedDeclaration). is_up_to k e.level) s.names);
+      alike = All-filter (λ (e : ScopedDeclaration). is_up_to k e.level) (IsAlike s.options.global_declarations) s.names h.alike;
+      early = λ e. absurd (omega (arith, lt, (h.early e).1));
     }
 
     above : levels_open s.levels ≤ k → AreLeveled (up_to_level k s)
     above le = subst AreLeveled (sym (up_to_all s k h le)) h
 
-pub leveled_emptied : (s : Stack) → AreLeveled (emptied s)
-leveled_emptied s = record { first = omega arith; names = All-nil (IsLow 0) }
+pub leveled_emptied : (s : Stack) → AreLeveled s → AreLeveled (emptied s)
+leveled_emptied s h =
+    let p = λ (e : ScopedDeclaration). is_global e.level in record {
+      first = omega arith;
+      names = All-weaker (λ (e : ScopedDeclaration). is_global e.level ≡ true) (IsLow 0) (λ e is. global_up_to 0 e.level is) (filter p s.names) (filter_passes p s.names);
+      alike = All-filter p (IsAlike s.options.global_declarations) s.names h.alike;
+      early = λ e. (ap (filter p) (h.early e).0, refl);
+    }
 
 pub leveled_empty : AreLeveled empty_stack
-leveled_empty = record { first = omega arith; names = All-nil (IsLow 0) }
+leveled_empty = record { first = omega arith; names = All-nil (IsLow 0); alike = All-nil (IsAlike false); early = λ e. (refl, refl) }
 
 pub leveled_begun : (s : Stack) → AreLeveled s → AreLeveled (begun s)
-leveled_begun s h = record { first = h.first; names = h.names }
+leveled_begun s h = record { first = h.first; names = h.names; alike = h.alike; early = late (begun s) refl }
+
+-- an option that may be set
+pub not_true : (b : Bool) → not b ≡ true → b ≡ false
+not_true true e = absurd (true≢false (sym e))
+not_true false e = refl
+
+pub leveled_option : (s : Stack) (k : Key) (b : Bool) → may_set k s ≡ true → AreLeveled s → AreLeveled (record s { options = with_option k b s.options })
+leveled_option s k b may h = record { first = h.first; names = h.names; alike = alike k may; early = h.early }
+  where
+    none : not s.started ≡ true → All (IsAlike b) s.names
+    none e = subst (λ ns. All (IsAlike b) ns) (sym (h.early (not_true s.started e)).0) (All-nil (IsAlike b))
+
+    alike : (k : Key) → may_set k s ≡ true → All (IsAlike (with_option k b s.options).global_declarations) s.names
+    alike success_key e = h.alike
+    alike models_key e = h.alike
+    alike proofs_key e = h.alike
+    alike assertions_key e = h.alike
+    alike global_key e = none e

@@ -21,7 +21,7 @@ use Rattle.spec_reading.specs.Definitions.{definitions_in}
 use Rattle.spec_sorts.specs.Subterms.{has_room}
 use Rattle.spec_reading.proofs.Offsets.{name_within, sort_within, sorts_within, of_sort_within, definitions_within}
 use Rattle.spec_commands.specs.Commands.{Command, SetLogic, SetOption, SetInfo, DeclareSort, DefineSort, DeclareFun, DefineFun, Assert, Push, Pop, CheckSat, CheckSatAssuming, ResetAssertions, Reset, Echo, Exit, Verb, shaped, verb_of, command_by, command_as, command_of}
-use Rattle.spec_commands.specs.Stack.{Assertion, Stack, Key, Effect, check, Taken, key_named, signature_of, terms_asserted, levels_open, level_limit, logics, truth_in, option_set, roomy, literals_in, performed, step}
+use Rattle.spec_commands.specs.Stack.{Assertion, Stack, Key, Effect, check, Taken, key_named, signature_of, terms_asserted, levels_open, level_limit, logics, truth_in, may_set, option_set, roomy, literals_in, performed, step}
 use Rattle.spec_commands.specs.Literals.{is_proposition, symbol_if, literal_symbol, proposition_by, proposition_of, literal_in}
 use Rattle.spec_commands.proofs.Parts.{PartsWithin, parts_within}
 
@@ -55,7 +55,7 @@ module _ (P : ℕ → Type 0) where
 
   -- an option's value
   option_within : (at : ℕ) (s : Stack) (k : Option Key) (b : Option Bool) → P at → TakenWithin (option_set at s k b)
-  option_within at s (Some k) (Some b) h = tt
+  option_within at s (Some k) (Some b) h = then_within (require (may_set k s) at WrongMode) _ (require_within P _ at WrongMode h) λ early. tt
   option_within at s (Some k) None h = h
   option_within at s None b h = tt
 

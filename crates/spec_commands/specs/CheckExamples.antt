@@ -29,10 +29,13 @@ abbrev pub name_of : Declaration → Name
 name_of (of_sort n s) = n
 name_of (of_function k) = known_name k
 
+-- a declaration's level, and its name
+abbrev pub name_with_level : ScopedDeclaration → Option ℕ × Name
+name_with_level e = (e.level, name_of e.declaration)
+
 -- the names at the k-th check of a script, each with its level
-abbrev pub names_at : ℕ → List ℕ → Option (List (ℕ × Name))
-names_at k text = option_map (λ (c : Check). map {B = ℕ
-    × Name} (λ (e : ScopedDeclaration). (e.level, name_of e.declaration)) c.stack.names) (check_of k text)
+abbrev pub names_at : ℕ → List ℕ → Option (List (Option ℕ × Name))
+names_at k text = option_map (λ (c : Check). map name_with_level c.stack.names) (check_of k text)
 
 -- the options at the k-th check of a script
 abbrev pub options_at : ℕ → List ℕ → Option Options
@@ -204,8 +207,8 @@ pub names_in_order : names_at 1
     (codes "(declare-sort U 0)(declare-const p Bool)(define-sort V () U)"
     ++ codes "(assert (! (and (! p :named n) n) :named m))(assert (and (! p :named k) zz))"
     ++ codes "(define-fun f ((x V)) Bool (! p :named j))(check-sat)")
-    ≡ (Some ((0, codes "U") ∷ (0, codes "p") ∷ (0, codes "V") ∷ (0, codes "n") ∷ (0, codes "m") ∷ (0, codes "j")
-    ∷ (0, codes "f") ∷ []))
+    ≡ Some ((Some 0, codes "U") ∷ (Some 0, codes "p") ∷ (Some 0, codes "V") ∷ (Some 0, codes "n")
+    ∷ (Some 0, codes "m") ∷ (Some 0, codes "j") ∷ (Some 0, codes "f") ∷ [])
 unfolding commands_on_literals
 names_in_order = refl
 
@@ -213,7 +216,8 @@ names_in_order = refl
 pub names_with_levels : names_at 1
     (codes "(declare-const p Bool)(push 2)(declare-const q Bool)(define-fun f () Bool (! q :named n))(push)"
     ++ codes "(declare-sort U 0)(assert (! p :named m))(check-sat)")
-    ≡ (Some ((0, codes "p") ∷ (2, codes "q") ∷ (2, codes "n") ∷ (2, codes "f") ∷ (3, codes "U") ∷ (3, codes "m") ∷ []))
+    ≡ Some ((Some 0, codes "p") ∷ (Some 2, codes "q") ∷ (Some 2, codes "n") ∷ (Some 2, codes "f")
+    ∷ (Some 3, codes "U") ∷ (Some 3, codes "m") ∷ [])
 unfolding commands_on_literals
 names_with_levels = refl
 
@@ -221,7 +225,7 @@ names_with_levels = refl
 pub names_go_with_levels : names_at 1
     (codes "(declare-const p Bool)(push 1)(declare-sort U 0)(declare-const c Bool)(push 1)(declare-const d U)(pop 2)"
     ++ codes "(declare-const c Real)(push)(declare-fun d (Real) Real)(define-sort U () Real)(check-sat)")
-    ≡ (Some ((0, codes "p") ∷ (0, codes "c") ∷ (1, codes "d") ∷ (1, codes "U") ∷ []))
+    ≡ (Some ((Some 0, codes "p") ∷ (Some 0, codes "c") ∷ (Some 1, codes "d") ∷ (Some 1, codes "U") ∷ []))
 unfolding commands_on_literals
 names_go_with_levels = refl
 
@@ -236,7 +240,7 @@ assertions_go_with_levels = refl
 -- `reset-assertions` takes back what is declared and asserted, at all levels
 pub assertions_reset : names_at 1
     (codes "(declare-const p Bool)(assert p)(push 2)(declare-sort U 0)(reset-assertions)(declare-sort p 0)(check-sat)")
-    ≡ Some ((0, codes "p") ∷ [])
+    ≡ Some ((Some 0, codes "p") ∷ [])
 unfolding commands_on_literals
 assertions_reset = refl
 
@@ -249,14 +253,26 @@ nothing_after_reset = refl
 pub options_are_set : options_at 1
     (codes "(set-option :print-success false)(set-option :produce-models true)(set-option :other 5)"
     ++ codes "(set-option :produce-proofs 5)(check-sat)")
-    ≡ Some (record { print_success = false; models = true; proofs = false; assertions = false })
+    ≡ Some (record {
+      print_success = false;
+      models = true;
+      proofs = false;
+      assertions = false;
+      global_declarations = false;
+    })
 unfolding commands_on_literals
 options_are_set = refl
 
 -- they stay when levels are closed and assertions taken back
 pub options_stay : options_at 1
     (codes "(push)(set-option :produce-models true)(pop)(set-option :print-success false)(reset-assertions)(check-sat)")
-    ≡ Some (record { print_success = false; models = true; proofs = false; assertions = false })
+    ≡ Some (record {
+      print_success = false;
+      models = true;
+      proofs = false;
+      assertions = false;
+      global_declarations = false;
+    })
 unfolding commands_on_literals
 options_stay = refl
 
@@ -264,6 +280,12 @@ options_stay = refl
 pub options_reset : options_at 1
     (codes "(set-option :print-success false)(set-option :produce-models true)(declare-const p Bool)(reset)"
     ++ codes "(set-option :produce-proofs true)(check-sat)")
-    ≡ Some (record { print_success = true; models = false; proofs = true; assertions = false })
+    ≡ Some (record {
+      print_success = true;
+      models = false;
+      proofs = true;
+      assertions = false;
+      global_declarations = false;
+    })
 unfolding commands_on_literals
 options_reset = refl

@@ -1,5 +1,5 @@
 -- What holds of what commands leave.
-use Rattle.std.specs.Prelude.{◌≡◌, ◌<◌, ℕ, true, List, [], ◌∷◌, ◌++◌, length, nat_le, All, Ok}
+use Rattle.std.specs.Prelude.{◌≡◌, ◌<◌, ℕ, true, false, List, [], ◌∷◌, ◌++◌, length, nat_le, All, Ok}
 use Rattle.spec_sorts.specs.Terms.{Truth, same_sort, sort_of}
 use Rattle.spec_sorts.specs.Signatures.{Signature, with_definitions}
 use Rattle.spec_reading.specs.Names.{script}
@@ -8,7 +8,7 @@ use Rattle.spec_sorts.specs.Subterms.{subterms_of}
 use Rattle.spec_reading.specs.WellSorted.{AreWellSorted}
 use Rattle.spec_reading.specs.Agreement.{AreSound}
 use Rattle.spec_commands.specs.Stack.{Assertion, ScopedDeclaration, Stack, signature_of, assertions_of, levels_open}
-use Rattle.spec_commands.specs.Stack.{up_to_level}
+use Rattle.spec_commands.specs.Stack.{is_up_to, is_global, up_to_level}
 
 -- the assertion was read with the oldest names of the signature, before those that it made and all later ones
 pub record WasRead (s : Signature) (a : Assertion) : Type 0 where
@@ -43,12 +43,16 @@ pub record AreSoundNames (limit : ℕ) (g : Signature) (assertions : List Assert
   -- the assertions were read, and fit in
   pub assertions_read : All (IsAsserted limit g) assertions
 
--- Names belong to levels that are there.
+-- Names belong to levels that are there, or all are global.
 pub record AreLeveled (s : Stack) : Type 0 where
   -- there is the first level
   pub first : 0 < length s.levels
   -- the level of each name is there
-  pub names : All (λ (e : ScopedDeclaration). nat_le e.level (levels_open s.levels) ≡ true) s.names
+  pub names : All (λ (e : ScopedDeclaration). is_up_to (levels_open s.levels) e.level ≡ true) s.names
+  -- a name is global exactly where the option is set
+  pub alike : All (λ (e : ScopedDeclaration). is_global e.level ≡ s.options.global_declarations) s.names
+  -- at the start there is no name, and no level is open
+  pub early : s.started ≡ false → (s.names ≡ []) × (levels_open s.levels ≡ 0)
 
 -- What holds of names and assertions does at each level: of those up to it.
 pub record AtEachLevel (P : Signature → List Assertion → Type 0) (s : Stack) : Type 0 where

@@ -9,6 +9,7 @@ pub mod Examples
 pub mod CheckExamples
 pub mod OrderExamples
 pub mod LevelExamples
+pub mod GlobalExamples
 pub mod Labels
 pub mod LabelExamples
 pub mod AnswerExamples

@@ -29,10 +29,10 @@ pub record Assertion : Type 0 where
   -- the term that it is read as
   pub term : Term
 
--- A declaration, and the level that it belongs to: 0 for the first one.
+-- A declaration, and the level that it belongs to, or none where it is global. Source: SMT-LIB 2.6, section 4.1.7.
 pub record ScopedDeclaration : Type 0 where
-  -- the number of levels that were open when it was made
-  pub level : ℕ
+  -- the number of levels that were open when it was made: 0 at the first one
+  pub level : Option ℕ
   -- what is declared
   pub declaration : Declaration
 
@@ -46,6 +46,8 @@ pub record Options : Type 0 where
   pub proofs : Bool
   -- `:produce-assertions`
   pub assertions : Bool
+  -- `:global-declarations`: whether what is declared and defined belongs to no level
+  pub global_declarations : Bool
 
 -- What commands leave.
 pub record Stack : Type 0 where
@@ -68,6 +70,7 @@ empty_stack = record {
     models = false;
     proofs = false;
     assertions = false;
+    global_declarations = false;
   };
   started = false;
 }
@@ -105,11 +108,15 @@ with_last (l ∷ m ∷ ls) a = l ∷ with_last (m ∷ ls) a
 abbrev pub begun : Stack → Stack
 begun s = record s { started = true }
 
--- a declaration more, at the last level
-abbrev pub with_declaration : Stack → Declaration → Stack
-with_declaration s d = record s { names = s.names ++ record { level = levels_open s.levels; declaration = d } ∷ [] }
+-- the level of what is declared now: the last one, or none where declarations are global
+abbrev pub level_now : Stack → Option ℕ
+level_now s = if s.options.global_declarations then None else Some (levels_open s.levels)
 
--- definitions more, at the last level
+-- a declaration more
+abbrev pub with_declaration : Stack → Declaration → Stack
+with_declaration s d = record s { names = s.names ++ record { level = level_now s; declaration = d } ∷ [] }
+
+-- definitions more
 abbrev pub with_definitions : Stack → List Definition → Stack
 with_definitions s [] = s
 with_definitions s (d ∷ ds) = with_definitions (with_declaration s (definition d)) ds
@@ -126,17 +133,30 @@ level_limit = 1000000
 abbrev pub with_levels : ℕ → Stack → Stack
 with_levels n s = record s { levels = s.levels ++ replicate n [] }
 
--- the stack up to a level, 0 for the first one: those above it are closed, with what was declared, defined and asserted
--- at them
+-- whether what belongs to a level is there up to another one; what is global is there up to each
+abbrev pub is_up_to : ℕ → Option ℕ → Bool
+is_up_to k None = true
+is_up_to k (Some l) = nat_le l k
+
+-- the stack up to a level, 0 for the first one: those above it are closed, with what was asserted at them, and what was
+-- declared and defined at them and is not global
 abbrev pub up_to_level : ℕ → Stack → Stack
 up_to_level k s = record s {
-  names = filter (λ (e : ScopedDeclaration). nat_le e.level k) s.names;
+  names = filter (λ (e : ScopedDeclaration). is_up_to k e.level) s.names;
   levels = take (suc k) s.levels;
 }
 
--- nothing declared and nothing asserted; the options stay, and so does the start
+-- whether what has this level is global
+abbrev pub is_global : Option ℕ → Bool
+is_global None = true
+is_global (Some l) = false
+
+-- nothing asserted, and nothing declared but what is global; the options stay, and so does the start
 abbrev pub emptied : Stack → Stack
-emptied s = record s { names = []; levels = [] ∷ [] }
+emptied s = record s {
+  names = filter (λ (e : ScopedDeclaration). is_global e.level) s.names;
+  levels = [] ∷ [];
+}
 
 -- the logics that may be set; all have one language. Source: SMT-LIB 2.6, section 4.2.1, and the names of SMT-LIB's
 -- logics.
@@ -159,8 +179,8 @@ truth_in (list at ts end) = None
 
 -- The names of the options that are known.
 pub data Key : Type 0 where
-  -- `print-success`, `produce-models`, `produce-proofs`, `produce-assertions`
-  success_key models_key proofs_key assertions_key : Key
+  -- `print-success`, `produce-models`, `produce-proofs`, `produce-assertions`, `global-declarations`
+  success_key models_key proofs_key assertions_key global_key : Key
 
 -- which name is which
 abbrev pub key_named : Name → Option Key
@@ -169,6 +189,7 @@ key_named n =
     else if bytes_eq n (codes "produce-models") then Some models_key
     else if bytes_eq n (codes "produce-proofs") then Some proofs_key
     else if bytes_eq n (codes "produce-assertions") then Some assertions_key
+    else if bytes_eq n (codes "global-declarations") then Some global_key
     else None
 
 -- the options with one of them set
@@ -177,6 +198,12 @@ with_option success_key b o = record o { print_success = b }
 with_option models_key b o = record o { models = b }
 with_option proofs_key b o = record o { proofs = b }
 with_option assertions_key b o = record o { assertions = b }
+with_option global_key b o = record o { global_declarations = b }
+
+-- whether an option may be set now: whether declarations are global is settled at the start
+abbrev pub may_set : Key → Stack → Bool
+may_set global_key s = not s.started
+may_set k s = true
 
 -- What is answered to a command that is not refused.
 pub data Effect : Type 0 where
@@ -202,7 +229,9 @@ did s = record { effect = done; stack = s }
 
 -- an option set to a value: one that is not known changes nothing, whatever the value is; the command is at an offset
 abbrev pub option_set : ℕ → Stack → Option Key → Option Bool → Answer Taken
-option_set at s (Some k) (Some b) = Ok (did (record s { options = with_option k b s.options }))
+option_set at s (Some k) (Some b) =
+    require (may_set k s) at WrongMode >>= λ early.
+    Ok (did (record s { options = with_option k b s.options }))
 option_set at s (Some k) None = refused at BadShape
 option_set at s None value = Ok (record { effect = unsupported; stack = s })
 

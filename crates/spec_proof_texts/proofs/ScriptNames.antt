@@ -384,7 +384,7 @@ module _ (limit : ℕ) where
   step_named size s t d words e h =
       let a = went (command_of t) _ d e in
       let p = command_prints t a.first words a.was in
-      performed_carried limit (Named size) (Named (size + weight t)) (λ g assertions k. more_named size (weight t) g k) (none_named (size + weight t)) (offset_of t) s a.first d (command_named limit size (weight t) p.0 p.1 a.first p.2) a.then h
+      performed_carried limit (Named size) (Named (size + weight t)) (λ g assertions k. more_named size (weight t) g k) (λ g front more k. k) (none_named (size + weight t)) (offset_of t) s a.first d (command_named limit size (weight t) p.0 p.1 a.first p.2) a.then h
 
   -- and so is what is at a check
   pub current_named : (size : ℕ) (s : Stack) (k : ℕ) (ts : Trees) (c : Check) → HaveWords ts → current_at limit s k ts ≡ Some c → AtEachLevel (Named size) s → AtEachLevel (Named (size + weight_all ts)) c.stack

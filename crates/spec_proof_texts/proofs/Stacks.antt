@@ -58,7 +58,7 @@ module _ (decimal : ReadDecimals) where
 
     -- what a command leaves
     pub step_good : (s : Stack) (t : Tree) (d : Taken) → step limit s t ≡ Ok d → GoodStack s → GoodStack d.stack
-    step_good s t d e h = step_carried limit GoodNames tt command_good s t d e h
+    step_good s t d e h = step_carried limit GoodNames (λ g front more k. k) tt command_good s t d e h
 
     -- and what is at a check
     pub current_good : (s : Stack) (k : ℕ) (ts : Trees) (c : Check) → current_at limit s k ts ≡ Some c → GoodStack s → GoodStack c.stack

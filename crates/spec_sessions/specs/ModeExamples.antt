@@ -163,10 +163,10 @@ unfolding commands_on_literals answers_of value_question only_keyword
 at_first = refl
 
 -- options and information
-pub settings : replies (codes "(set-option :print-success false)(push 2)" ∷ []) []
-    (codes "(get-option :print-success)(get-option :produce-models)(get-option :other)(get-info :name)"
+pub settings : replies (codes "(set-option :print-success false)(set-option :global-declarations true)(push 2)" ∷ [])
+    [] (codes "(get-option :print-success)(get-option :global-declarations)(get-option :other)(get-info :name)"
     ++ codes "(get-info :assertion-stack-levels)(get-info :other)")
-    ≡ Some (Ok (says (codes "false\n"))) ∷ Some (Ok (says (codes "false\n"))) ∷ Some (Ok not_known)
+    ≡ Some (Ok (says (codes "false\n"))) ∷ Some (Ok (says (codes "true\n"))) ∷ Some (Ok not_known)
     ∷ Some (Ok (says (codes "(:name \"smt_cli\")\n"))) ∷ Some (Ok (says (codes "(:assertion-stack-levels 2)\n")))
     ∷ Some (Ok not_known) ∷ []
 unfolding commands_on_literals answers_of only_keyword digits

@@ -17,6 +17,7 @@ use Rattle.spec_sorts.specs.Subterms.{has_room}
 use Rattle.spec_reading.specs.Names.{elsewhere}
 use Rattle.spec_reading.specs.Reading.{readings}
 use Rattle.spec_commands.specs.Stack.{Assertion, Options, Key, success_key, models_key, proofs_key, assertions_key}
+use Rattle.spec_commands.specs.Stack.{global_key}
 use Rattle.spec_commands.specs.Stack.{key_named, signature_of, assertions_of, levels_open}
 use Rattle.spec_models.specs.Values.{in_list, value_tree}
 use Rattle.spec_models.specs.Models.{model_text}
@@ -87,6 +88,7 @@ option_value success_key o = o.print_success
 option_value models_key o = o.models
 option_value proofs_key o = o.proofs
 option_value assertions_key o = o.assertions
+option_value global_key o = o.global_declarations
 
 -- its line
 abbrev pub truth_line : Bool → List ℕ
