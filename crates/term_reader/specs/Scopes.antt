@@ -1,5 +1,6 @@
 -- What a scope holds, and the signature that it represents in a table.
-use Rattle.std.specs.Prelude.{◌≡◌, ◌+◌, ◌++◌, List, [], length, Option, Some, None}
+use Rattle.std.specs.Prelude.{◌≡◌, ℕ, suc, ◌+◌, max, ◌++◌, List, [], ◌∷◌, length, Option, Some, None, nat_lt}
+use Rattle.std.specs.Prelude.{if◌then◌else◌}
 use Rattle.spec_text.specs.Bytes.{Name}
 use Rattle.spec_sorts.specs.Terms.{Sort}
 use Rattle.spec_sorts.specs.Theory.{look_up}
@@ -44,6 +45,16 @@ sort_under v n = look_up (newest v.sort_names v.sorts) n
 -- the function that a name stands for
 abbrev pub function_under : ScopeView → Name → Option Function
 function_under v n = look_up (newest v.names v.functions) n
+
+-- one past the number of a function's body, where that is below a length; else 0
+abbrev pub body_end : ℕ → Function → ℕ
+body_end len (Declared id) = 0
+body_end len (Defined m) = if nat_lt m.body.0 len then suc m.body.0 else 0
+
+-- how many of the first terms the bodies of functions are among: one past the greatest number of those below a length
+abbrev pub terms_needed : ℕ → List Function → ℕ
+terms_needed len [] = 0
+terms_needed len (f ∷ fs) = max (body_end len f) (terms_needed len fs)
 
 -- the sort is there, and is that one
 abbrev pub SortMeans : TableView → Option TableSort → Option Sort → Type 0

@@ -1,7 +1,7 @@
 //! What names stand for.
 
 ghost use Rattle.std.specs.Prelude.{◌≡◌, ◌+◌, ◌++◌, [], ◌∷◌, length, take, nat_le, option_map, OnOk, OnErr};
-ghost use Rattle.term_reader.specs.Scopes.{no_names, sort_under, function_under};
+ghost use Rattle.term_reader.specs.Scopes.{no_names, sort_under, function_under, body_end, terms_needed};
 
 use crate::name_stack::NameStack;
 use no_memory::NoMemory;
@@ -56,6 +56,34 @@ impl Model for Scope {
     } };
 
     ghost invariant = { λ s. IsScope s.sort_names s.sorts.items s.names s.functions.items };
+}
+
+/// Gives one past the number of a function's body, where that is below `len`; else 0.
+fn body_end(function: &Function, len: u64) -> u64
+    ensures { result ≡ body_end len function.now }
+{
+    match function {
+        Function::Declared(_) => 0,
+        Function::Defined(defined) => {
+            if defined.body.0 < len {
+                return defined.body.0 + 1;
+            }
+            0
+        }
+    }
+}
+
+/// Counts how many of the first terms the bodies of functions are among, of those whose numbers are below `len`.
+fn needed_by(functions: &[Function], len: u64) -> u64
+    ensures { result ≡ terms_needed len functions.now }
+{
+    let mut needed = 0;
+    let mut rest = functions;
+    'functions: while let Some((function, after)) = rest.split_first() {
+        needed = body_end(function, len).max(needed);
+        rest = after;
+    }
+    needed
 }
 
 impl Scope {
@@ -159,6 +187,14 @@ impl Scope {
     {
         let sorts = self.sort_names.len() as u64;
         sorts <= limit && self.names.len() as u64 <= limit - sorts
+    }
+
+    /// Counts how many of the first `len` terms definitions need: one past the greatest number that a body has below `len`,
+    /// and 0 where none has. It takes no memory, and its time goes with the names of functions.
+    pub fn terms_needed(&self, len: u64) -> u64
+        ensures { result ≡ terms_needed len self.now.functions }
+    {
+        needed_by(self.functions.as_slice(), len)
     }
 
     /// Takes away all names of sorts after the first `sorts`, and of functions after the first `functions`, none where
