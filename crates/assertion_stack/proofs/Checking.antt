@@ -58,7 +58,7 @@ module _ (limit at : ℕ) (s : Stack) where
   roomy_none ts n = in_turn GivesNone fault_none _ _ (λ u _. done_none n)
 
   option_none : (k : Option Key) (b : Option Bool) → GivesNone (option_set at s k b)
-  option_none (Some k) (Some b) = done_none (record s { options = with_option k b s.options })
+  option_none (Some k) (Some b) = in_turn GivesNone fault_none _ _ (λ u _. done_none (record s { options = with_option k b s.options }))
   option_none (Some k) None = fault_none (record { offset = at; fault = BadShape })
   option_none None b = unsupported_none s
 

@@ -1,15 +1,16 @@
 -- What a cut to a mark leaves, and marks of levels that are opened and closed.
-use Rattle.std.proofs.Common.{◌≡◌, ℕ, ◌-◌, ◌≤◌, ◌<◌, Bool, List, [], ◌++◌, length, take, replicate, refl, sym, ap, ◌∙◌, subst, ⊎_elim, arith, length-append}
+use Rattle.std.proofs.Common.{◌≡◌, ℕ, ◌-◌, ◌≤◌, ◌<◌, Bool, List, [], ◌++◌, length, take, replicate, refl, sym, ap, ◌∙◌, subst, ⊎_elim, inl, inr, ◌⊎◌, true, false, not, All, arith, length-append}
 use Rattle.std.proofs.lemmas.Bool.{cases_lt}
-use Rattle.std.proofs.lemmas.List.{append-nil, take-append-le, take_all, take-take, length-take-le, length-replicate, get_or-take, get_or_append_left, get_or-append_right, get_or-replicate}
-use Rattle.spec_commands.specs.Stack.{Stack, Options, signature_of, assertions_of, levels_open, with_levels, up_to_level}
+use Rattle.std.proofs.lemmas.List.{append-nil, take-append-le, take_all, take-take, length-take-le, length-replicate, length-map, get_or-take, get_or_append_left, get_or-append_right, get_or-replicate}
+use Rattle.spec_commands.specs.Stack.{Assertion, Stack, Options, Key, success_key, models_key, proofs_key, assertions_key, global_key, signature_of, assertions_of, levels_open, begun, with_levels, up_to_level, with_option, may_set}
 use Rattle.spec_commands.specs.Kept.{AreLeveled}
-use Rattle.spec_commands.proofs.Levels.{up_to_twice, up_to_pushed, same_up_to_pushed, open_up_to, open_pushed, leveled_pushed, leveled_up_to}
-use Rattle.term_core.specs.Tables.{TableView, Extends}
+use Rattle.spec_commands.proofs.Levels.{up_to_twice, up_to_pushed, same_up_to_pushed, open_up_to, open_pushed, leveled_pushed, leveled_up_to, leveled_begun, leveled_option, not_true}
+use Rattle.term_core.specs.declared.ids.TermId.{TermId}
+use Rattle.term_core.specs.Tables.{TableView, term_at, Extends}
 use Rattle.term_core.specs.Uses.{UsesDeclared}
 use Rattle.term_reader.specs.Scopes.{IsScope}
 use Rattle.assertion_stack.specs.declared.marks.Mark.{Mark}
-use Rattle.assertion_stack.specs.Levels.{Contents, States, mark_of, no_mark, mark_at, cut_to, IsWithin, HasLevel, AreMarked}
+use Rattle.assertion_stack.specs.Levels.{Contents, States, mark_of, no_mark, mark_at, cut_to, IsWithin, HasLevel, HasAssertions, AreMarked}
 
 -- one list is the beginning of another
 abbrev pub Begins : {A : Type 0} → List A → List A → Type 0
@@ -160,49 +161,79 @@ level_kept m c d s t cut names assertions h = record {
       (subst (λ g. States (cut_to m c) g (assertions_of t)) (sym names) (subst (λ a. States (cut_to m c) (signature_of s) a) (sym assertions) h.states));
 }
 
+-- the same assertions up to a mark
+asserted_kept : (m : Mark) (c d : Contents) (s t : Stack) → take m.assertions d.assertions.ids ≡ take m.assertions c.assertions.ids → assertions_of t ≡ assertions_of s → HasAssertions m c s → HasAssertions m d t
+asserted_kept m c d s t ids same h = record { count = ap length same ∙ h.count; inside = subst (All (λ (id : TermId). id.0 < m.terms)) (sym ids) h.inside }
+
 module _ (marks : List Mark) (c : Contents) (s : Stack) (h : AreMarked marks c s) where
-  -- what is stated at the last level changes no mark
-  pub marks_grown : (d : Contents) (t : Stack) → Grows c d → AreLeveled t → levels_open t.levels ≡ levels_open s.levels → ((k : ℕ) → k < levels_open s.levels → up_to_level k t ≡ up_to_level k s) → AreMarked marks d t
-  marks_grown d t more leveled same below = record {
+  -- what is stated at the last level changes no mark, nor do names that are global
+  pub marks_grown : (d : Contents) (t : Stack) → Grows c d → AreLeveled t → levels_open t.levels ≡ levels_open s.levels → t.options.global_declarations ≡ s.options.global_declarations → ((k : ℕ) → k < levels_open s.levels → assertions_of (up_to_level k t) ≡ assertions_of (up_to_level k s))
+      → (s.options.global_declarations ≡ false → (k : ℕ) → k < levels_open s.levels → signature_of (up_to_level k t) ≡ signature_of (up_to_level k s)) → AreMarked marks d t
+  marks_grown d t more leveled same option assertions names = record {
     leveled = leveled;
     count = h.count ∙ sym same;
-    below = λ k lt.
-        let e = below k (omega (arith, lt, h.count)) in
-        level_kept (mark_at marks k) c d (up_to_level k s) (up_to_level k t) (more.cuts (mark_at marks k) (h.within k lt)) (ap signature_of e) (ap assertions_of e) (h.below k lt);
+    below = λ off k lt.
+        let local = sym option ∙ off in
+        let low : k < levels_open s.levels = omega (arith, lt, h.count) in
+        level_kept (mark_at marks k) c d (up_to_level k s) (up_to_level k t) (more.cuts (mark_at marks k) (h.within k lt)) (names local k low) (assertions k low) (h.below local k lt);
+    asserted = λ k lt. asserted_kept (mark_at marks k) c d (up_to_level k s) (up_to_level k t) (ap (λ (x : Contents). x.assertions.ids) (more.cuts (mark_at marks k) (h.within k lt))) (assertions k (omega (arith, lt, h.count))) (h.asserted k lt);
     within = λ k lt. within_both (mark_at marks k) (mark_of c) (mark_of d) (h.within k lt) more.within;
     rising = h.rising;
   }
 
   -- nor do options, and whether a command has begun it
-  pub marks_same : (o : Options) (b : Bool) → AreMarked marks c (record s { options = o; started = b })
-  marks_same o b = record {
-    leveled = record { first = h.leveled.first; names = h.leveled.names };
+  marks_same : (o : Options) (b : Bool) → AreLeveled (record s { options = o; started = b }) → (o.global_declarations ≡ false → (s.options.global_declarations ≡ false) ⊎ (levels_open s.levels ≡ 0)) → AreMarked marks c (record s { options = o; started = b })
+  marks_same o b leveled local = record {
+    leveled = leveled;
     count = h.count;
-    below = λ k lt. level_kept (mark_at marks k) c c (up_to_level k s) (up_to_level k (record s { options = o; started = b })) refl refl refl (h.below k lt);
+    below = λ off k lt.
+        ⊎_elim (λ was. level_kept (mark_at marks k) c c (up_to_level k s) (up_to_level k (record s { options = o; started = b })) refl refl refl (h.below was k lt))
+        (λ none. absurd (omega (arith, lt, h.count, none))) (local off);
+    asserted = λ k lt. asserted_kept (mark_at marks k) c c (up_to_level k s) (up_to_level k (record s { options = o; started = b })) refl refl (h.asserted k lt);
     within = h.within;
     rising = h.rising;
   }
 
-  -- levels that are closed
-  pub marks_closed : (k : ℕ) → k < length marks → AreMarked (take k marks) (cut_to (mark_at marks k) c) (up_to_level k s)
-  marks_closed k lt =
-      let m = mark_at marks k in
+  pub marks_begun : AreMarked marks c (begun s)
+  marks_begun = marks_same s.options true (leveled_begun s h.leveled) (λ off. inl off)
+
+  pub marks_set : (k : Key) (b : Bool) → may_set k s ≡ true → AreMarked marks c (record s { options = with_option k b s.options })
+  marks_set k b may = marks_same (with_option k b s.options) s.started (leveled_option s k b may h.leveled) (local k may)
+    where
+      none : not s.started ≡ true → levels_open s.levels ≡ 0
+      none e = (h.leveled.early (not_true s.started e)).1
+
+      local : (k : Key) → may_set k s ≡ true → (with_option k b s.options).global_declarations ≡ false → (s.options.global_declarations ≡ false) ⊎ (levels_open s.levels ≡ 0)
+      local success_key e off = inl off
+      local models_key e off = inl off
+      local proofs_key e off = inl off
+      local assertions_key e off = inl off
+      local global_key e off = inr (none e)
+
+  -- levels that are closed, where so much stays
+  pub marks_closed : (k : ℕ) → k < length marks → (m : Mark) → IsWithin m (mark_of c) → ((j : ℕ) → j < k → IsWithin (mark_at marks j) m) → AreMarked (take k marks) (cut_to m c) (up_to_level k s)
+  marks_closed k lt m less each =
       let first = h.leveled.first in
       let long : length (take k marks) ≡ k = length-take-le k marks (omega (arith, lt)) in
-      let at : (j : ℕ) → j < k → mark_at (take k marks) j ≡ mark_at marks j = λ j less. get_or-take k marks j no_mark less in
-      let low : (j : ℕ) → j < length (take k marks) → j < k = λ j less. omega (arith, less, long) in record {
+      let at : (j : ℕ) → j < k → mark_at (take k marks) j ≡ mark_at marks j = λ j lower. get_or-take k marks j no_mark lower in
+      let low : (j : ℕ) → j < length (take k marks) → j < k = λ j lower. omega (arith, lower, long) in record {
         leveled = leveled_up_to k s h.leveled;
         count = long ∙ sym (open_up_to k s first (omega (arith, lt, h.count)));
-        below = λ j less.
-            let under = low j less in
+        below = λ off j lower.
+            let under = low j lower in
             let e = up_to_twice j k s (omega (arith, under)) in
             subst (λ n. HasLevel n (cut_to m c) (up_to_level j (up_to_level k s))) (sym (at j under))
-            (level_kept (mark_at marks j) c (cut_to m c) (up_to_level j s) (up_to_level j (up_to_level k s)) (cut_twice (mark_at marks j) m c (h.rising j k under lt)) (ap signature_of e) (ap assertions_of e) (h.below j (omega (arith, under, lt))));
-        within = λ j less.
-            let under = low j less in
-            subst (λ n. IsWithin n (mark_of (cut_to m c))) (sym (at j under)) (subst (IsWithin (mark_at marks j)) (sym (mark_cut m c (h.within k lt))) (h.rising j k under lt));
-        rising = λ i j before less.
-            let under = low j less in
+            (level_kept (mark_at marks j) c (cut_to m c) (up_to_level j s) (up_to_level j (up_to_level k s)) (cut_twice (mark_at marks j) m c (each j under)) (ap signature_of e) (ap assertions_of e) (h.below off j (omega (arith, under, lt))));
+        asserted = λ j lower.
+            let under = low j lower in
+            let e = up_to_twice j k s (omega (arith, under)) in
+            subst (λ n. HasAssertions n (cut_to m c) (up_to_level j (up_to_level k s))) (sym (at j under))
+            (asserted_kept (mark_at marks j) c (cut_to m c) (up_to_level j s) (up_to_level j (up_to_level k s)) (ap (λ (x : Contents). x.assertions.ids) (cut_twice (mark_at marks j) m c (each j under))) (ap assertions_of e) (h.asserted j (omega (arith, under, lt))));
+        within = λ j lower.
+            let under = low j lower in
+            subst (λ n. IsWithin n (mark_of (cut_to m c))) (sym (at j under)) (subst (IsWithin (mark_at marks j)) (sym (mark_cut m c less)) (each j under));
+        rising = λ i j before lower.
+            let under = low j lower in
             subst (λ n. IsWithin n (mark_at (take k marks) j)) (sym (at i (omega (arith, before, under))))
             (subst (IsWithin (mark_at marks i)) (sym (at j under)) (h.rising i j before (omega (arith, under, lt))));
       }
@@ -230,23 +261,44 @@ module _ (marks : List Mark) (c : Contents) (s : Stack) (h : AreMarked marks c s
           states = subst (λ (x : Contents). States x (signature_of s) (assertions_of s)) (sym whole) states;
         })
 
-    pub marks_opened : AreMarked (opened n) c (with_levels n s)
-    marks_opened = record {
-      leveled = leveled_pushed n s h.leveled;
+    assertions_new : (k : ℕ) → length marks ≤ k → HasAssertions (mark_of c) c (up_to_level k (with_levels n s))
+    assertions_new k le =
+        let same = same_up_to_pushed n k s (omega (arith, le, h.count)) h.leveled in
+        record {
+          count = ap length same.1 ∙ sym (length-map (assertions_of s) (λ (a : Assertion). a.term)) ∙ sym (ap length states.terms) ∙ length-map c.assertions.ids (term_at c.table);
+          inside = subst (All (λ (id : TermId). id.0 < length c.table.terms)) (sym (take_all (length c.assertions.ids) c.assertions.ids (omega arith))) states.inside;
+        }
+
+    pub marks_opened : s.started ≡ true → AreMarked (opened n) c (with_levels n s)
+    marks_opened on = record {
+      leveled = leveled_pushed n s on h.leveled;
       count = omega (arith, length-append marks (replicate n (mark_of c)), length-replicate n (mark_of c), h.count, open_pushed n s h.leveled.first);
       below = below;
+      asserted = asserted;
       within = within;
       rising = rising;
     }
       where
-        below : (k : ℕ) → k < length (opened n) → HasLevel (mark_at (opened n) k) c (up_to_level k (with_levels n s))
-        below k lt = ⊎_elim old new (cases_lt k (length marks))
+        asserted : (k : ℕ) → k < length (opened n) → HasAssertions (mark_at (opened n) k) c (up_to_level k (with_levels n s))
+        asserted k lt = ⊎_elim old new (cases_lt k (length marks))
+          where
+            old : k < length marks → HasAssertions (mark_at (opened n) k) c (up_to_level k (with_levels n s))
+            old less =
+                let e = up_to_pushed n k s h.leveled.first (omega (arith, less, h.count)) h.leveled in
+                subst (λ m. HasAssertions m c (up_to_level k (with_levels n s))) (sym (old_mark k less))
+                (asserted_kept (mark_at marks k) c c (up_to_level k s) (up_to_level k (with_levels n s)) refl (ap assertions_of e) (h.asserted k less))
+
+            new : length marks ≤ k → HasAssertions (mark_at (opened n) k) c (up_to_level k (with_levels n s))
+            new le = subst (λ m. HasAssertions m c (up_to_level k (with_levels n s))) (sym (new_mark k le lt)) (assertions_new k le)
+
+        below : s.options.global_declarations ≡ false → (k : ℕ) → k < length (opened n) → HasLevel (mark_at (opened n) k) c (up_to_level k (with_levels n s))
+        below off k lt = ⊎_elim old new (cases_lt k (length marks))
           where
             old : k < length marks → HasLevel (mark_at (opened n) k) c (up_to_level k (with_levels n s))
             old less =
                 let e = up_to_pushed n k s h.leveled.first (omega (arith, less, h.count)) h.leveled in
                 subst (λ m. HasLevel m c (up_to_level k (with_levels n s))) (sym (old_mark k less))
-                (level_kept (mark_at marks k) c c (up_to_level k s) (up_to_level k (with_levels n s)) refl (ap signature_of e) (ap assertions_of e) (h.below k less))
+                (level_kept (mark_at marks k) c c (up_to_level k s) (up_to_level k (with_levels n s)) refl (ap signature_of e) (ap assertions_of e) (h.below off k less))
 
             new : length marks ≤ k → HasLevel (mark_at (opened n) k) c (up_to_level k (with_levels n s))
             new le = subst (λ m. HasLevel m c (up_to_level k (with_levels n s))) (sym (new_mark k le lt)) (at_new k le)
@@ -270,7 +322,8 @@ pub none_marked : (c : Contents) (s : Stack) → AreLeveled s → levels_open s.
 none_marked c s leveled none = record {
   leveled = leveled;
   count = sym none;
-  below = λ k lt. absurd (omega (arith, lt));
+  below = λ off k lt. absurd (omega (arith, lt));
+  asserted = λ k lt. absurd (omega (arith, lt));
   within = λ k lt. absurd (omega (arith, lt));
   rising = λ j k before lt. absurd (omega (arith, lt));
 }

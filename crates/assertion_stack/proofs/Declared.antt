@@ -21,8 +21,8 @@ use Rattle.term_reader.specs.Scopes.{IsScope, ScopeMeans}
 use Rattle.assertion_stack.specs.declared.stack.Stack.{Stack as CodeStack}
 use Rattle.assertion_stack.specs.Levels.{Contents, States, AreMarked}
 use Rattle.assertion_stack.specs.Stacks.{options_meant, over_table, contents, IsStack, with_sort, with_function}
-use Rattle.assertion_stack.proofs.Cuts.{itself, HasMore, grows, marks_grown, marks_same}
-use Rattle.assertion_stack.proofs.Stacks.{even_stated}
+use Rattle.assertion_stack.proofs.Cuts.{itself, HasMore, grows, marks_grown}
+use Rattle.assertion_stack.proofs.Stacks.{even_stated, begun_stack}
 use Rattle.assertion_stack.proofs.Naming.{sort_last, sort_before, means_sort, means_symbol}
 
 -- a table with a sort more
@@ -44,12 +44,13 @@ module _ (limit : ℕ) (old new : TableView) (x : CodeStack) (s : Stack) (h : Is
   with_name y d same more states =
       let c : Contents = contents (over_table old x) in
       let e : Contents = contents (over_table new y) in
-      let next : Stack = with_declaration s d in
+      let began = begun_stack limit old x s h in
+      let next : Stack = with_declaration (begun s) d in
       let marked : AreMarked x.marks e next =
-      marks_grown x.marks c s h.marked e next (grows c e (even_stated limit (over_table old x) s h long) more) (leveled_declared s d h.marked.leveled) refl (λ k lt. up_to_declared k s d lt) in record {
+      marks_grown x.marks c (begun s) began.marked e next (grows c e (even_stated limit (over_table old x) s h long) more) (leveled_declared (begun s) d refl began.marked.leveled) refl refl (λ k lt. refl) (λ off k lt. ap signature_of (up_to_declared k (begun s) d off lt)) in record {
         limit_is = ap (λ (z : CodeStack). z.limit) same ∙ h.limit_is;
         states = states;
-        marked = subst (λ ms. AreMarked ms e (begun next)) (sym (ap (λ (z : CodeStack). z.marks) same)) (marks_same x.marks e next marked s.options true);
+        marked = subst (λ ms. AreMarked ms e next) (sym (ap (λ (z : CodeStack). z.marks) same)) marked;
         options = ap (λ (z : CodeStack). options_meant z.options) same ∙ h.options;
         started = ap (λ (z : CodeStack). z.started) same;
       }

@@ -9,6 +9,7 @@ pub mod WrittenColumns
 pub mod Growing
 pub mod Naming
 pub mod Cuts
+pub mod Globals
 pub mod Stacks
 pub mod Leveled
 pub mod Declared

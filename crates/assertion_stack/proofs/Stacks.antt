@@ -1,5 +1,5 @@
 -- What commands make of a stack.
-use Rattle.std.proofs.Common.{◌≡◌, ℕ, ◌+◌, Bool, true, false, not, ◌&&◌, List, [], ◌∷◌, ◌++◌, length, Some, refl, sym, ap, ◌∙◌, subst, arith, length-append}
+use Rattle.std.proofs.Common.{◌≡◌, ℕ, suc, ◌+◌, take, Bool, true, false, not, ◌&&◌, List, [], ◌∷◌, ◌++◌, length, Some, refl, sym, ap, ◌∙◌, subst, arith, length-append}
 use Rattle.std.specs.Prelude.{Ok, Err, nat_le, nat_lt}
 use Rattle.std.proofs.lemmas.Bool.Decides.{nat_tests}
 use Rattle.std.proofs.lemmas.List.{append-nil, map-append, length-map}
@@ -19,10 +19,10 @@ use Rattle.spec_reading.specs.Names.{Setting, script, new_name, is_function, is_
 use Rattle.spec_reading.specs.Sorts.{sort_in, sorts_in}
 use Rattle.spec_reading.specs.Reading.{Reading, reading_of_sort}
 use Rattle.spec_reading.specs.Definitions.{Parts, definitions_in}
-use Rattle.spec_commands.specs.Commands.{SetLogic, DeclareSort, DefineSort, DeclareFun, DefineFun, Assert}
-use Rattle.spec_commands.specs.Stack.{Assertion, Stack, Key, did, empty_stack, signature_of, assertions_of, terms_asserted, begun, with_declaration, with_definitions, with_assertion, logics, with_option, roomy, terms_defined, performed, levels_open}
+use Rattle.spec_commands.specs.Commands.{SetLogic, SetOption, DeclareSort, DefineSort, DeclareFun, DefineFun, Assert}
+use Rattle.spec_commands.specs.Stack.{Assertion, Stack, Key, did, empty_stack, signature_of, assertions_of, terms_asserted, begun, with_declaration, with_definitions, with_assertion, logics, key_named, truth_in, with_option, may_set, option_set, roomy, terms_defined, performed, joined, levels_open}
 use Rattle.spec_commands.proofs.Kept.{signature_last, signature_with}
-use Rattle.spec_commands.proofs.Levels.{open_last, up_to_defined, up_to_asserted, leveled_empty, leveled_defined, leveled_asserted}
+use Rattle.spec_commands.proofs.Levels.{open_last, levels_with, options_with, begun_defined, up_to_defined, up_to_asserted, leveled_empty, leveled_defined, leveled_asserted}
 use Rattle.term_core.specs.declared.ids.TermId.{TermId}
 use Rattle.term_core.specs.Tables.{TableView, term_at, IsIn, AreIn, clause_at}
 use Rattle.term_core.proofs.TermsExtend.{AreIn-kept, clause_at-kept, Extends-self}
@@ -41,7 +41,7 @@ use Rattle.assertion_stack.specs.Views.{Fails}
 use Rattle.assertion_stack.specs.Levels.{Contents, States, AreMarked}
 use Rattle.assertion_stack.specs.Stacks.{options_meant, OverTable, over_table, contents, IsStack, with_asserted}
 use Rattle.assertion_stack.proofs.Lasts.{rest_with, sorts_with, terms_last, written_last}
-use Rattle.assertion_stack.proofs.Cuts.{itself, AreEven, HasMore, table_grows, grows, marks_grown, marks_same, none_marked}
+use Rattle.assertion_stack.proofs.Cuts.{itself, AreEven, HasMore, table_grows, grows, marks_grown, marks_begun, marks_set, none_marked}
 
 -- what is stated, in a table that has terms more
 states_grown : (old new : TableView) (v : ScopeView) (a : AssertionsView) (g : Signature) (asserted : List Assertion) → KeepsTable old new → States (record { table = old; scope = v; assertions = a }) g asserted → States (record { table = new; scope = v; assertions = a }) g asserted
@@ -60,7 +60,7 @@ stack_grown limit old new x s h k =
     let c : Contents = contents (over_table old x) in record {
       limit_is = h.limit_is;
       states = states_grown old new x.scope x.assertions (signature_of s) (assertions_of s) k h.states;
-      marked = marks_grown x.marks c s h.marked (record c { table = new }) s (table_grows c new k.extends) h.marked.leveled refl (λ n lt. refl);
+      marked = marks_grown x.marks c s h.marked (record c { table = new }) s (table_grows c new k.extends) h.marked.leveled refl refl (λ n lt. refl) (λ off n lt. refl);
       options = h.options;
       started = h.started;
     }
@@ -90,14 +90,14 @@ first_stack limit t x l scope sorts symbols assertions marks options started =
 module _ (limit : ℕ) (t : TableView) (x : CodeStack) (s : Stack) (h : IsStack limit (over_table t x) s) where
   -- the start is over
   pub begun_stack : IsStack limit (over_table t (record x { started = true })) (begun s)
-  begun_stack = record { limit_is = h.limit_is; states = h.states; marked = marks_same x.marks (contents (over_table t x)) s h.marked s.options true; options = h.options; started = refl }
+  begun_stack = record { limit_is = h.limit_is; states = h.states; marked = marks_begun x.marks (contents (over_table t x)) s h.marked; options = h.options; started = refl }
 
   -- an option is set
-  pub option_stack : (k : Key) (b : Bool) (o : CodeOptions) → options_meant o ≡ with_option k b (options_meant x.options) → IsStack limit (over_table t (record x { options = o })) (record s { options = with_option k b s.options })
-  option_stack k b o e = record {
+  pub option_stack : (k : Key) (b : Bool) (o : CodeOptions) → may_set k s ≡ true → options_meant o ≡ with_option k b (options_meant x.options) → IsStack limit (over_table t (record x { options = o })) (record s { options = with_option k b s.options })
+  option_stack k b o may e = record {
     limit_is = h.limit_is;
     states = h.states;
-    marked = marks_same x.marks (contents (over_table t x)) s h.marked (with_option k b s.options) s.started;
+    marked = marks_set x.marks (contents (over_table t x)) s h.marked k b may;
     options = e ∙ ap (with_option k b) h.options;
     started = h.started;
   }
@@ -135,6 +135,22 @@ module _ (limit at : ℕ) (s : Stack) (w : Word) where
   pub logic_set : is_reserved w.kind ≡ false → among logics w.bytes ≡ true → s.started ≡ false → performed limit at s (SetLogic w) ≡ Ok (did (begun s))
   unfolding require ◌>>=◌
   logic_set e f g = logic_by false true false e f g
+
+-- setting an option, by its name and its value
+module _ (limit at : ℕ) (s : Stack) (n : Name) (v : Tree) (k : Key) (b : Bool) (key : key_named n ≡ Some k) (value : truth_in v ≡ Some b) where
+  abbrev set_to : Stack
+  set_to = record s { options = with_option k b s.options }
+
+  option_by : (c : Bool) → may_set k s ≡ c → performed limit at s (SetOption n v) ≡ (require c at WrongMode >>= λ early. Ok (did set_to))
+  option_by c e = (λ i. option_set at s (key i) (value i)) ∙ ap (λ d. require d at WrongMode >>= λ early. Ok (did set_to)) e
+
+  pub option_late : may_set k s ≡ false → performed limit at s (SetOption n v) ≡ refused at WrongMode
+  unfolding require ◌>>=◌
+  option_late e = option_by false e
+
+  pub option_done : may_set k s ≡ true → performed limit at s (SetOption n v) ≡ Ok (did set_to)
+  unfolding require ◌>>=◌
+  option_done e = option_by true e
 
 -- declaring and defining sorts, by their parts
 module _ (limit at : ℕ) (s : Stack) (w : Word) where
@@ -287,9 +303,10 @@ module _ (limit : ℕ) (old new : TableView) (x : CodeStack) (s : Stack) (v : Sc
         written = g.written ∙ ap (λ (y : Stack). all_written (assertions_of y)) (sym (rest_with s ds));
       }
 
-  -- definitions more
-  pub named : IsScope x.scope.sort_names x.scope.sorts x.scope.names x.scope.functions → IsStack limit (over_table new (record x { scope = v })) (with_definitions s ds)
+  -- definitions more, by a command that ends the start
+  pub named : IsScope x.scope.sort_names x.scope.sorts x.scope.names x.scope.functions → IsStack limit (over_table new (record x { scope = v; started = true })) (begun (with_definitions s ds))
   named long =
+      let began = begun_stack limit old x s h in
       let c : Contents = contents (over_table old x) in
       let d : Contents = contents (over_table new (record x { scope = v })) in
       let w = grown.widens in
@@ -304,11 +321,12 @@ module _ (limit : ℕ) (old new : TableView) (x : CodeStack) (s : Stack) (v : Sc
       } in record {
         limit_is = h.limit_is;
         states = named_stated;
-        marked =
-            marks_grown x.marks c s h.marked d (with_definitions s ds) (grows c d (even_stated limit (over_table old x) s h long) more) (leveled_defined s ds h.marked.leveled)
-            (ap (λ (y : Stack). levels_open y.levels) (rest_with s ds)) (λ k lt. up_to_defined k s ds lt);
+        marked = subst (AreMarked x.marks d) (begun_defined s ds)
+            (marks_grown x.marks c (begun s) began.marked d (with_definitions (begun s) ds) (grows c d (even_stated limit (over_table old x) s h long) more) (leveled_defined (begun s) ds refl began.marked.leveled)
+            (ap levels_open (levels_with (begun s) ds)) (ap (λ o. o.global_declarations) (options_with (begun s) ds)) (λ k lt. ap (λ ls. joined (take (suc k) ls)) (levels_with (begun s) ds))
+            (λ off k lt. ap signature_of (up_to_defined k (begun s) ds off lt)));
         options = h.options ∙ ap (λ (y : Stack). y.options) (sym (rest_with s ds));
-        started = h.started ∙ ap (λ (y : Stack). y.started) (sym (rest_with s ds));
+        started = refl;
       }
 
 -- and an assertion more
@@ -329,7 +347,7 @@ one_asserted limit t x s tree u id h long m =
     } in
     let next : Stack = with_assertion s tree u in
     let marked : AreMarked x.marks d next =
-    marks_grown x.marks c s h.marked d next (grows c d (even_stated limit (over_table t x) s h long) more) (leveled_asserted s tree u h.marked.leveled) (open_last s.levels a) (λ k lt. up_to_asserted k s tree u lt) in record {
+    marks_grown x.marks c s h.marked d next (grows c d (even_stated limit (over_table t x) s h long) more) (leveled_asserted s tree u h.marked.leveled) (open_last s.levels a) refl (λ k lt. ap assertions_of (up_to_asserted k s tree u lt)) (λ off k lt. refl) in record {
       limit_is = h.limit_is;
       states = record {
         scope = h.states.scope;
@@ -339,7 +357,7 @@ one_asserted limit t x s tree u id h long m =
         terms = map-append (term_at t) x.assertions.ids (id ∷ []) ∙ (λ i. h.states.terms i ++ m.1 i ∷ []) ∙ sym (terms_last s.levels a);
         written = ap (λ ts. ts ++ as_written tree ∷ []) h.states.written ∙ sym (written_last s.levels a);
       };
-      marked = marks_same x.marks d next marked s.options true;
+      marked = marks_begun x.marks d next marked;
       options = h.options;
       started = refl;
     }

@@ -1,14 +1,16 @@
 -- What a table and a stack hold, what names and assertions it states, and how much of it there was when a level was
 -- opened.
-use Rattle.std.specs.Prelude.{◌≡◌, ◌≤◌, ◌<◌, ℕ, false, List, length, take, slice_index_or, None}
+use Rattle.std.specs.Prelude.{◌≡◌, ◌≤◌, ◌<◌, ℕ, max, Bool, true, false, List, length, take, slice_index_or, All}
+use Rattle.std.specs.Prelude.{None}
 use Rattle.spec_text.specs.Bytes.{Name, among}
 use Rattle.spec_sorts.specs.Signatures.{Signature, symbols_in, sort_as}
 use Rattle.spec_commands.specs.Stack.{Assertion, Stack, signature_of, assertions_of, terms_asserted, levels_open}
 use Rattle.spec_commands.specs.Stack.{up_to_level}
 use Rattle.spec_commands.specs.Kept.{AreLeveled}
+use Rattle.term_core.specs.declared.ids.TermId.{TermId}
 use Rattle.term_core.specs.Tables.{TableView, AreIn, clause_at}
 use Rattle.term_core.specs.Uses.{UsesDeclared}
-use Rattle.term_reader.specs.Scopes.{ScopeView, ScopeMeans}
+use Rattle.term_reader.specs.Scopes.{ScopeView, ScopeMeans, terms_needed}
 use Rattle.assertion_stack.specs.declared.marks.Mark.{Mark}
 use Rattle.assertion_stack.specs.Assertions.{AssertionsView, all_written}
 
@@ -55,6 +57,19 @@ no_mark = record { sort_names = 0; names = 0; sorts = 0; symbols = 0; terms = 0;
 abbrev pub mark_at : List Mark → ℕ → Mark
 mark_at marks k = slice_index_or marks k no_mark
 
+-- how much stays of each list where declarations are global and levels are closed: all names, the assertions up to a
+-- mark, and the terms up to it and up to the last one that a definition needs
+abbrev pub global_mark : Mark → Contents → Mark
+global_mark m c = record (mark_of c) {
+  terms = max m.terms (terms_needed (length c.table.terms) c.scope.functions);
+  assertions = m.assertions;
+}
+
+-- how much stays of each list where levels are closed, whether declarations are global or not
+abbrev pub closing_mark : Bool → Mark → Contents → Mark
+closing_mark true m c = global_mark m c
+closing_mark false m c = m
+
 -- so much of each list, its oldest
 abbrev pub cut_to : Mark → Contents → Contents
 cut_to m c = record {
@@ -97,14 +112,24 @@ pub record HasLevel (m : Mark) (c : Contents) (s : Stack) : Type 0 where
   -- it represents names and assertions
   pub states : States (cut_to m c) (signature_of s) (assertions_of s)
 
+-- The assertions up to a mark are those up to a level.
+pub record HasAssertions (m : Mark) (c : Contents) (s : Stack) : Type 0 where
+  -- there are as many
+  pub count : length (assertions_of s) ≡ m.assertions
+  -- their terms are among those up to the mark
+  pub inside : All (λ (id : TermId). id.0 < m.terms) (take m.assertions c.assertions.ids)
+
 -- Each open level has a mark: what there was when it was opened.
 pub record AreMarked (marks : List Mark) (c : Contents) (s : Stack) : Type 0 where
   -- names belong to levels that are there
   pub leveled : AreLeveled s
   -- as many marks as levels are open
   pub count : length marks ≡ levels_open s.levels
-  -- up to a mark there is what is stated up to the level below it
-  pub below : (k : ℕ) → k < length marks → HasLevel (mark_at marks k) c (up_to_level k s)
+  -- up to a mark there is what is stated up to the level below it, unless declarations are global
+  pub below : s.options.global_declarations ≡ false → (k : ℕ) → k < length marks
+      → HasLevel (mark_at marks k) c (up_to_level k s)
+  -- what is asserted up to that level there is in each case
+  pub asserted : (k : ℕ) → k < length marks → HasAssertions (mark_at marks k) c (up_to_level k s)
   -- no less is there now
   pub within : (k : ℕ) → k < length marks → IsWithin (mark_at marks k) (mark_of c)
   -- and no less at later marks

@@ -22,7 +22,8 @@ use Rattle.assertion_stack.specs.declared.stack.Effect.{Effect as CodeEffect}
 use Rattle.assertion_stack.specs.declared.stack.Effect.TheVariants as effects
 use Rattle.assertion_stack.specs.Assertions.{Written, offsets_of}
 use Rattle.assertion_stack.specs.Views.{Fails}
-use Rattle.assertion_stack.specs.Levels.{Contents, States, mark_at, cut_to, AreMarked}
+use Rattle.assertion_stack.specs.declared.marks.Mark.{Mark}
+use Rattle.assertion_stack.specs.Levels.{Contents, States, mark_at, closing_mark, cut_to, AreMarked}
 
 -- the options in the words of the definitions
 abbrev pub options_meant : CodeOptions → Options
@@ -31,6 +32,7 @@ options_meant o = record {
   models = o.models;
   proofs = o.proofs;
   assertions = o.assertions;
+  global_declarations = o.global_declarations;
 }
 
 -- The numbers are those of the terms of what a check assumes, in their order.
@@ -103,13 +105,21 @@ with_asserted x id w = record x {
   started = true;
 }
 
--- what there was up to a level, 0 for the first one, where there is one above it
-abbrev pub closed_to : ℕ → OverTable → OverTable
-closed_to k x = back (cut_to (mark_at x.stack.marks k) (contents x))
+-- what there is up to a mark, with so many levels open at most
+abbrev pub cut_back : ℕ → Mark → OverTable → OverTable
+cut_back k m x = back (cut_to m (contents x))
   where
     back : Contents → OverTable
     back c = over_table c.table
         (record x.stack { scope = c.scope; assertions = c.assertions; marks = take k x.stack.marks })
+
+-- how much stays of each list up to a level, 0 for the first one, where there is one above it
+abbrev pub level_mark : ℕ → OverTable → Mark
+level_mark k x = closing_mark x.stack.options.global_declarations (mark_at x.stack.marks k) (contents x)
+
+-- what stays up to that level
+abbrev pub closed_to : ℕ → OverTable → OverTable
+closed_to k x = cut_back k (level_mark k x) x
 
 -- what a command answers and leaves, or its fault, unless memory ran out
 abbrev pub Performs : ℕ → Answer Taken → OverTable → Result CodeEffect ReadError → Type 0

@@ -4,8 +4,8 @@ ghost use Rattle.std.specs.Prelude.{◌≡◌, ℕ, ◌+◌, ◌<◌, length, na
 ghost use Rattle.spec_commands.specs.Commands.{Push, Pop, ResetAssertions, Reset};
 ghost use Rattle.spec_commands.specs.Stack.{Stack as ScriptStack, level_limit, performed};
 ghost use Rattle.term_core.specs.Uses.{UsesDeclared};
-ghost use Rattle.assertion_stack.specs.Levels.{mark_of, mark_at, cut_to};
-ghost use Rattle.assertion_stack.specs.Stacks.{over_table, contents, closed_to, HasStack, IsStack, Performs};
+ghost use Rattle.assertion_stack.specs.Levels.{mark_of, global_mark, cut_to};
+ghost use Rattle.assertion_stack.specs.Stacks.{over_table, contents, cut_back, level_mark, HasStack, IsStack, Performs};
 
 use crate::assertions::Assertions;
 use crate::faults::refused;
@@ -41,14 +41,38 @@ fn has_levels(stack: &Stack, n: u64) -> bool
     levels <= LEVEL_LIMIT && n <= LEVEL_LIMIT - levels
 }
 
-/// Takes away all that came after a level, 0 for the first one, and closes the levels above it. There is one above it.
-fn close(stack: &mut Stack, table: &mut TermTable, level: u64)
-    requires open { level < length stack.old.marks }
-    requires uses { UsesDeclared (cut_to (mark_at stack.old.marks level)
-        (contents (over_table table.old stack.old))).table }
-    ensures { over_table table.new stack.new ≡ closed_to level (over_table table.old stack.old) }
+/// Counts what stays of each list where declarations are global and levels are closed, of which the lowest has this mark.
+fn global_mark(stack: &Stack, table: &TermTable, closed: Mark) -> Mark
+    ensures { result ≡ global_mark closed (contents (over_table table.now stack.now)) }
 {
-    let mark = stack.marks.at(level);
+    let now = mark(stack, table);
+    Mark {
+        sort_names: now.sort_names,
+        names: now.names,
+        sorts: now.sorts,
+        symbols: now.symbols,
+        terms: closed.terms.max(stack.scope.terms_needed(now.terms)),
+        assertions: closed.assertions,
+    }
+}
+
+/// Counts what stays of each list up to a level, 0 for the first one, where there is one above it.
+fn level_mark(stack: &Stack, table: &TermTable, level: u64) -> Mark
+    requires { level < length stack.now.marks }
+    ensures { result ≡ level_mark level (over_table table.now stack.now) }
+{
+    let closed = stack.marks.at(level);
+    if stack.options.global_declarations {
+        return global_mark(stack, table, closed);
+    }
+    closed
+}
+
+/// Keeps so much of each list, and so many levels at most.
+fn cut_back(stack: &mut Stack, table: &mut TermTable, level: u64, mark: Mark)
+    requires { UsesDeclared (cut_to mark (contents (over_table table.old stack.old))).table }
+    ensures { over_table table.new stack.new ≡ cut_back level mark (over_table table.old stack.old) }
+{
     stack.marks.back(level);
     stack.scope.back(mark.sort_names, mark.names);
     stack.assertions.cut(mark.assertions);
@@ -85,11 +109,14 @@ impl Stack {
     }
 
     /// Closes levels, by a `pop` at an offset in bytes. What was declared, defined and asserted since the lowest of them was
-    /// opened is taken away, of the table too: its sorts and symbols, and all its terms since then.
+    /// opened is taken away, of the table too: its sorts and symbols, and all its terms since then. Where declarations are
+    /// global, they stay, with their sorts and symbols. Then the table keeps its terms up to the last that a definition
+    /// needs.
     ///
     /// - `Fault` has `PopTooFar` at the command where fewer levels are open. Then stack and table are as they were.
     ///
-    /// It takes no memory, and its time goes with what is taken away. Source: SMT-LIB 2.6, section 4.2.2.
+    /// It takes no memory. Its time goes with what is taken away, and where declarations are global with their number.
+    /// Source: SMT-LIB 2.6, sections 4.1.7 and 4.2.2.
     pub fn pop<'a>(
         &mut self,
         table: &mut TermTable,
@@ -109,19 +136,31 @@ impl Stack {
             self.started = true;
             return Ok(Effect::Done);
         }
-        close(self, table, levels - n);
+        self.scope.each_name_means_something();
+        table.uses_what_is_declared();
+        let level = levels - n;
+        let mark = level_mark(self, table, level);
+        cut_back(self, table, level, mark);
         self.started = true;
         Ok(Effect::Done)
     }
 
     /// Takes back all that is declared, defined and asserted, at each level, by a `reset-assertions`: names and table are
-    /// empty, and no level is open. The options stay, and so does the logic. It takes no memory.
+    /// empty, and no level is open. Where declarations are global, they stay, as at `pop`. The options stay, and so does the
+    /// logic. It takes no memory.
     ///
-    /// Source: SMT-LIB 2.6, section 4.2.2.
+    /// Source: SMT-LIB 2.6, sections 4.1.7 and 4.2.2.
     pub fn reset_assertions<'a>(&mut self, alloc: Global, table: &mut TermTable) -> Effect<'a>
         ensures performs { (limit at : ℕ) (s : ScriptStack) → IsStack limit (over_table table.old self.old) s
             → Performs limit (performed limit at s ResetAssertions) (over_table table.new self.new) (Ok result) }
     {
+        if self.options.global_declarations {
+            self.scope.each_name_means_something();
+            table.uses_what_is_declared();
+            let mark = global_mark(self, table, Mark::none());
+            cut_back(self, table, 0, mark);
+            return Effect::Done;
+        }
         *table = TermTable::new(alloc);
         self.scope = Scope::new(alloc);
         self.assertions = Assertions::new(alloc);

@@ -1,7 +1,8 @@
 //! What a script of the whole language has stated: its names, assertions, levels and options, command by command.
 //!
 //! The terms are in a table of their own. A command that is refused changes neither. What is declared, defined
-//! and asserted at a level goes when `pop` closes it, from the table too.
+//! and asserted at a level goes when `pop` closes it, from the table too. Declarations and definitions that are global
+//! stay, with the terms that they need.
 #![tactic(auto)]
 
 mod asserting;

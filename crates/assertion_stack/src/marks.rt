@@ -26,6 +26,22 @@ pub struct Mark {
     pub assertions: usize,
 }
 
+impl Mark {
+    /// Makes the mark where nothing has been stated.
+    pub fn none() -> Mark
+        ensures { result ≡ no_mark }
+    {
+        Mark {
+            sort_names: 0,
+            names: 0,
+            sorts: 0,
+            symbols: 0,
+            terms: 0,
+            assertions: 0,
+        }
+    }
+}
+
 /// Holds a mark for each level that is open above the first one, the lowest first.
 ///
 /// Source: SMT-LIB 2.6, section 4.1.4.

@@ -20,6 +20,8 @@ pub struct Options {
     pub proofs: bool,
     /// `:produce-assertions`.
     pub assertions: bool,
+    /// `:global-declarations`: whether what is declared and defined belongs to no level.
+    pub global_declarations: bool,
 }
 
 impl Options {
@@ -32,6 +34,7 @@ impl Options {
             models: false,
             proofs: false,
             assertions: false,
+            global_declarations: false,
         }
     }
 
@@ -45,6 +48,7 @@ impl Options {
             OptionKey::ProduceModels => options.models = value,
             OptionKey::ProduceProofs => options.proofs = value,
             OptionKey::ProduceAssertions => options.assertions = value,
+            OptionKey::GlobalDeclarations => options.global_declarations = value,
         }
         options
     }

@@ -2,7 +2,8 @@
 
 ghost use Rattle.std.specs.Prelude.{◌≡◌, ℕ, true, Ok, OnErr};
 ghost use Rattle.spec_commands.specs.Commands.{SetLogic, SetOption, CheckSat};
-ghost use Rattle.spec_commands.specs.Stack.{Stack as ScriptStack, performed};
+ghost use Rattle.spec_commands.specs.Stack.{Stack as ScriptStack, may_set, performed};
+ghost use Rattle.smt_command.specs.Settings.{key_meant};
 ghost use Rattle.smt_sexpr.specs.Items.{tree_meant};
 ghost use Rattle.smt_sexpr.specs.Views.{word_view};
 ghost use Rattle.term_core.specs.Tables.{TableView};
@@ -40,7 +41,18 @@ pub(crate) fn set_logic<'a>(
     Ok(Effect::Done)
 }
 
-/// Sets an option, by a command at an offset. One that is not known changes nothing.
+/// Tells whether an option may be set now: whether declarations are global is settled at the start.
+fn may_set(stack: &Stack, key: OptionKey) -> bool
+    ensures { (s : ScriptStack) → stack.now.started ≡ s.started → result ≡ may_set (key_meant key) s }
+{
+    match key {
+        OptionKey::GlobalDeclarations => !stack.started,
+        _ => true,
+    }
+}
+
+/// Sets an option, by a command at an offset. One that is not known changes nothing, and one that may not be set now is
+/// refused.
 pub(crate) fn set_option<'a>(
     stack: &mut Stack,
     at: u64,
@@ -58,6 +70,9 @@ pub(crate) fn set_option<'a>(
     let Some(truth) = truth_in(value) else {
         return Err(refused(at, Fault::BadShape));
     };
+    if !may_set(stack, key) {
+        return Err(refused(at, Fault::WrongMode));
+    }
     stack.options = stack.options.with(key, truth);
     Ok(Effect::Done)
 }

@@ -118,8 +118,8 @@ impl Stack {
     /// - `Fault` has the command's first fault, with its place in the text. It is its head (`UnknownCommand`), then its own
     ///   shape (`BadShape` at its parenthesis), then its parts in reading order. These are for a new name `Reserved` and
     ///   `Twice`; for a sort `UnknownSort`, `Reserved` and `BadShape`; for a term those of `term_reader::term`. Then come
-    ///   `WrongMode` of `set-logic`, `PopTooFar` of `pop` and `BadShape` of an option's value at the parenthesis, and
-    ///   `UnknownLogic` at the name of a logic. `Full` at the parenthesis comes last.
+    ///   `WrongMode` of `set-logic`, `PopTooFar` of `pop`, `BadShape` of an option's value and after it `WrongMode`, at the
+    ///   parenthesis, and `UnknownLogic` at the name of a logic. `Full` at the parenthesis comes last.
     /// - `Memory` may come at any allocation, and says nothing of the command.
     ///
     /// After each of these stack and table are as they were. A check changes no more than that it ends the start.

@@ -58,6 +58,8 @@ pub enum OptionKey {
     ProduceProofs,
     /// `:produce-assertions`.
     ProduceAssertions,
+    /// `:global-declarations`.
+    GlobalDeclarations,
 }
 
 impl OptionKey {
@@ -76,6 +78,9 @@ impl OptionKey {
         }
         if same_bytes(name, b"produce-assertions") {
             return Some(OptionKey::ProduceAssertions);
+        }
+        if same_bytes(name, b"global-declarations") {
+            return Some(OptionKey::GlobalDeclarations);
         }
         None
     }

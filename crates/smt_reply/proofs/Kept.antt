@@ -1,5 +1,5 @@
 -- What was found at the last check.
-use Rattle.std.proofs.Common.{◌≡◌, ℕ, Bool, true, false, List, Option, Some, None, refl, ap, ◌∙◌}
+use Rattle.std.proofs.Common.{◌≡◌, ℕ, true, false, List, Option, Some, None, refl, ap, ◌∙◌}
 use Rattle.spec_text.specs.declared.Fault.TheVariants.{WrongMode}
 use Rattle.spec_text.specs.Answers.{Answer, refused, ◌>>=◌}
 use Rattle.spec_sorts.specs.Values.{Interpretation}

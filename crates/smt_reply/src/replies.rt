@@ -70,6 +70,7 @@ fn option_value(options: &Options, key: OptionKey) -> bool
         OptionKey::ProduceModels => options.models,
         OptionKey::ProduceProofs => options.proofs,
         OptionKey::ProduceAssertions => options.assertions,
+        OptionKey::GlobalDeclarations => options.global_declarations,
     }
 }
 

@@ -1,5 +1,5 @@
 -- A term that is read with room is the last assertion, after the names that it makes.
-use Rattle.std.proofs.Common.{◌≡◌, Some, refl, sym, ap, ◌∙◌, subst}
+use Rattle.std.proofs.Common.{◌≡◌, true, Some, refl, sym, ap, ◌∙◌, subst}
 use Rattle.spec_commands.specs.Stack.{did, begun, with_definitions, with_assertion, signature_of}
 use Rattle.smt_sexpr.specs.Items.{tree_meant}
 use Rattle.term_reader.specs.Names.{setting_meant}
@@ -13,7 +13,8 @@ returns-in-Ok-add_written-clause-performs c limit s h =
     let r = c.in-Ok.ensures.ends (signature_of s) h.states.scope in
     let x = c.args.self.now in
     let t = c.term.new.table in
-    let y = record x { scope = c.term.new.scope } in
+    let y = record x { scope = c.term.new.scope; started = true } in
+    let named_stack = begun (with_definitions s r.reading.made) in
     let added = c.in-Ok-add_written.ensures.added in
     let tree = tree_meant c.args.tree in
     let room : room_meant c.room-room.result ≡ record { limit = Some limit; at = c.args.at } = ap room_meant c.room-room.ensures ∙ ap (λ l. record { limit = Some l; at = c.args.at }) h.limit_is in
@@ -22,7 +23,7 @@ returns-in-Ok-add_written-clause-performs c limit s h =
       assert_done limit c.args.at s tree (room_meant c.room-room.result) (setting_meant c.in_script.result) room c.in_script.ensures r.reading r.read,
       refl,
       subst (λ z. IsStack limit (over_table t z) next) (sym added)
-          (one_asserted limit t y (with_definitions s r.reading.made) tree r.reading.term c.in-Ok.id (named limit c.args.table.now t x s c.term.new.scope r.reading.made h c.in-Ok.ensures.grows r.represents (record { each_sort = c.each_name_means_something.ensures.sorts; each_function = c.each_name_means_something.ensures.functions })) (record { each_sort = c.each_name_means_something-in-Ok.ensures.sorts; each_function = c.each_name_means_something-in-Ok.ensures.functions }) r.term),
+          (one_asserted limit t y named_stack tree r.reading.term c.in-Ok.id (named limit c.args.table.now t x s c.term.new.scope r.reading.made h c.in-Ok.ensures.grows r.represents (record { each_sort = c.each_name_means_something.ensures.sorts; each_function = c.each_name_means_something.ensures.functions })) (record { each_sort = c.each_name_means_something-in-Ok.ensures.sorts; each_function = c.each_name_means_something-in-Ok.ensures.functions }) r.term),
     )
 
 pub returns-in-Err-clause-performs : goal.returns-in-Err-clause-performs

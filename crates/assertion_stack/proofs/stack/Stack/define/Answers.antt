@@ -4,7 +4,7 @@ use Rattle.spec_commands.specs.Stack.{did, begun, with_definitions, signature_of
 use Rattle.smt_command.specs.Commands.{parts_view}
 use Rattle.term_reader.specs.Names.{setting_meant}
 use Rattle.sort_check.specs.Reads.{room_meant, store}
-use Rattle.assertion_stack.proofs.Stacks.{define_done, define_fails, begun_stack, named}
+use Rattle.assertion_stack.proofs.Stacks.{define_done, define_fails, named}
 use Rattle.assertion_stack.proofs.stack.Stack.define.Goals as goal
 
 pub returns-in-Ok-clause-performs : goal.returns-in-Ok-clause-performs
@@ -16,7 +16,7 @@ returns-in-Ok-clause-performs c limit s h =
       did (begun (with_definitions s r.definitions)),
       define_done limit c.args.at s (parts_view c.args.parts) (room_meant c.room-room.result) (setting_meant c.in_script.result) room c.in_script.ensures r.definitions r.read,
       refl,
-      begun_stack limit t (record x { scope = c.define.new.scope }) (with_definitions s r.definitions) (named limit c.args.table.now t x s c.define.new.scope r.definitions h c.in-Ok.ensures.grows r.represents (record { each_sort = c.each_name_means_something.ensures.sorts; each_function = c.each_name_means_something.ensures.functions })),
+      named limit c.args.table.now t x s c.define.new.scope r.definitions h c.in-Ok.ensures.grows r.represents (record { each_sort = c.each_name_means_something.ensures.sorts; each_function = c.each_name_means_something.ensures.functions }),
     )
 
 pub returns-in-Err-clause-performs : goal.returns-in-Err-clause-performs
