@@ -32,6 +32,8 @@ def set_option(state, parts, start):
         return "unsupported"
     if parts[2][0] != "sym" or parts[2][1] not in (b"true", b"false"):
         raise Fault(start, b"BadShape")
+    if parts[1][1] == b":global-declarations" and state.has_begun:
+        raise Fault(start, b"WrongMode")
     state.options[parts[1][1]] = parts[2][1] == b"true"
     return "success"
 

@@ -14,6 +14,7 @@ from truths import Tables
 
 # The options that are known, with what they are at first.
 OPTIONS = {b":print-success": True, b":produce-models": False, b":produce-proofs": False, b":produce-assertions": False}
+OPTIONS[b":global-declarations"] = False
 BOOL_HEADS = {b"not": (1, 1), b"and": (1, None), b"or": (1, None), b"xor": (2, None), b"=>": (2, None)}
 REAL_HEADS = {b"-": 1, b"+": 1, b"*": 1, b"/": 2, b"<": 2, b"<=": 2, b">": 2, b">=": 2}
 
@@ -273,17 +274,15 @@ class State:
 
     def forget_all(self):
         """Takes back all that was stated, as `reset` does."""
-        self.forget_assertions()
         self.options = dict(OPTIONS)
         self.has_begun = False
+        self.forget_assertions()
 
     def forget_assertions(self):
-        """Takes back names, assertions and levels, as `reset-assertions` does."""
-        self.sorts = {}
-        self.functions = {}
-        self.assertions = []
-        self.written = []
-        self.levels = []
+        """Takes back assertions, levels, and names that are not global, as `reset-assertions` does."""
+        if not self.options[b":global-declarations"]:
+            self.sorts, self.functions = {}, {}
+        self.assertions, self.written, self.levels = [], [], []
         self.asked = None
 
     def open_levels(self, count):
@@ -292,10 +291,11 @@ class State:
         self.levels += [here] * count
 
     def close_levels(self, count):
-        """Closes so many levels: what was there before the lowest of them is there again."""
+        """Closes so many levels: what was there before the lowest of them is there again, and names that are global stay."""
         if count:
             sorts, functions, assertions, written = self.levels[-count]
-            self.sorts, self.functions = dict(sorts), dict(functions)
+            if not self.options[b":global-declarations"]:
+                self.sorts, self.functions = dict(sorts), dict(functions)
             self.assertions, self.written = list(assertions), list(written)
             del self.levels[-count:]
 

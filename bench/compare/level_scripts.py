@@ -1,7 +1,8 @@
 """Makes scripts with `push`, `pop`, `reset-assertions` and `reset` by chance, and the scripts of their single checks.
 
 The commands come from the other makers. Between them levels are opened and closed. What a closed level had declared is
-declared again in most cases, so that later commands can be taken; in the others they are refused.
+declared again in most cases, so that later commands can be taken; in the others they are refused. In some scripts
+declarations are global.
 """
 
 import random
@@ -18,7 +19,11 @@ from scripts import a_session
 MAKERS = (a_function_script, a_number_script, a_mixed_script, lambda: a_session(0), lambda: a_session(0.2))
 DECLARING = (b"declare-sort", b"define-sort", b"declare-const", b"declare-fun", b"define-fun")
 ENDING = (b"exit",)
-ODD = (b"(push 0)", b"(pop 0)", b"(pop 9)", b"(push x)", b"(pop 18446744073709551616)", b"(push 1 1)", b"(pop (1))")
+GLOBAL = b"(set-option :global-declarations true)"
+ODD = (
+    *(b"(push 0)", b"(pop 0)", b"(pop 9)", b"(push x)", b"(pop 18446744073709551616)", b"(push 1 1)", b"(pop (1))"),
+    *(GLOBAL, b"(set-option :global-declarations false)", b"(set-option :global-declarations 1)"),
+)
 
 
 def commands_of(script):
@@ -40,8 +45,9 @@ def commands_of(script):
 class Levels:
     """The texts of the commands that count, by level, while a script is made."""
 
-    def __init__(self):
+    def __init__(self, is_global):
         self.open = [[]]
+        self.is_global = is_global
 
     def add(self, word, text):
         """Notes a command that counts: a declaration or an assertion."""
@@ -49,10 +55,20 @@ class Levels:
             self.open[-1].append((word, text))
 
     def close(self, count):
-        """Closes so many levels; returns what was declared at them."""
-        gone = [command for level in self.open[-count:] for command in level] if count else []
+        """Closes so many levels; returns what was declared at them and is not global."""
+        gone = [command for level in self.open[-count:] for command in level if command[0] in DECLARING] if count else []
         del self.open[len(self.open) - count :]
-        return [(word, text) for word, text in gone if word in DECLARING]
+        if self.is_global:
+            self.open[-1] += gone
+            return []
+        return gone
+
+    def reset(self, is_whole):
+        """Takes all back; returns what was declared and is gone."""
+        declared = [command for level in self.open for command in level if command[0] in DECLARING]
+        self.is_global = self.is_global and not is_whole
+        self.open = [declared if self.is_global else []]
+        return [] if self.is_global else declared
 
 
 def a_level_command(levels):
@@ -69,9 +85,8 @@ def a_level_command(levels):
     elif choice < 0.94:
         return [random.choice(ODD)]
     else:
-        gone = [command for level in levels.open for command in level if command[0] in DECLARING]
-        levels.open = [[]]
         texts = [random.choice([b"(reset)", b"(reset-assertions)"])]
+        gone = levels.reset(texts == [b"(reset)"])
     if random.random() < 0.85:
         for word, text in gone:
             levels.add(word, text)
@@ -81,7 +96,8 @@ def a_level_command(levels):
 
 def a_level_script():
     """Makes a script with changes of levels, and several checks."""
-    levels, texts = Levels(), []
+    levels = Levels(random.random() < 0.3)
+    texts = [GLOBAL] if levels.is_global else []
     for word, text in commands_of(random.choice(MAKERS)()):
         while random.random() < 0.3:
             texts += a_level_command(levels)
@@ -103,6 +119,12 @@ def assumed_by(word, text):
     return [b"(assert " + printed(literal) + b")" for literal in parts[1][1]]
 
 
+def names_alone(levels):
+    """Returns commands that make no more than the names of levels: where these are global, they outlive what was asserted."""
+    commands = [command for level in levels for command in level]
+    return [(word, text if word in DECLARING else b"(push)" + text + b"(pop)") for word, text in commands]
+
+
 def single_checks(script, limit=2**24):
     """Returns for each check of a script a script of its own: the commands that count there, and the check.
 
@@ -115,16 +137,19 @@ def single_checks(script, limit=2**24):
             answer = perform(state, read_one(text, 0)[0])
         except Fault:
             continue
+        is_global = state.options[b":global-declarations"]
         if word in (b"reset", b"reset-assertions"):
-            open_levels = [[]]
+            open_levels = [names_alone(open_levels) if is_global else []]
         elif len(state.levels) < before:
-            del open_levels[len(state.levels) + 1 :]
+            open_levels, gone = open_levels[: len(state.levels) + 1], open_levels[len(state.levels) + 1 :]
+            open_levels[-1] += names_alone(gone) if is_global else []
         open_levels += [[] for _ in range(len(state.levels) - before)]
         if word in DECLARING or word == b"assert":
-            open_levels[-1].append(text)
+            open_levels[-1].append((word, text))
         if isinstance(answer, list):
-            live = [text for level in open_levels for text in level] + assumed_by(word, text)
-            singles.append(b"\n".join([b"(set-option :print-success false)", *live, b"(check-sat)\n"]))
+            live = [text for level in open_levels for _, text in level] + assumed_by(word, text)
+            options = [b"(set-option :print-success false)", *[GLOBAL] * is_global]
+            singles.append(b"\n".join([*options, *live, b"(check-sat)\n"]))
     return singles
 
 

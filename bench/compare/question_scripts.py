@@ -14,7 +14,7 @@ from level_scripts import MAKERS, a_level_script, commands_of
 from reading import Fault, printed_name, read_one
 from scripts import NAMES, Maker
 
-OPTIONS = (b":produce-models", b":produce-proofs", b":produce-assertions", b":print-success")
+OPTIONS = (b":produce-models", b":produce-proofs", b":produce-assertions", b":print-success", b":global-declarations")
 KEYS = (b":name", b":version", b":authors", b":error-behavior", b":reason-unknown", b":assertion-stack-levels")
 ODD_KEYS = (*OPTIONS, b":all-statistics", b":Name", b":x", b":name.", b":named", b":produce-unsat-cores")
 ODD = b"""(get-model 1)
@@ -187,6 +187,6 @@ def without_questions(script):
             perform(state, read_one(text, 0)[0])
         except Fault:
             continue
-        if word[:4] != b"get-" and word != b"set-option":
+        if word[:4] != b"get-" and (word != b"set-option" or b":global-declarations" in text):
             texts.append(text)
     return b"\n".join([*texts, b""])
