@@ -129,9 +129,24 @@ check_simple_smt() {
     check_proofs "$folder/measures.smt2"
 }
 
+check_sbv() {
+    local program=$folder/Tariffs session
+    has_library sbv || return 0
+    clients=$((clients + 1))
+    echo "sbv: $(ghc-pkg list --simple-output sbv)"
+    answers_at_once sbv || return 0
+    ghc -v0 -outputdir "$folder/objects-sbv" -o "$program" sbv/Tariffs.hs
+    "$program" z3 >"$folder/wanted"
+    ask "$program" smt_cli solve
+    # Each model and each proof is asked for in a session of its own.
+    ask "$program" bash -c "exec smt_cli solve < <(tee '$folder/tariffs.'\$\$.smt2)"
+    for session in "$folder"/tariffs.*.smt2; do check_proofs "$session"; done
+}
+
 if ! has "what to compare with" z3; then exit 2; fi
 check_why3
 check_simple_smt
+check_sbv
 echo "$clients clients, $runs runs, $proofs proofs, $wrong wrong"
 if [ "$clients" -eq 0 ]; then exit 2; fi
 [ "$wrong" -eq 0 ]
