@@ -8,7 +8,7 @@ use Rattle.spec_numbers.proofs.Field.{zero_of}
 use Rattle.ratio128.specs.Meant.{fraction}
 use Rattle.std.proofs.lemmas.List.{length-map}
 use Rattle.ratio128.specs.declared.ratio.Ratio.{Ratio}
-use Rattle.spec_sorts.specs.Terms.{Sort, Truth, Number, Minus, Divide, Ite, Term, of, terms_of, sort_of}
+use Rattle.spec_sorts.specs.Terms.{Sort, Truth, Number, Not, Minus, Divide, Ite, Term, of, terms_of, sort_of, negated}
 use Rattle.spec_sorts.specs.Theory.{is_constant, are_constant, keeps_constant, each_passes, is_divisor, is_zero_divisor}
 use Rattle.term_core.specs.declared.ids.TermId.{TermId}
 use Rattle.term_core.specs.declared.ids.SymbolId.{SymbolId}
@@ -147,3 +147,23 @@ unfolding sort_of
 ite_sort t [] h d e long = absurd (omega (arith, long))
 ite_sort t (x ∷ []) h d e long = absurd (omega (arith, long))
 ite_sort t (x ∷ y ∷ ids) h d e long = subst (λ g. sort_of (term_at t y) ≡ sort_of (shape_term t (record { head = g; arguments = x ∷ y ∷ ids }))) (sym e) refl
+
+-- `not` takes one argument
+not_long : (ss : List Sort) → takes Not ss ≡ true → length ss ≡ 1
+not_long (Truth ∷ []) e = refl
+not_long _ e = cc
+
+-- what fits with the head `not` has one argument
+pub not_fits : (t : TableView) (s : Shape) → ShapeFits t s → s.head ≡ heads.Not → length s.arguments ≡ 1
+not_fits t s f e =
+    sym (length-map s.arguments (term_at t)) ∙ sym (length-map (clause_at t s.arguments) sort_of)
+    ∙ not_long (map sort_of (clause_at t s.arguments)) (ap (λ h. takes (head_meant t h) (map sort_of (clause_at t s.arguments))) (sym e) ∙ f.sorts)
+
+-- which it negates
+pub not_is : (t : TableView) (s : Shape) (d : TermId) → ShapeFits t s → s.head ≡ heads.Not → shape_term t s ≡ negated (term_at t (get_or s.arguments 0 d))
+not_is t s d f e = go s.head s.arguments e (not_fits t s f e)
+  where
+    go : (h : NodeHead) (ids : List TermId) → h ≡ heads.Not → length ids ≡ 1 → shape_term t (record { head = h; arguments = ids }) ≡ negated (term_at t (get_or ids 0 d))
+    go h (x ∷ []) e long = subst (λ g. shape_term t (record { head = g; arguments = x ∷ [] }) ≡ negated (term_at t x)) (sym e) refl
+    go h [] e long = absurd (omega (arith, long))
+    go h (x ∷ y ∷ ids) e long = absurd (omega (arith, long))

@@ -1,5 +1,5 @@
 -- What an insert of a node leaves of a table, with its facts.
-use Rattle.std.proofs.Common.{◌≡◌, ℕ, ◌⊎◌, List, [], ◌∷◌, ◌++◌, sym, ap, subst}
+use Rattle.std.proofs.Common.{◌≡◌, ℕ, ◌⊎◌, List, [], ◌∷◌, ◌++◌, length, sym, ap, subst}
 use Rattle.indexmap.specs.IndexSet.{insert_key}
 use Rattle.term_core.specs.declared.ids.TermId.{TermId}
 use Rattle.term_core.specs.declared.facts.Facts.{Facts}
@@ -7,7 +7,7 @@ use Rattle.term_core.specs.declared.nodes.Node.{Node}
 use Rattle.term_core.specs.contracts.nodes.NodePartialEq.TheImpl.{ghosts}
 use Rattle.term_core.specs.Symbols.{SymbolsView}
 use Rattle.term_core.specs.Tables.{TableView, declared_in, node_term, term_at, IsIn, IsPlaced, table_of, Extends}
-use Rattle.term_core.specs.Facts.{IsFacts, AreFacts, TableFits}
+use Rattle.term_core.specs.Facts.{IsFacts, IsLiteralAt, literal_kept, AreFacts, TableFits}
 use Rattle.term_core.proofs.TermsExtend.{Extends-self}
 use Rattle.term_core.proofs.NodesPut.{Puts, puts, IsStored}
 use Rattle.term_core.proofs.TermsPut.{number, grows, puts_whole, puts_there, puts_kept, puts_once, puts_added, puts_known}
@@ -45,10 +45,12 @@ module _ (d : SymbolsView) (old : List Node) (facts : List Facts) (v : TableView
     put_added = subst (λ (t : TableView). (table_of d new ≡ t) ⊎ ((table_of d new).terms ≡ t.terms ++ node_term t node ∷ [])) is (puts_added d old node place kept.whole placed new here)
 
     -- where the node is last, so do its facts
-    pub put_facts : (fs : List Facts) (f : Facts) → new ≡ old ++ node ∷ [] → fs ≡ facts ++ f ∷ [] → IsFacts v.sorts (node_term v node) f → TableFits d new fs
-    put_facts fs f last more right = record {
+    pub put_facts : (fs : List Facts) (f : Facts) → new ≡ old ++ node ∷ [] → fs ≡ facts ++ f ∷ [] → IsFacts v.sorts (node_term v node) f
+        → IsLiteralAt (v.terms ++ node_term v node ∷ []) (length v.terms) (literal_kept f) → TableFits d new fs
+    put_facts fs f last more right literal = record {
       whole = puts_whole d old node place kept.whole placed new here;
       right = subst (AreFacts d.sorts (table_of d new).terms) (sym more)
           (subst (λ ts. AreFacts d.sorts ts (facts ++ f ∷ [])) (sym (grows d old node place kept.whole placed new last))
-          (facts_push d.sorts _ facts (node_term (table_of d old) node) f kept.right (subst (λ (t : TableView). IsFacts t.sorts (node_term t node) f) (sym is) right)));
+          (facts_push d.sorts _ facts (node_term (table_of d old) node) f kept.right (subst (λ (t : TableView). IsFacts t.sorts (node_term t node) f) (sym is) right)
+          (subst (λ (t : TableView). IsLiteralAt (t.terms ++ node_term t node ∷ []) (length t.terms) (literal_kept f)) (sym is) literal)));
     }

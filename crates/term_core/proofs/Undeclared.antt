@@ -101,6 +101,7 @@ facts_first sorts all more e apart terms facts a over = record {
       let there : HasSortIn sorts s = sort_first sorts all more e apart s r.there (subst (IsSortOver sorts) (sym r.sort) (over t (Contains-get_or terms k no_term lt))) in
       let meant : sort_meant all s ≡ sort_meant sorts s = ap (λ l. sort_meant l s) e ∙ sort_meant-more sorts more s there in
       record { there = there; sort = sym meant ∙ r.sort; constant = r.constant; divisor = r.divisor; zero = r.zero };
+  literals = a.literals;
 }
 
 -- the first sorts and symbols

@@ -1,14 +1,14 @@
 //! What a table keeps of each term besides its node.
 
-ghost use Rattle.std.specs.Prelude.{◌≡◌, List};
+ghost use Rattle.std.specs.Prelude.{◌≡◌, List, [], ◌∷◌, ◌++◌, length};
 ghost use Rattle.spec_text.specs.Bytes.{Name};
 ghost use Rattle.spec_sorts.specs.Terms.{Symbol, Minus, Divide, of, sort_of};
 ghost use Rattle.spec_sorts.specs.Theory.{keeps_constant, is_constant, each_passes, is_divisor, is_zero_divisor};
 ghost use Rattle.term_core.specs.Symbols.{HasSortIn, sort_meant};
 ghost use Rattle.term_core.specs.Tables.{AreIn, clause_at, IsPlaced, node_term, head_over};
-ghost use Rattle.term_core.specs.Facts.{IsFacts};
+ghost use Rattle.term_core.specs.Facts.{IsFacts, IsLiteralAt, literal_kept};
 
-use crate::ids::TermId;
+use crate::ids::{Lit, TermId};
 use crate::nodes::{Head, Node};
 use crate::sorts::Sort;
 use crate::terms::TermTable;
@@ -24,18 +24,47 @@ pub(crate) struct Facts {
     pub divisor: bool,
     /// Whether it is zero, as a divisor.
     pub zero: bool,
+    /// What is left of it without its leading negations.
+    pub left: TermId,
+    /// Whether the number of those negations is even.
+    pub even: bool,
 }
 
-/// Gives the facts of the term of a node.
+/// Gives the facts of the term of a node, where it comes next in the table.
 pub(crate) fn facts_of(table: &TermTable, node: &Node) -> Facts
     requires { IsPlaced table.now node.now }
-    ensures { IsFacts table.now.sorts (node_term table.now node.now) result }
+    ensures facts { IsFacts table.now.sorts (node_term table.now node.now) result }
+    ensures literal { IsLiteralAt (table.now.terms ++ node_term table.now node.now ∷ []) (length table.now.terms)
+        (literal_kept result) }
 {
+    let literal = literal_of(table, node);
     Facts {
         sort: sort_of(table, node),
         constant: is_constant(table, node),
         divisor: is_divisor(table, node),
         zero: is_zero_divisor(table, node),
+        left: literal.term,
+        even: literal.positive,
+    }
+}
+
+/// Takes the negations off a node's term, which has the next number of the table.
+fn literal_of(table: &TermTable, node: &Node) -> Lit
+    requires { IsPlaced table.now node.now }
+    ensures { IsLiteralAt (table.now.terms ++ node_term table.now node.now ∷ []) (length table.now.terms) result }
+{
+    match node.head {
+        Head::Not => {
+            let inner = table.literal(node.arguments.as_slice()[0]);
+            Lit {
+                term: inner.term,
+                positive: !inner.positive,
+            }
+        }
+        _ => Lit {
+            term: TermId(table.len()),
+            positive: true,
+        },
     }
 }
 

@@ -52,8 +52,8 @@ pub enum Head {
     Parameter(u64, Sort),
 }
 
-/// Lists the arguments of a term by their numbers: up to two of them take no memory of their own.
-pub type Arguments = SmallVec<TermId, 2>;
+/// Lists the arguments of a term by their numbers: up to three of them take no memory of their own.
+pub type Arguments = SmallVec<TermId, 3>;
 
 /// Holds a term by its head, with arguments of the same table.
 #[derive(Drop, Debug, PartialEq, Eq, Hash)]
@@ -67,7 +67,7 @@ pub struct Node {
 impl Node {
     /// Makes a node by a copy of its arguments.
     ///
-    /// `NoMemory` comes where more than two arguments find no memory.
+    /// `NoMemory` comes where more than three arguments find no memory.
     pub fn new(alloc: Global, head: Head, arguments: &[TermId]) -> Result<Node, NoMemory>
         ensures { IfOk result (λ n. (n.head ≡ head) × (n.arguments.items ≡ arguments.now)) }
     {

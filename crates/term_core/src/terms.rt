@@ -1,20 +1,20 @@
 //! The table of terms: each term once, by its number.
 
-ghost use Rattle.std.specs.Prelude.{◌⊎◌, ◌≡◌, List, map, MatchBool, true, false, Contains, ◌<◌, [], ◌∷◌, ◌++◌, length, take, None, Some, IfOk, OnErr, OnOk, MatchOption};
+ghost use Rattle.std.specs.Prelude.{◌⊎◌, ◌≡◌, List, map, MatchBool, true, false, Contains, [], ◌∷◌, ◌++◌, length, take, None, Some, IfOk, OnErr, OnOk};
 ghost use Rattle.spec_text.specs.Bytes.{among};
-ghost use Rattle.spec_sorts.specs.Terms.{Sort as TermSort, Head as TermHead, Term, Terms, app, list_of, sort_of, negated};
+ghost use Rattle.spec_sorts.specs.Terms.{Sort as TermSort, Head as TermHead, Term, Terms, app, list_of, sort_of};
 ghost use Rattle.spec_sorts.specs.WellSorted.{AllHeads, IsHeadOver, IsWellSorted};
 ghost use Rattle.spec_sorts.specs.Theory.{is_constant, is_divisor, is_zero_divisor};
 ghost use Rattle.spec_sorts.specs.Subsets.{arguments_of, AreAmong, IsClosed};
 ghost use Rattle.spec_sorts.specs.Literals.{literal_of};
 ghost use Rattle.term_core.specs.Symbols.{HasSortIn, HaveSortsIn, sort_meant, symbol_named, symbol_of};
-ghost use Rattle.term_core.specs.Tables.{declared_in, term_at, IsIn, AreIn, literal_at, takes, IsParameterAmong, IsPlaced, node_term, NamesBelow, AreDifferent, Extends, positive_literal};
+ghost use Rattle.term_core.specs.Tables.{declared_in, term_at, IsIn, AreIn, literal_at, takes, IsParameterAmong, IsPlaced, node_term, NamesBelow, AreDifferent, Extends};
 ghost use Rattle.term_core.specs.Uses.{UsesDeclared, first_declared};
 ghost use Rattle.term_core.specs.declared.ids.TermId.{TermId as Number};
 
 use crate::facts::{Facts, facts_of};
 use crate::ids::{Lit, SortId, SymbolId, TermId};
-use crate::nodes::{Head, Node};
+use crate::nodes::Node;
 use crate::sorts::Sort;
 use crate::symbols::Symbols;
 use crate::taking::{has_head, takes_arguments};
@@ -207,26 +207,10 @@ impl TermTable {
         ensures means { literal_at self.now result ≡ literal_of (term_at self.now id) }
         ensures there { IsIn self.now result.term }
     {
-        let mut term = id;
-        let mut positive = true;
-        'negations: while let Some(inner) = self.negated(term) {
-            term = inner;
-            positive = !positive;
-        }
-        Lit { term, positive }
-    }
-
-    /// The argument of a negation; `None` where the term is none.
-    fn negated(&self, id: TermId) -> Option<TermId>
-        requires { IsIn self.now id }
-        ensures { MatchOption result
-            (literal_of (term_at self.now id) ≡ positive_literal (term_at self.now id))
-            (λ inner. (inner.0 < id.0) × (term_at self.now id ≡ negated (term_at self.now inner))) }
-    {
-        let node = self.node(id);
-        match node.head {
-            Head::Not => Some(node.arguments.as_slice()[0]),
-            _ => None,
+        let facts = self.facts[id.0 as usize];
+        Lit {
+            term: facts.left,
+            positive: facts.even,
         }
     }
 

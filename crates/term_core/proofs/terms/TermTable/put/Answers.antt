@@ -21,7 +21,7 @@ pub invariant_of-self-2 : goal.invariant_of-self-2
 invariant_of-self-2 c =
     put_facts c.self.inside.symbols c.self.inside.nodes.keys c.self.inside.facts.items c.args.self.now c.self.invariant c.self.view_is c.args.node c.requires c.in_ok-at.at c.insert_full.new.self.keys c.in_ok-at.ensures.keys c.in_ok-at.ensures.stored c.push_reserved.new.self.items c.facts_of-facts.result
     (put_new c.self.inside.nodes.keys c.insert_full.new.self.keys c.args.node c.in_ok-at.is_new c.in_ok-at.ensures.keys c.in_ok-at.ensures.added c.if-not-is_new.false)
-    (c.push_reserved.ensures.items ∙ ap (λ fs. fs ++ c.facts_of-facts.result ∷ []) c.in_ok-reserve.ensures.items) c.facts_of-facts.ensures
+    (c.push_reserved.ensures.items ∙ ap (λ fs. fs ++ c.facts_of-facts.result ∷ []) c.in_ok-reserve.ensures.items) c.facts_of-facts.ensures.facts c.facts_of-facts.ensures.literal
 
 pub returns-clause-there : goal.returns-clause-there
 returns-clause-there c = put_there c.self.inside.symbols c.self.inside.nodes.keys c.self.inside.facts.items c.args.self.now c.self.invariant c.self.view_is c.args.node c.requires c.in_ok-at.at c.insert_full.new.self.keys c.in_ok-at.ensures.keys c.in_ok-at.ensures.stored
