@@ -6,7 +6,7 @@ use Rattle.spec_text.proofs.Members.{to_image, from_image}
 use Rattle.spec_sorts.specs.Terms.{Equal, Head, Term, Terms, app, nil, cons, terms_of, of}
 use Rattle.spec_sorts.specs.Literals.{Literal as TermLiteral}
 use Rattle.spec_equality.specs.Reasons.{equal}
-use Rattle.spec_equality.specs.Congruence.{truth_term, signed_literal, IsRefuted as AreRefuted, IsCongruent as AreEqual, AreCongruent as AreAllEqual, equated, decided, itself as same_term, turned as turned_terms, joined as joined_terms, by_arguments as by_equal_arguments, none as no_terms, more as more_terms}
+use Rattle.spec_equality.specs.Congruence.{truth_term, signed_literal, takes_part, IsRefuted as AreRefuted, IsCongruent as AreEqual, AreCongruent as AreAllEqual, equated, decided, itself as same_term, turned as turned_terms, joined as joined_terms, by_arguments as by_equal_arguments, none as no_terms, more as more_terms}
 use Rattle.term_core.specs.declared.ids.TermId.{TermId}
 use Rattle.term_core.specs.declared.ids.Lit.{Lit}
 use Rattle.term_core.specs.declared.nodes.Head.{Head as NodeHead}
@@ -95,7 +95,7 @@ module _ (t : TableView) (f : Facts) (whole : AreFactsOf t f) where
 
   -- what a table says of a listed term
   abbrev IsListed : Application → Type 0
-  IsListed x = IsIn t x.term × ShapeFits t x.shape × (shape_term t x.shape ≡ term_at t x.term)
+  IsListed x = IsIn t x.term × ShapeFits t x.shape × (shape_term t x.shape ≡ term_at t x.term) × (x.takes_part ≡ takes_part (term_at t x.term))
 
   is_listed : (x : Application) → Contains f.listed x → IsListed x
   is_listed x there = All-contains IsListed f.listed x whole.terms there
@@ -103,6 +103,10 @@ module _ (t : TableView) (f : Facts) (whole : AreFactsOf t f) where
   -- the term of an equality is that of its sides
   pub equality_term : (e a b : TermId) → IsEquality f.listed e a b → term_at t e ≡ equal (term_at t a) (term_at t b)
   equality_term e a b q = ap (term_at t) (sym q.term) ∙ sym (is_listed q.at q.there).2 ∙ ap (shape_term t) q.shape
+
+  -- it takes part where its term does
+  equality_part : (e a b : TermId) → (q : IsEquality f.listed e a b) → takes_part (term_at t e) ≡ q.at.takes_part
+  equality_part e a b q = ap (λ (n : TermId). takes_part (term_at t n)) (sym q.term) ∙ sym (is_listed q.at q.there).3
 
   -- a held equality is held among terms
   pub equality_literal : (l : Lit) (a b : TermId) (sign : Bool) → Contains f.held l → l.positive ≡ sign → IsEquality f.listed l.term a b
@@ -128,15 +132,17 @@ module _ (t : TableView) (f : Facts) (whole : AreFactsOf t f) where
     terms_equal a b (itself _) = same_term (term_at t a)
     terms_equal a b (turned _ _ h) = turned_terms (term_at t b) (term_at t a) (terms_equal b a h)
     terms_equal a b (joined _ c _ h k) = joined_terms (term_at t a) (term_at t c) (term_at t b) (terms_equal a c h) (terms_equal c b k)
-    terms_equal a b (by_arguments x y x_there y_there same arguments) =
+    terms_equal a b (by_arguments x y x_there y_there same x_part y_part arguments) =
         let x_is : shape_term t x.shape ≡ term_at t x.term = (is_listed x x_there).2 in
         let y_is : of (head_meant t x.shape.head) (clause_at t y.shape.arguments) ≡ term_at t y.term =
         ap (λ h. of (head_meant t h) (clause_at t y.shape.arguments)) same ∙ (is_listed y y_there).2 in
+        let x_takes : takes_part (shape_term t x.shape) ≡ true = ap takes_part x_is ∙ sym (is_listed x x_there).3 ∙ x_part in
+        let y_takes : takes_part (of (head_meant t x.shape.head) (clause_at t y.shape.arguments)) ≡ true = ap takes_part y_is ∙ sym (is_listed y y_there).3 ∙ y_part in
         let here = to_image (λ (z : Application). term_at t z.term) f.listed x x_there in
         let there = to_image (λ (z : Application). term_at t z.term) f.listed y y_there in
         subst (λ u. AreEqual listed literals u (term_at t y.term)) x_is (subst (AreEqual listed literals (shape_term t x.shape)) y_is
         (by_equal_arguments (head_meant t x.shape.head) (terms_of (clause_at t x.shape.arguments)) (terms_of (clause_at t y.shape.arguments))
-        (subst (Contains listed) (sym x_is) here) (subst (Contains listed) (sym y_is) there) (all_equal x.shape.arguments y.shape.arguments arguments)))
+        (subst (Contains listed) (sym x_is) here) (subst (Contains listed) (sym y_is) there) x_takes y_takes (all_equal x.shape.arguments y.shape.arguments arguments)))
 
     pub all_equal : (xs ys : List TermId) → AreCongruentIn f xs ys → AreAllEqual listed literals (terms_of (clause_at t xs)) (terms_of (clause_at t ys))
     all_equal _ _ none = no_terms
@@ -174,6 +180,11 @@ module _ (t : TableView) (f : Facts) (whole : AreFactsOf t f) where
         one_is = two.one_is;
         other_is = two.other_is;
       }
+
+  equality_takes : (u v : Term) (sign : Bool) → (e : IsHeldEquality t f u v sign) → takes_part (equal u v) ≡ true → e.equality.at.takes_part ≡ true
+  equality_takes u v sign e part =
+      sym (equality_part e.literal.term e.one e.other e.equality) ∙ ap takes_part (equality_term e.literal.term e.one e.other e.equality)
+      ∙ (λ i. takes_part (equal (e.one_is i) (e.other_is i))) ∙ part
 
   module _ (apart : AreDifferent t.terms) (declared : AreDeclared t.sorts t.symbols) where
     -- heads that mean one head are one
@@ -227,7 +238,7 @@ module _ (t : TableView) (f : Facts) (whole : AreFactsOf t f) where
       numbers_congruent _ _ (same_term u) = inl refl
       numbers_congruent v u (turned_terms _ _ h) = turn_numbered u v (numbers_congruent u v h)
       numbers_congruent u w (joined_terms _ v _ h k) = join_numbered u v w (numbers_congruent u v h) (numbers_congruent v w k)
-      numbers_congruent _ _ (by_equal_arguments h ts us ts_there us_there arguments) =
+      numbers_congruent _ _ (by_equal_arguments h ts us ts_there us_there ts_part us_part arguments) =
           let (x, x_there, x_is) = from_image (λ (z : Application). term_at t z.term) f.listed (app h ts) ts_there in
           let (y, y_there, y_is) = from_image (λ (z : Application). term_at t z.term) f.listed (app h us) us_there in
           let x_listed = is_listed x x_there in
@@ -243,6 +254,8 @@ module _ (t : TableView) (f : Facts) (whole : AreFactsOf t f) where
             other_is = y_is;
             congruent = by_arguments x y x_there y_there
                 (one_head x.shape y.shape x_listed.1.head y_listed.1 (x_written.head ∙ sym y_written.head))
+                (x_listed.3 ∙ ap takes_part x_is ∙ ts_part)
+                (y_listed.3 ∙ ap takes_part y_is ∙ us_part)
                 (all_numbers ts us arguments x.shape.arguments y.shape.arguments x_listed.1.arguments y_listed.1.arguments x_written.arguments y_written.arguments);
           })
 
@@ -267,13 +280,19 @@ module _ (t : TableView) (f : Facts) (whole : AreFactsOf t f) where
     refuted_terms (inl h) =
         inl (subst (λ u. AreEqual listed literals u (truth_term false)) whole.true_is
         (subst (AreEqual listed literals (term_at t f.truths.true_term)) whole.false_is (terms_equal f.truths.true_term f.truths.false_term h)))
-    refuted_terms (inr (a, b, d, h)) = inr (term_at t a, term_at t b, equality_literal d.literal a b false d.held d.negative d.equality, terms_equal a b h)
+    refuted_terms (inr (a, b, d, h)) = inr (
+      term_at t a,
+      term_at t b,
+      equality_literal d.literal a b false d.held d.negative d.equality,
+      ap takes_part (sym (equality_term d.literal.term a b d.equality)) ∙ equality_part d.literal.term a b d.equality ∙ d.part,
+      terms_equal a b h,
+    )
 
     pub refuted_numbers : AreRefuted listed literals → FactsAreRefuted f
     refuted_numbers (inl h) =
         inl (numbers_of f.truths.true_term f.truths.false_term (truth_term true) (truth_term false) whole.true_there whole.false_there whole.true_is whole.false_is
         (numbers_congruent (truth_term true) (truth_term false) h))
-    refuted_numbers (inr (u, v, there, h)) =
+    refuted_numbers (inr (u, v, there, part, h)) =
         let e = held_equality u v false there in
-        let denied : IsDenied f e.one e.other = record { literal = e.literal; held = e.held; negative = e.positive; equality = e.equality } in
+        let denied : IsDenied f e.one e.other = record { literal = e.literal; held = e.held; negative = e.positive; equality = e.equality; part = equality_takes u v false e part } in
         inr (e.one, e.other, denied, numbers_of e.one e.other u v e.one_there e.other_there e.one_is e.other_is (numbers_congruent u v h))

@@ -42,7 +42,7 @@ module _ (f : Facts) where
   reason_congruent e es (Held l) (there, inr s) sound = turned e.b e.a (stated l e.b e.a there s)
   reason_congruent e es (Arguments a b) (_, _, m) sound =
       subst (λ t. IsCongruentIn f t e.b) m.one_is (subst (IsCongruentIn f m.one.term) m.other_is
-      (by_arguments m.one m.other m.one_there m.other_there m.heads (all_congruent es sound m.one.shape.arguments m.other.shape.arguments m.arguments)))
+      (by_arguments m.one m.other m.one_there m.other_there m.heads m.one_part m.other_part (all_congruent es sound m.one.shape.arguments m.other.shape.arguments m.arguments)))
 
   more_sound : (e : Edge) (es : List Edge) → IsSound es → IsCongruentIn f e.a e.b → (x y : TermId) → Linked es x.0 y.0 ⊎ IsJoinedBy e es x.0 y.0 ⊎ IsJoinedBy e es y.0 x.0 → IsCongruentIn f x y
   more_sound e es sound r x y (inl h) = sound x y h
@@ -62,7 +62,7 @@ module _ (f : Facts) where
     congruent_linked es ok x y (itself _) = refl
     congruent_linked es ok x y (turned _ _ h) = sym (congruent_linked es ok y x h)
     congruent_linked es ok x y (joined _ z _ h k) = congruent_linked es ok x z h ∙ congruent_linked es ok z y k
-    congruent_linked es ok x y (by_arguments v w v_there w_there heads arguments) = ok.arguments v w v_there w_there heads (all_linked es ok v.shape.arguments w.shape.arguments arguments)
+    congruent_linked es ok x y (by_arguments v w v_there w_there heads v_part w_part arguments) = ok.arguments v w v_there w_there heads v_part w_part (all_linked es ok v.shape.arguments w.shape.arguments arguments)
 
     pub all_linked : (es : List Edge) → IsClosed f es → (xs ys : List TermId) → AreCongruentIn f xs ys → roots es xs ≡ roots es ys
     all_linked es ok [] [] none = refl

@@ -1,7 +1,8 @@
 -- Facts of a table, over a table that extends it.
-use Rattle.std.proofs.Common.{◌≡◌, List, [], ◌∷◌, map, Contains, refl, sym, ◌∙◌, subst}
+use Rattle.std.proofs.Common.{◌≡◌, List, [], ◌∷◌, map, Contains, refl, sym, ◌∙◌, ap, subst}
 use Rattle.std.specs.Prelude.{All}
 use Rattle.std.proofs.lemmas.List.Elements.{All-contains, All-head, All-tail, All-weaker}
+use Rattle.spec_equality.specs.Congruence.{takes_part}
 use Rattle.term_core.specs.declared.ids.Lit.{Lit}
 use Rattle.term_core.specs.Tables.{TableView, term_at, IsIn, ShapeFits, shape_term, literal_at, Extends}
 use Rattle.term_core.proofs.TermsExtend.{IsIn-kept, term_at-kept, literal_at-kept, shape_term-kept, Fits-kept}
@@ -9,12 +10,16 @@ use Rattle.congruence_relation.specs.Relation.{Application, Facts, AreFactsOf, t
 
 -- what a table says of a listed term
 abbrev IsListedIn : TableView → Application → Type 0
-IsListedIn t x = IsIn t x.term × ShapeFits t x.shape × (shape_term t x.shape ≡ term_at t x.term)
+IsListedIn t x = IsIn t x.term × ShapeFits t x.shape × (shape_term t x.shape ≡ term_at t x.term) × (x.takes_part ≡ takes_part (term_at t x.term))
 
 module _ (t u : TableView) (grows : Extends t u) where
   listed_kept : (x : Application) → IsListedIn t x → IsListedIn u x
-  listed_kept x (there, fits, is) =
-      (IsIn-kept t u grows x.term there, Fits-kept t u grows x.shape fits, shape_term-kept t u grows x.shape fits ∙ is ∙ sym (term_at-kept t u grows x.term there))
+  listed_kept x (there, fits, is, part) = (
+    IsIn-kept t u grows x.term there,
+    Fits-kept t u grows x.shape fits,
+    shape_term-kept t u grows x.shape fits ∙ is ∙ sym (term_at-kept t u grows x.term there),
+    part ∙ ap takes_part (sym (term_at-kept t u grows x.term there)),
+  )
 
   terms_kept : (xs : List Application) → All (IsListedIn t) xs → map (λ (x : Application). term_at u x.term) xs ≡ map (λ (x : Application). term_at t x.term) xs
   terms_kept [] there = refl

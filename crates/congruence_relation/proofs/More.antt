@@ -22,15 +22,16 @@ module _ (f g : Facts) (grows : AreMore f g) where
     congruent_more a _ (itself _) = itself a
     congruent_more b a (turned _ _ e) = turned a b (congruent_more a b e)
     congruent_more a c (joined _ b _ d e) = joined a b c (congruent_more a b d) (congruent_more b c e)
-    congruent_more _ _ (by_arguments x y x_there y_there heads es) =
-        by_arguments x y (grows.listed x x_there) (grows.listed y y_there) heads (all_more x.shape.arguments y.shape.arguments es)
+    congruent_more _ _ (by_arguments x y x_there y_there heads x_part y_part es) =
+        by_arguments x y (grows.listed x x_there) (grows.listed y y_there) heads x_part y_part (all_more x.shape.arguments y.shape.arguments es)
 
     pub all_more : (xs ys : List TermId) → AreCongruentIn f xs ys → AreCongruentIn g xs ys
     all_more _ _ none = none
     all_more _ _ (more a b xs ys e es) = more a b xs ys (congruent_more a b e) (all_more xs ys es)
 
   pub denied_more : (a b : TermId) → IsDenied f a b → IsDenied g a b
-  denied_more a b d = record { literal = d.literal; held = grows.held d.literal d.held; negative = d.negative; equality = equality_more d.literal.term a b d.equality }
+  unfolding equality_more
+  denied_more a b d = record { literal = d.literal; held = grows.held d.literal d.held; negative = d.negative; equality = equality_more d.literal.term a b d.equality; part = d.part }
 
   pub reason_more : (es : List Edge) (e : Edge) (l : Label) → IsEdgeReason f es e l → IsEdgeReason g es e l
   reason_more es e (Held l) (there, inl s) = (grows.held l there, inl (states_more l e.a e.b s))
@@ -45,6 +46,8 @@ module _ (f g : Facts) (grows : AreMore f g) where
       other_there = grows.listed m.other m.other_there;
       one_is = m.one_is;
       other_is = m.other_is;
+      one_part = m.one_part;
+      other_part = m.other_part;
       heads = m.heads;
       arguments = m.arguments;
     },

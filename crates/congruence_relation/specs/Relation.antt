@@ -2,6 +2,7 @@
 -- congruence closure, JACM 1980.
 use Rattle.std.specs.Prelude.{◌≡◌, ◌⊎◌, Bool, true, false, List, [], ◌∷◌, map, All, Contains}
 use Rattle.spec_sorts.specs.Terms.{True, False, Term, of}
+use Rattle.spec_equality.specs.Congruence.{takes_part}
 use Rattle.term_core.specs.declared.ids.TermId.{TermId}
 use Rattle.term_core.specs.declared.ids.Lit.{Lit}
 use Rattle.term_core.specs.declared.nodes.Head.TheVariants as heads
@@ -9,16 +10,18 @@ use Rattle.term_core.specs.Tables.{TableView, Shape, shape_of, shape_term, term_
 use Rattle.congruence_relation.specs.declared.Truths.{Truths}
 use Rattle.congruence_relation.specs.declared.Listed.{Listed}
 
--- A listed term: its number, and its head and arguments.
+-- A listed term: its number, its head and arguments, and whether it takes part.
 pub record Application : Type 0 where
   -- the number
   pub term : TermId
   -- the head and the arguments
   pub shape : Shape
+  -- it is equal to others by its arguments, and has sides that may not be equal where it is denied
+  pub takes_part : Bool
 
 -- what is listed
 abbrev pub application : Listed → Application
-application x = record { term = x.term; shape = shape_of x.node }
+application x = record { term = x.term; shape = shape_of x.node; takes_part = x.takes_part }
 
 -- the same of a list
 abbrev pub applications : List Listed → List Application
@@ -68,9 +71,9 @@ mutual
     turned : (a b : TermId) → IsCongruentIn f a b → IsCongruentIn f b a
     -- by a third term
     joined : (a b c : TermId) → IsCongruentIn f a b → IsCongruentIn f b c → IsCongruentIn f a c
-    -- listed terms with one head and equal arguments
+    -- listed terms that take part, with one head and equal arguments
     by_arguments : (x y : Application) → Contains f.listed x → Contains f.listed y → x.shape.head ≡ y.shape.head
-        → AreCongruentIn f x.shape.arguments y.shape.arguments → IsCongruentIn f x.term y.term
+        → x.takes_part ≡ true → y.takes_part ≡ true → AreCongruentIn f x.shape.arguments y.shape.arguments → IsCongruentIn f x.term y.term
 
   -- as many terms as others, each equal to the other in its place
   pub data AreCongruentIn (f : Facts) : List TermId → List TermId → Type 0 where
@@ -80,7 +83,7 @@ mutual
     more : (a b : TermId) (xs ys : List TermId) → IsCongruentIn f a b → AreCongruentIn f xs ys
         → AreCongruentIn f (a ∷ xs) (b ∷ ys)
 
--- A held literal denies that two terms are equal.
+-- A held literal denies that two terms are equal, and their equality takes part.
 pub record IsDenied (f : Facts) (a b : TermId) : Type 0 where
   -- the literal
   pub literal : Lit
@@ -90,6 +93,8 @@ pub record IsDenied (f : Facts) (a b : TermId) : Type 0 where
   pub negative : literal.positive ≡ false
   -- its term is their equality
   pub equality : IsEquality f.listed literal.term a b
+  -- which takes part
+  pub part : equality.at.takes_part ≡ true
 
 -- the two sides of a denied equality are equal
 abbrev pub HasJoinedSides : Facts → Type 0
@@ -110,8 +115,9 @@ pub record AreMore (old new : Facts) : Type 0 where
 
 -- What is listed are terms of a table, and the truth values are its own.
 pub record AreFactsOf (t : TableView) (f : Facts) : Type 0 where
-  -- each listed term is one of the table's, with its head and its arguments
-  pub terms : All (λ x. IsIn t x.term × ShapeFits t x.shape × (shape_term t x.shape ≡ term_at t x.term)) f.listed
+  -- each listed term is one of the table's, with its head and its arguments, and takes part where the term does
+  pub terms : All (λ x. IsIn t x.term × ShapeFits t x.shape × (shape_term t x.shape ≡ term_at t x.term)
+      × (x.takes_part ≡ takes_part (term_at t x.term))) f.listed
   -- `true`
   pub true_there : IsIn t f.truths.true_term
   pub true_is : term_at t f.truths.true_term ≡ of True []

@@ -19,13 +19,15 @@ pub struct Truths {
     pub false_term: TermId,
 }
 
-/// Holds a term that is watched: its number, and a copy of its head and its arguments.
+/// Holds a term that is watched: its number, a copy of its head and its arguments, and whether it takes part.
 #[derive(Drop)]
 pub struct Listed {
     /// The term.
     pub term: TermId,
     /// What is in it.
     pub node: Node,
+    /// Whether it is equal to other terms by its arguments. Connectives are not: clauses say what they mean.
+    pub takes_part: bool,
 }
 
 /// Says what held literals contradict.

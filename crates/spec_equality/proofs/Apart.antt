@@ -6,7 +6,7 @@ use Rattle.spec_sorts.specs.Terms.{Head, Term, Terms, no_term, app, nil, cons, l
 use Rattle.spec_sorts.specs.Literals.{Literal}
 use Rattle.spec_equality.specs.Reasons.{equal}
 use Rattle.spec_text.proofs.Members.{none as nothing}
-use Rattle.spec_equality.specs.Congruence.{truth_term, signed_literal, IsCongruent, AreCongruent, equated, decided, itself, turned, joined, by_arguments, none, more}
+use Rattle.spec_equality.specs.Congruence.{truth_term, signed_literal, takes_part, IsCongruent, AreCongruent, equated, decided, itself, turned, joined, by_arguments, none, more}
 
 -- Each of two terms that are stated to be equal, or are listed with one head and arguments of the same classes, is of the other's class.
 pub record AreKept {K : Type 0} (listed : List Term) (held : List Literal) (class : Term → K) : Type 0 where
@@ -25,7 +25,7 @@ module _ {K : Type 0} (listed : List Term) (held : List Literal) (class : Term �
     one_class t _ (itself _) = refl
     one_class u t (turned _ _ e) = sym (one_class t u e)
     one_class t v (joined _ u _ e g) = one_class t u e ∙ one_class u v g
-    one_class _ _ (by_arguments h ts us ts_there us_there es) = kept.terms h ts us ts_there us_there (all_classes ts us es)
+    one_class _ _ (by_arguments h ts us ts_there us_there _ _ es) = kept.terms h ts us ts_there us_there (all_classes ts us es)
 
     pub all_classes : (ts us : Terms) → AreCongruent listed held ts us → map class (list_of ts) ≡ map class (list_of us)
     all_classes _ _ none = refl
@@ -81,5 +81,5 @@ module _ {K : Type 0} (class : Term → K) where
 
 -- listed terms of one argument are equal where their arguments are
 pub by_one : (listed : List Term) (held : List Literal) (h : Head) (t u : Term) → Contains listed (app h (cons t nil)) → Contains listed (app h (cons u nil))
-    → IsCongruent listed held t u → IsCongruent listed held (app h (cons t nil)) (app h (cons u nil))
-by_one listed held h t u t_there u_there e = by_arguments h (cons t nil) (cons u nil) t_there u_there (more t u nil nil e none)
+    → takes_part (app h (cons t nil)) ≡ true → takes_part (app h (cons u nil)) ≡ true → IsCongruent listed held t u → IsCongruent listed held (app h (cons t nil)) (app h (cons u nil))
+by_one listed held h t u t_there u_there t_part u_part e = by_arguments h (cons t nil) (cons u nil) t_there u_there t_part u_part (more t u nil nil e none)

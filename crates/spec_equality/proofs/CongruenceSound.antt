@@ -29,7 +29,7 @@ module _ (i : Interpretation) (listed : List Term) (held : List Literal) (true_h
     one_value t _ (itself _) = refl
     one_value u t (turned _ _ e) = sym (one_value t u e)
     one_value t v (joined _ u _ e g) = one_value t u e ∙ one_value u v g
-    one_value _ _ (by_arguments h ts us _ _ es) = by_values i h ts us (all_values ts us es)
+    one_value _ _ (by_arguments h ts us _ _ _ _ es) = by_values i h ts us (all_values ts us es)
 
     pub all_values : (ts us : Terms) → AreCongruent listed held ts us → values_at i [] ts ≡ values_at i [] us
     all_values _ _ none = refl
@@ -37,4 +37,4 @@ module _ (i : Interpretation) (listed : List Term) (held : List Literal) (true_h
 
   pub never_refuted : IsRefuted listed held → ⊥
   never_refuted (inl e) = false≢true (ap is_true (sym (truth_value false) ∙ sym (one_value (truth_term true) (truth_term false) e) ∙ truth_value true))
-  never_refuted (inr (t, u, there, e)) = false≢true (sym (ap is_true (is_held (signed_literal (equal t u) false) there)) ∙ same_sides i t u (one_value t u e))
+  never_refuted (inr (t, u, there, _, e)) = false≢true (sym (ap is_true (is_held (signed_literal (equal t u) false) there)) ∙ same_sides i t u (one_value t u e))

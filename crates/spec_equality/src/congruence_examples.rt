@@ -1,10 +1,11 @@
 //! Worked examples: what held literals make equal, and what they do not. Each is a function whose contract says it; it computes
 //! nothing. The constants a and b have a declared sort, and so have `(f t)` and `(h t)`. The function h takes a term of sort Bool.
 
-ghost use Rattle.std.specs.Prelude.{true, false, [], ◌∷◌};
+ghost use Rattle.std.specs.Prelude.{◌≡◌, true, false, [], ◌∷◌};
 ghost use Rattle.spec_equality.specs.Reasons.{equal};
 ghost use Rattle.spec_equality.specs.Examples.{a, b};
-ghost use Rattle.spec_equality.specs.Congruence.{truth_term, IsCongruent, IsRefuted, IsFine};
+ghost use Rattle.spec_equality.specs.Congruence.{truth_term, takes_part, IsCongruent, IsRefuted, IsFine};
+ghost use Rattle.spec_sorts.specs.Terms.{And, Ite, negated, of};
 ghost use Rattle.spec_equality.specs.CongruenceExamples.{f, h, same, apart};
 
 /// States that terms with equal arguments are equal where both are listed. Terms that are equal say nothing of their arguments.
@@ -31,4 +32,15 @@ pub fn held_terms_are_truth_values()
     ensures both { IsRefuted [] (same a b ∷ apart a b ∷ []) }
     ensures not_held { IsCongruent (f a ∷ f b ∷ equal (f a) (f b) ∷ []) (same a b ∷ [])
         (equal (f a) (f b)) (truth_term true) → ⊥ }
+{}
+
+/// States which terms take part: applications, negations, and equalities and choices between terms of another sort than Bool.
+pub fn connectives_take_no_part()
+    ensures application { takes_part (f a) ≡ true }
+    ensures negation { takes_part (negated (equal a b)) ≡ true }
+    ensures equality { takes_part (equal a b) ≡ true }
+    ensures conjunction { takes_part (of And (equal a b ∷ equal b a ∷ [])) ≡ false }
+    ensures truths { takes_part (equal (equal a b) (equal b a)) ≡ false }
+    ensures choice { takes_part (of Ite (equal a b ∷ a ∷ b ∷ [])) ≡ true }
+    ensures choice_of_truths { takes_part (of Ite (equal a b ∷ equal a b ∷ equal b a ∷ [])) ≡ false }
 {}
