@@ -2,7 +2,7 @@
 use Rattle.std.proofs.Common.{◌≡◌, ◌↔◌, Bool, true, false, not, ◌||◌, ◌&&◌, cond, ◌<ℤ◌, List, [], ◌∷◌, length, map, Contains, pos, refl, sym, ap, ◌∙◌, subst, arith}
 use Rattle.std.specs.Prelude.{flat_map}
 use Rattle.std.specs.List.{list_any}
-use Rattle.std.proofs.lemmas.Bool.{false≢true, and_parts, not-true}
+use Rattle.std.proofs.lemmas.Bool.{false≢true, true≢false, and_parts, not-true}
 use Rattle.std.proofs.lemmas.Int.{ints}
 use Rattle.std.proofs.lemmas.List.Elements.{All-contains, Contains-append_left, Contains-append_right}
 use Rattle.spec_text.proofs.Members.{first, later, to_image, in_flat}
@@ -183,7 +183,7 @@ module _ (symbols : List Symbol) (p : Problem) (terms : List Term) (held : List 
   -- theories agree on the sides of an equality of which the search speaks: its truth says what the classes are, and what the numbers are
   pub sides_agree : (s t : Term) → Contains terms (pair Equal s t) → sort_of s ≡ Number → (a.class s ≡ a.class t) ↔ (point s ≡ point t)
   sides_agree s t c left =
-      let classes = equality_classes symbols p terms held a.truths a.class at_saturation s t c in
+      let classes = equality_classes symbols p terms held a.truths a.class at_saturation s t c (λ q. true≢false (ap (λ (x : Sort). same_sort x Truth) (sym q ∙ left))) in
       let numbers = (equal_sides s t c left).1 in
       (λ e. numbers.0 (classes.1 e), λ e. classes.0 (numbers.1 e))
 

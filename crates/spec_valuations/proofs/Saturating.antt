@@ -149,8 +149,8 @@ module _ (symbols : List Symbol) (p : Problem) (terms : List Term) (held : List 
   classes : AreClasses is_so class terms
   classes = are_classes symbols terms held is_so class listed are_held r.fine r.tells
 
-  -- a listed equality is true exactly where its sides are of one class
-  pub equality_classes : (s t : Term) → Contains terms (pair Equal s t) → (is_so (pair Equal s t) ≡ true) ↔ (class s ≡ class t)
+  -- a listed equality of terms of another sort than Bool is true exactly where its sides are of one class
+  pub equality_classes : (s t : Term) → Contains terms (pair Equal s t) → sort_of s ≢ Truth → (is_so (pair Equal s t) ≡ true) ↔ (class s ≡ class t)
   equality_classes = told_by_classes symbols terms held is_so class listed are_held r.fine r.tells
 
   -- what the clauses of a listed choice say
