@@ -1,5 +1,5 @@
 -- What parts keep where terms come, a term is listed, or a literal is held.
-use Rattle.std.proofs.Common.{◌≡◌, ℕ, ◌<◌, ◌≤◌, List, [], ◌∷◌, ◌++◌, ◌↔◌, length, get_or, inl, inr, ◌⊎◌, refl, sym, ap, ◌∙◌, subst, arith}
+use Rattle.std.proofs.Common.{◌≡◌, ℕ, ◌<◌, ◌≤◌, true, List, [], ◌∷◌, ◌++◌, ◌↔◌, length, get_or, inl, inr, ◌⊎◌, refl, sym, ap, ◌∙◌, subst, arith}
 use Rattle.std.specs.Prelude.{All, Contains}
 use Rattle.std.proofs.lemmas.Bool.{cases_lt}
 use Rattle.std.proofs.lemmas.List.{length_push, get_or_append_left, get_or_push}
@@ -86,12 +86,13 @@ module _ (s : PartsState) (count : ℕ) (h : PartsFit s) where
     keys = record {
       keys = h.keys.keys;
       holders = h.keys.holders;
+      parts = h.keys.parts;
       low = λ k lt j d low. more (h.keys.low k lt j d low);
       present = λ k lt live. h.keys.present k lt (λ j d low. old_live k lt j d low (live j d low)) ∙ sym (same_key (holder_at s.keys k) (h.keys.holders k lt));
     };
     looked = h.looked;
     given = h.given;
-    ready = λ i lt. go i lt (h.ready i lt);
+    ready = λ i lt part. go i lt (h.ready i lt part);
     stated = λ j a b lt states.
         let low = states_low s h (held_at s.facts.held j) a b (held_there s.facts.held j (omega (arith, lt, h.given))) states in
         same_at a low.0 ∙ h.stated j a b lt states ∙ sym (same_at b low.1);
@@ -130,12 +131,13 @@ kept_start truths numbers joint true_in false_in = record {
   keys = record {
     keys = record { count = refl; once = λ j k a b e. none a };
     holders = λ k lt. none lt;
+    parts = λ k lt. none lt;
     low = λ k lt. none lt;
     present = λ k lt live. none lt;
   };
   looked = omega arith;
   given = omega arith;
-  ready = λ i lt. none lt;
+  ready = λ i lt part. none lt;
   stated = λ j a b lt states. none lt;
 }
   where
@@ -200,20 +202,21 @@ module _ (s : PartsState) (x : Application) (h : PartsFit s) (absent : IsListed 
     keys = record {
       keys = h.keys.keys;
       holders = λ k lt. omega (arith, h.keys.holders k lt, length_push s.facts.listed x);
+      parts = λ k lt. ap (λ (y : Application). y.takes_part) (old_at (holder_at s.keys k) (h.keys.holders k lt)) ∙ h.keys.parts k lt;
       low = h.keys.low;
       present = λ k lt live. h.keys.present k lt live ∙ ap (λ (y : Application). key_of s.numbers y.shape) (sym (old_at (holder_at s.keys k) (h.keys.holders k lt)));
     };
     looked = omega (arith, h.looked, length_push s.facts.listed x);
     given = h.given;
-    ready = λ i lt. go i (places s.facts.listed x i lt);
+    ready = λ i lt part. go i (places s.facts.listed x i lt) part;
     stated = λ j a b lt states.
         h.stated j a b lt (old_states (held_at s.facts.held j) a b (held_listed s h (held_at s.facts.held j) (held_there s.facts.held j (omega (arith, lt, h.given)))) states);
   }
     where
-      go : (i : ℕ) → (i < length s.facts.listed) ⊎ (i ≡ length s.facts.listed)
+      go : (i : ℕ) → (i < length s.facts.listed) ⊎ (i ≡ length s.facts.listed) → (nth (s.facts.listed ++ x ∷ []) i).takes_part ≡ true
           → IsPending s.left i ⊎ (HasKey (with_facts s (with_listed s.facts x)) i × IsApart (with_facts s (with_listed s.facts x)) i)
-      go i (inr last) = inl (inl (omega (arith, last, h.looked)))
-      go i (inl lt) = ready (h.ready i lt)
+      go i (inr last) part = inl (inl (omega (arith, last, h.looked)))
+      go i (inl lt) part = ready (h.ready i lt (sym (ap (λ (y : Application). y.takes_part) (old_at i lt)) ∙ part))
         where
           ready : IsPending s.left i ⊎ (HasKey s i × IsApart s i) → IsPending s.left i ⊎ (HasKey (with_facts s (with_listed s.facts x)) i × IsApart (with_facts s (with_listed s.facts x)) i)
           ready (inl p) = inl p
@@ -245,10 +248,10 @@ module _ (s : PartsState) (l : Lit) (h : PartsFit s) (listed : IsListed s.facts.
     there = record { true_in = h.there.true_in; false_in = h.there.false_in; terms = h.there.terms };
     joint = h.joint;
     reasons = reasons_more s.facts (with_held s.facts l) (record { listed = λ y c. c; truths = refl; held = λ m c. Contains-append_left s.facts.held (l ∷ []) m c }) s.edges h.reasons;
-    keys = record { keys = h.keys.keys; holders = h.keys.holders; low = h.keys.low; present = h.keys.present };
+    keys = record { keys = h.keys.keys; holders = h.keys.holders; parts = h.keys.parts; low = h.keys.low; present = h.keys.present };
     looked = h.looked;
     given = omega (arith, h.given, length_push s.facts.held l);
-    ready = λ i lt. go i (h.ready i lt);
+    ready = λ i lt part. go i (h.ready i lt part);
     stated = λ j a b lt states.
         h.stated j a b lt (subst (λ (m : Lit). StatesEqual s.facts m a b) (held_before s.facts.held l j (omega (arith, lt, h.given))) (same_states (held_at (s.facts.held ++ l ∷ []) j) a b states));
   }

@@ -157,17 +157,17 @@ module _ (s : PartsState) (a b : TermId) (h : PartsFit s) (a_low : a.0 < length 
     still i (inl past) = inl past
     still i (inr c) = inr (subst (λ xs. Contains xs i) (sym is) (Contains-append_left s.left.pending more i c))
 
-    ready_after : (i : ℕ) → i < length s.facts.listed → IsPending s.left i ⊎ (HasKey s i × IsApart s i)
+    ready_after : (i : ℕ) → i < length s.facts.listed → (nth s.facts.listed i).takes_part ≡ true → IsPending s.left i ⊎ (HasKey s i × IsApart s i)
         → IsPending (record { looked = s.left.looked; given = s.left.given; pending = pending }) i ⊎ (HasKey (with_edge s a b label pending) i × IsApart (with_edge s a b label pending) i)
-    ready_after i lt (inl p) = inl (still i p)
-    ready_after i lt (inr (k, sides)) = go (find_class s.numbers (class_at s.numbers a) (nth s.facts.listed i).shape.arguments)
+    ready_after i lt part (inl p) = inl (still i p)
+    ready_after i lt part (inr (k, sides)) = go (find_class s.numbers (class_at s.numbers a) (nth s.facts.listed i).shape.arguments)
       where
         go : ((t : TermId) → Contains (nth s.facts.listed i).shape.arguments t → class_at s.numbers t ≢ class_at s.numbers a)
             ⊎ ((t : TermId) × Contains (nth s.facts.listed i).shape.arguments t × (class_at s.numbers t ≡ class_at s.numbers a))
             → IsPending (record { looked = s.left.looked; given = s.left.given; pending = pending }) i ⊎ (HasKey (with_edge s a b label pending) i × IsApart (with_edge s a b label pending) i)
         go (inr (t, c, e)) =
             let low : t.0 < length s.numbers = subst (λ (u : TermId). u.0 < length s.numbers) c.2 (arguments_low s h i lt c.0 t c.1) in
-            inl (inr (subst (λ xs. Contains xs i) (sym is) (Contains-append_right s.left.pending more i (users i t lt c low e))))
+            inl (inr (subst (λ xs. Contains xs i) (sym is) (Contains-append_right s.left.pending more i (users i t lt part c low e))))
         go (inl none) = inr (
           record {
             at = k.at;
@@ -191,12 +191,13 @@ module _ (s : PartsState) (a b : TermId) (h : PartsFit s) (a_low : a.0 < length 
       keys = record {
         keys = h.keys.keys;
         holders = h.keys.holders;
+        parts = h.keys.parts;
         low = λ k lt j d low. omega (arith, h.keys.low k lt j d low, size);
         present = present_after;
       };
       looked = h.looked;
       given = h.given;
-      ready = λ i lt. ready_after i lt (h.ready i lt);
+      ready = λ i lt part. ready_after i lt part (h.ready i lt part);
       stated = λ j c d lt states.
           let low = states_low s h (held_at s.facts.held j) c d (held_there s.facts.held j (omega (arith, lt, h.given))) states in
           same_more c d low.0 low.1 (h.stated j c d lt states);
@@ -206,3 +207,20 @@ module _ (s : PartsState) (a b : TermId) (h : PartsFit s) (a_low : a.0 < length 
 pub why_reason : (f : Facts) (es : List Edge) (why : Option Lit) (a b : TermId) → IsWhy f es why a b → IsEdgeReason f es (record { a = a; b = b; label = label why a b }) (label why a b)
 why_reason f es (Some l) a b w = w
 why_reason f es None a b w = (refl, refl, w)
+
+-- and the other way round
+pub why_turned : (f : Facts) (es : List Edge) (why : Option Lit) (a b : TermId) → IsWhy f es why a b → IsWhy f es why b a
+why_turned f es (Some l) a b (there, inl s) = (there, inr s)
+why_turned f es (Some l) a b (there, inr s) = (there, inl s)
+why_turned f es None a b m = record {
+  one = m.other;
+  other = m.one;
+  one_there = m.other_there;
+  other_there = m.one_there;
+  one_part = m.other_part;
+  other_part = m.one_part;
+  one_is = m.other_is;
+  other_is = m.one_is;
+  heads = sym m.heads;
+  arguments = sym m.arguments;
+}

@@ -1,5 +1,5 @@
 -- Lists by the numbers of terms, which find places.
-use Rattle.std.proofs.Common.{◌≡◌, ◌≢◌, ℕ, ◌+◌, ◌-◌, ◌<◌, ◌≤◌, List, [], ◌∷◌, ◌++◌, length, get_or, set, take, inl, inr, ◌⊎◌, sym, ap, ◌∙◌, subst, arith}
+use Rattle.std.proofs.Common.{◌≡◌, ◌≢◌, ℕ, ◌+◌, ◌-◌, ◌<◌, ◌≤◌, true, List, [], ◌∷◌, ◌++◌, length, get_or, set, take, inl, inr, ◌⊎◌, sym, ap, ◌∙◌, subst, arith}
 use Rattle.std.specs.Prelude.{Vec, Contains}
 use Rattle.std.specs.declared.alloc.Global.{Global}
 use Rattle.std.proofs.lemmas.Bool.{cases_lt, cases_eq}
@@ -78,7 +78,7 @@ none_there all t i past c = absurd (omega (arith, c.1, ap length (get_or_past al
 
 -- the lists of a listing have all users
 pub users_found : (listed : List Application) (places : List ℕ) (all : List (List ℕ)) (t : TermId) (xs : List ℕ) → IsIndexed listed places all → xs ≡ get_or all t.0 [] → AreUsers listed t xs
-users_found listed places all t xs h e i lt there = subst (λ (ys : List ℕ). Contains ys i) (sym e) (h.users i t lt there)
+users_found listed places all t xs h e i lt part there = subst (λ (ys : List ℕ). Contains ys i) (sym e) (h.users i t lt part there)
 
 -- a term that is not the one its entry leads to is not listed
 pub not_listed : (listed : List Application) (places : List ℕ) (all : List (List ℕ)) (t : TermId) → IsIndexed listed places all
@@ -93,7 +93,7 @@ indexed_take listed places all new n le kept h = record {
   once = λ i j a b e. h.once i j (low i a) (low j b) (sym (ap (λ (x : Application). x.term) (same i a)) ∙ e ∙ ap (λ (x : Application). x.term) (same j b));
   low = λ i a. subst (λ (x : Application). x.term.0 < length places) (sym (same i a)) (h.low i (low i a));
   places = λ i a. ap (λ (x : Application). get_or places x.term.0 0) (same i a) ∙ h.places i (low i a);
-  users = λ i t a c. kept t.0 i (below i a) (h.users i t (low i a) (subst (λ (x : Application). Contains x.shape.arguments t) (same i a) c));
+  users = λ i t a part c. kept t.0 i (below i a) (h.users i t (low i a) (sym (ap (λ (x : Application). x.takes_part) (same i a)) ∙ part) (subst (λ (x : Application). Contains x.shape.arguments t) (same i a) c));
 }
   where
     below : (i : ℕ) → i < length (take n listed) → i < n
@@ -107,12 +107,12 @@ indexed_take listed places all new n le kept h = record {
 
 -- a term came last
 pub indexed_push : (listed : List Application) (old grown : List ℕ) (all new : List (List ℕ)) (x : Application) → IsIndexed listed old all → (IsListed listed x.term → ⊥) → AreGrown old grown
-    → x.term.0 < length grown → HaveKeptBelow (length listed) all new → HaveNoted x.shape.arguments (length listed) new → IsIndexed (listed ++ x ∷ []) (set grown x.term.0 (length listed)) new
+    → x.term.0 < length grown → HaveKeptBelow (length listed) all new → (x.takes_part ≡ true → HaveNoted x.shape.arguments (length listed) new) → IsIndexed (listed ++ x ∷ []) (set grown x.term.0 (length listed)) new
 indexed_push listed old grown all new x h absent grew there kept noted = record {
   once = λ i j a b e. once i j (cases i a) (cases j b) e;
   low = λ i a. subst (λ n. (nth (listed ++ x ∷ []) i).term.0 < n) (sym (length-set grown x.term.0 (length listed))) (low i (cases i a));
   places = λ i a. entry i (cases i a);
-  users = λ i t a c. user i t (cases i a) c;
+  users = λ i t a part c. user i t (cases i a) part c;
 }
   where
     cases : (i : ℕ) → i < length (listed ++ x ∷ []) → (i < length listed) ⊎ (i ≡ length listed)
@@ -148,11 +148,12 @@ indexed_push listed old grown all new x h absent grew there kept noted = record 
         ∙ get_or-set_other grown x.term.0 (nth listed i).term.0 (length listed) 0 (apart i a) ∙ grew.same (nth listed i).term.0 (h.low i a) ∙ h.places i a
     entry i (inr a) = ap (λ (y : Application). get_or (set grown x.term.0 (length listed)) y.term.0 0) (new_at i a) ∙ get_or-set_same grown x.term.0 (length listed) 0 there ∙ sym a
 
-    user : (i : ℕ) (t : TermId) → (i < length listed) ⊎ (i ≡ length listed) → Contains (nth (listed ++ x ∷ []) i).shape.arguments t → Contains (get_or new t.0 []) i
-    user i t (inl a) c = kept t.0 i a (h.users i t a (subst (λ (y : Application). Contains y.shape.arguments t) (old_at i a) c))
-    user i t (inr a) c =
+    user : (i : ℕ) (t : TermId) → (i < length listed) ⊎ (i ≡ length listed) → (nth (listed ++ x ∷ []) i).takes_part ≡ true → Contains (nth (listed ++ x ∷ []) i).shape.arguments t → Contains (get_or new t.0 []) i
+    user i t (inl a) part c = kept t.0 i a (h.users i t a (sym (ap (λ (y : Application). y.takes_part) (old_at i a)) ∙ part) (subst (λ (y : Application). Contains y.shape.arguments t) (old_at i a) c))
+    user i t (inr a) part c =
+        let taken : x.takes_part ≡ true = sym (ap (λ (y : Application). y.takes_part) (new_at i a)) ∙ part in
         let at : Contains x.shape.arguments t = subst (λ (y : Application). Contains y.shape.arguments t) (new_at i a) c in
-        subst (λ k. Contains (get_or new t.0 []) k) (sym a) (subst (λ (u : TermId). Contains (get_or new u.0 []) (length listed)) at.2 (noted at.0 t at.1))
+        subst (λ k. Contains (get_or new t.0 []) k) (sym a) (subst (λ (u : TermId). Contains (get_or new u.0 []) (length listed)) at.2 (noted taken at.0 t at.1))
 
 -- the lists may change where the terms are the same
 pub indexed_kept : (listed : List Application) (old grown : List ℕ) (all new : List (List ℕ)) → IsIndexed listed old all → AreGrown old grown → HaveKeptBelow (length listed) all new → IsIndexed listed grown new
@@ -160,5 +161,5 @@ indexed_kept listed old grown all new h grew kept = record {
   once = h.once;
   low = λ i a. omega (arith, h.low i a, grew.longer);
   places = λ i a. grew.same (nth listed i).term.0 (h.low i a) ∙ h.places i a;
-  users = λ i t a c. kept t.0 i a (h.users i t a c);
+  users = λ i t a part c. kept t.0 i a (h.users i t a part c);
 }

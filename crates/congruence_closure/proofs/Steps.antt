@@ -1,5 +1,5 @@
 -- What parts keep where a key is put, and where something is done.
-use Rattle.std.proofs.Common.{◌≡◌, ℕ, zero, suc, ◌+◌, ◌<◌, ◌≤◌, List, ◌∷◌, ◌++◌, length, get_or, inl, inr, ◌⊎◌, refl, sym, ap, ◌∙◌, subst, arith}
+use Rattle.std.proofs.Common.{◌≡◌, ℕ, zero, suc, ◌+◌, ◌<◌, ◌≤◌, true, List, ◌∷◌, ◌++◌, length, get_or, inl, inr, ◌⊎◌, refl, sym, ap, ◌∙◌, subst, arith}
 use Rattle.std.specs.Prelude.{All, Contains}
 use Rattle.std.proofs.lemmas.Bool.{cases_eq}
 use Rattle.std.proofs.lemmas.List.{length_push}
@@ -30,7 +30,7 @@ key_low s h i lt = each_class (IsLive s.numbers) s.numbers (nth s.facts.listed i
     (λ a c. h.joint.live a (subst (λ (t : TermId). t.0 < length s.numbers) c.2 (arguments_low s h i lt c.0 a c.1)))
 
 -- a key that was absent is put, with its term
-module _ (s : PartsState) (i : ℕ) (h : PartsFit s) (there : i < length s.facts.listed) (absent : IsAbsent s.keys (key_of s.numbers (nth s.facts.listed i).shape)) where
+module _ (s : PartsState) (i : ℕ) (h : PartsFit s) (there : i < length s.facts.listed) (absent : IsAbsent s.keys (key_of s.numbers (nth s.facts.listed i).shape)) (taken : (nth s.facts.listed i).takes_part ≡ true) where
   pub kept_key : PartsFit (with_keys s (with_key s.keys (key_of s.numbers (nth s.facts.listed i).shape) i))
   kept_key = record {
     order = h.order;
@@ -40,12 +40,13 @@ module _ (s : PartsState) (i : ℕ) (h : PartsFit s) (there : i < length s.facts
     keys = record {
       keys = keys_more s.keys (key_of s.numbers (nth s.facts.listed i).shape) i h.keys.keys absent;
       holders = λ k lt. holder k (places s.keys.shapes (key_of s.numbers (nth s.facts.listed i).shape) k lt);
+      parts = λ k lt. part k (places s.keys.shapes (key_of s.numbers (nth s.facts.listed i).shape) k lt);
       low = λ k lt. low k (places s.keys.shapes (key_of s.numbers (nth s.facts.listed i).shape) k lt);
       present = λ k lt live. present k (places s.keys.shapes (key_of s.numbers (nth s.facts.listed i).shape) k lt) live;
     };
     looked = h.looked;
     given = h.given;
-    ready = λ j lt. go j (h.ready j lt);
+    ready = λ j lt p. go j (h.ready j lt p);
     stated = h.stated;
   }
     where
@@ -55,6 +56,10 @@ module _ (s : PartsState) (i : ℕ) (h : PartsFit s) (there : i < length s.facts
       holder : (k : ℕ) → (k < length s.keys.shapes) ⊎ (k ≡ length s.keys.shapes) → holder_at (with_key s.keys (key_of s.numbers (nth s.facts.listed i).shape) i) k < length s.facts.listed
       holder k (inl a) = subst (λ n. n < length s.facts.listed) (sym (holder_before s.keys (key_of s.numbers (nth s.facts.listed i).shape) i k h.keys.keys a)) (h.keys.holders k a)
       holder k (inr a) = subst (λ n. n < length s.facts.listed) (sym (holder_last s.keys (key_of s.numbers (nth s.facts.listed i).shape) i k h.keys.keys a)) there
+
+      part : (k : ℕ) → (k < length s.keys.shapes) ⊎ (k ≡ length s.keys.shapes) → (nth s.facts.listed (holder_at (with_key s.keys (key_of s.numbers (nth s.facts.listed i).shape) i) k)).takes_part ≡ true
+      part k (inl a) = subst (λ n. (nth s.facts.listed n).takes_part ≡ true) (sym (holder_before s.keys (key_of s.numbers (nth s.facts.listed i).shape) i k h.keys.keys a)) (h.keys.parts k a)
+      part k (inr a) = subst (λ n. (nth s.facts.listed n).takes_part ≡ true) (sym (holder_last s.keys (key_of s.numbers (nth s.facts.listed i).shape) i k h.keys.keys a)) taken
 
       low : (k : ℕ) → (k < length s.keys.shapes) ⊎ (k ≡ length s.keys.shapes) → All (λ (a : TermId). a.0 < length s.numbers) (key_at (with_key s.keys (key_of s.numbers (nth s.facts.listed i).shape) i) k).arguments
       low k (inl a) = subst (λ (x : Shape). All (λ (a : TermId). a.0 < length s.numbers) x.arguments) (sym (key_before s.keys (key_of s.numbers (nth s.facts.listed i).shape) i k a)) (h.keys.low k a)
@@ -95,6 +100,10 @@ module _ (s : PartsState) (i : ℕ) (h : PartsFit s) (there : i < length s.facts
 pub holder_listed : (s : PartsState) → PartsFit s → (i holder : ℕ) → IsHeld s.keys (key_of s.numbers (nth s.facts.listed i).shape) holder → holder < length s.facts.listed
 holder_listed s h i holder (k, lt, key, is) = subst (λ n. n < length s.facts.listed) is (h.keys.holders k lt)
 
+-- which takes part
+pub holder_part : (s : PartsState) → PartsFit s → (i holder : ℕ) → IsHeld s.keys (key_of s.numbers (nth s.facts.listed i).shape) holder → (nth s.facts.listed holder).takes_part ≡ true
+holder_part s h i holder (k, lt, key, is) = subst (λ n. (nth s.facts.listed n).takes_part ≡ true) is (h.keys.parts k lt)
+
 pub holder_key : (s : PartsState) → PartsFit s → (i holder : ℕ) → i < length s.facts.listed → IsHeld s.keys (key_of s.numbers (nth s.facts.listed i).shape) holder
     → key_of s.numbers (nth s.facts.listed i).shape ≡ key_of s.numbers (nth s.facts.listed holder).shape
 holder_key s h i holder there (k, lt, key, is) =
@@ -113,10 +122,10 @@ kept_more s pending more h is = record {
   there = h.there;
   joint = h.joint;
   reasons = h.reasons;
-  keys = record { keys = h.keys.keys; holders = h.keys.holders; low = h.keys.low; present = h.keys.present };
+  keys = record { keys = h.keys.keys; holders = h.keys.holders; parts = h.keys.parts; low = h.keys.low; present = h.keys.present };
   looked = h.looked;
   given = h.given;
-  ready = λ i lt. go i (h.ready i lt);
+  ready = λ i lt part. go i (h.ready i lt part);
   stated = h.stated;
 }
   where
@@ -128,27 +137,27 @@ kept_more s pending more h is = record {
 
 -- what is no more to be looked at is ready
 pub kept_done : (s : PartsState) (looked : ℕ) (pending : List ℕ) → PartsFit s → looked ≤ length s.facts.listed
-    → ((i : ℕ) → i < length s.facts.listed → IsPending s.left i → IsPending (record { looked = looked; given = s.left.given; pending = pending }) i ⊎ (HasKey s i × IsApart s i))
+    → ((i : ℕ) → i < length s.facts.listed → (nth s.facts.listed i).takes_part ≡ true → IsPending s.left i → IsPending (record { looked = looked; given = s.left.given; pending = pending }) i ⊎ (HasKey s i × IsApart s i))
     → PartsFit (with_left s (record { looked = looked; given = s.left.given; pending = pending }))
 kept_done s looked pending h low next = record {
   order = h.order;
   there = h.there;
   joint = h.joint;
   reasons = h.reasons;
-  keys = record { keys = h.keys.keys; holders = h.keys.holders; low = h.keys.low; present = h.keys.present };
+  keys = record { keys = h.keys.keys; holders = h.keys.holders; parts = h.keys.parts; low = h.keys.low; present = h.keys.present };
   looked = low;
   given = h.given;
-  ready = λ i lt. go i lt (h.ready i lt);
+  ready = λ i lt part. go i lt part (h.ready i lt part);
   stated = h.stated;
 }
   where
     over : (i : ℕ) → HasKey s i × IsApart s i → HasKey (with_left s (record { looked = looked; given = s.left.given; pending = pending })) i × IsApart (with_left s (record { looked = looked; given = s.left.given; pending = pending })) i
     over i (k, apart) = (record { at = k.at; there = k.there; is = k.is; same = k.same }, apart)
 
-    go : (i : ℕ) → i < length s.facts.listed → IsPending s.left i ⊎ (HasKey s i × IsApart s i) → IsPending (record { looked = looked; given = s.left.given; pending = pending }) i
+    go : (i : ℕ) → i < length s.facts.listed → (nth s.facts.listed i).takes_part ≡ true → IsPending s.left i ⊎ (HasKey s i × IsApart s i) → IsPending (record { looked = looked; given = s.left.given; pending = pending }) i
         ⊎ (HasKey (with_left s (record { looked = looked; given = s.left.given; pending = pending })) i × IsApart (with_left s (record { looked = looked; given = s.left.given; pending = pending })) i)
-    go i lt (inr r) = inr (over i r)
-    go i lt (inl p) = after (next i lt p)
+    go i lt part (inr r) = inr (over i r)
+    go i lt part (inl p) = after (next i lt part p)
       where
         after : IsPending (record { looked = looked; given = s.left.given; pending = pending }) i ⊎ (HasKey s i × IsApart s i) → IsPending (record { looked = looked; given = s.left.given; pending = pending }) i
             ⊎ (HasKey (with_left s (record { looked = looked; given = s.left.given; pending = pending })) i × IsApart (with_left s (record { looked = looked; given = s.left.given; pending = pending })) i)
@@ -156,28 +165,28 @@ kept_done s looked pending h low next = record {
         after (inr r) = inr (over i r)
 
 -- the next listed term was looked at
-pub kept_looked : (s : PartsState) → PartsFit s → s.left.looked < length s.facts.listed → HasKey s s.left.looked → IsApart s s.left.looked
+pub kept_looked : (s : PartsState) → PartsFit s → s.left.looked < length s.facts.listed → ((nth s.facts.listed s.left.looked).takes_part ≡ true → HasKey s s.left.looked × IsApart s s.left.looked)
     → PartsFit (with_left s (record { looked = s.left.looked + 1; given = s.left.given; pending = s.left.pending }))
-kept_looked s h lt key apart = kept_done s (s.left.looked + 1) s.left.pending h (omega (arith, lt)) next
+kept_looked s h lt ready = kept_done s (s.left.looked + 1) s.left.pending h (omega (arith, lt)) next
   where
-    next : (i : ℕ) → i < length s.facts.listed → IsPending s.left i → IsPending (record { looked = s.left.looked + 1; given = s.left.given; pending = s.left.pending }) i ⊎ (HasKey s i × IsApart s i)
-    next i low (inr c) = inl (inr c)
-    next i low (inl past) = elim (cases_eq i s.left.looked) [
-      | inl same ↦ inr (subst (HasKey s) (sym same) key, subst (IsApart s) (sym same) apart)
+    next : (i : ℕ) → i < length s.facts.listed → (nth s.facts.listed i).takes_part ≡ true → IsPending s.left i → IsPending (record { looked = s.left.looked + 1; given = s.left.given; pending = s.left.pending }) i ⊎ (HasKey s i × IsApart s i)
+    next i low part (inr c) = inl (inr c)
+    next i low part (inl past) = elim (cases_eq i s.left.looked) [
+      | inl same ↦ inr (subst (λ n. HasKey s n × IsApart s n) (sym same) (ready (subst (λ n. (nth s.facts.listed n).takes_part ≡ true) same part)))
       | inr other ↦ inl (inl (omega (arith, past, other)))
     ]
 
 -- the first of those to look at again was looked at, or is no more listed
-pub kept_next : (s : PartsState) (first : ℕ) (pending : List ℕ) → PartsFit s → s.left.pending ≡ first ∷ pending → (first < length s.facts.listed → HasKey s first × IsApart s first)
+pub kept_next : (s : PartsState) (first : ℕ) (pending : List ℕ) → PartsFit s → s.left.pending ≡ first ∷ pending → (first < length s.facts.listed → (nth s.facts.listed first).takes_part ≡ true → HasKey s first × IsApart s first)
     → PartsFit (with_left s (record { looked = s.left.looked; given = s.left.given; pending = pending }))
 kept_next s first pending h is ready = kept_done s s.left.looked pending h h.looked next
   where
-    next : (i : ℕ) → i < length s.facts.listed → IsPending s.left i → IsPending (record { looked = s.left.looked; given = s.left.given; pending = pending }) i ⊎ (HasKey s i × IsApart s i)
-    next i low (inl past) = inl (inl past)
-    next i low (inr c) = go (subst (λ xs. Contains xs i) is c)
+    next : (i : ℕ) → i < length s.facts.listed → (nth s.facts.listed i).takes_part ≡ true → IsPending s.left i → IsPending (record { looked = s.left.looked; given = s.left.given; pending = pending }) i ⊎ (HasKey s i × IsApart s i)
+    next i low part (inl past) = inl (inl past)
+    next i low part (inr c) = go (subst (λ xs. Contains xs i) is c)
       where
         at : (k : ℕ) → k < length (first ∷ pending) → get_or (first ∷ pending) k i ≡ i → IsPending (record { looked = s.left.looked; given = s.left.given; pending = pending }) i ⊎ (HasKey s i × IsApart s i)
-        at zero lt e = inr (subst (λ n. HasKey s n × IsApart s n) e (ready (subst (λ n. n < length s.facts.listed) (sym e) low)))
+        at zero lt e = inr (subst (λ n. HasKey s n × IsApart s n) e (ready (subst (λ n. n < length s.facts.listed) (sym e) low) (subst (λ n. (nth s.facts.listed n).takes_part ≡ true) (sym e) part)))
         at (suc k) lt e = inl (inr (k, omega (arith, lt), e))
 
         go : Contains (first ∷ pending) i → IsPending (record { looked = s.left.looked; given = s.left.given; pending = pending }) i ⊎ (HasKey s i × IsApart s i)
@@ -191,23 +200,23 @@ kept_given s h lt g = record {
   there = h.there;
   joint = h.joint;
   reasons = h.reasons;
-  keys = record { keys = h.keys.keys; holders = h.keys.holders; low = h.keys.low; present = h.keys.present };
+  keys = record { keys = h.keys.keys; holders = h.keys.holders; parts = h.keys.parts; low = h.keys.low; present = h.keys.present };
   looked = h.looked;
   given = omega (arith, lt);
-  ready = λ i low. go i low (h.ready i low);
+  ready = λ i low part. go i low part (h.ready i low part);
   stated = λ j a b below states. elim (cases_eq j s.left.given) [
     | inl same ↦ g.stated a b (subst (λ k. StatesEqual s.facts (held_at s.facts.held k) a b) same states)
     | inr other ↦ h.stated j a b (omega (arith, below, other)) states
   ];
 }
   where
-    go : (i : ℕ) → i < length s.facts.listed → IsPending s.left i ⊎ (HasKey s i × IsApart s i) → IsPending (record { looked = s.left.looked; given = s.left.given + 1; pending = s.left.pending }) i
+    go : (i : ℕ) → i < length s.facts.listed → (nth s.facts.listed i).takes_part ≡ true → IsPending s.left i ⊎ (HasKey s i × IsApart s i) → IsPending (record { looked = s.left.looked; given = s.left.given + 1; pending = s.left.pending }) i
         ⊎ (HasKey (with_left s (record { looked = s.left.looked; given = s.left.given + 1; pending = s.left.pending })) i × IsApart (with_left s (record { looked = s.left.looked; given = s.left.given + 1; pending = s.left.pending })) i)
-    go i low (inl p) = inl p
-    go i low (inr (k, apart)) = inr (
+    go i low part (inl p) = inl p
+    go i low part (inr (k, apart)) = inr (
       record { at = k.at; there = k.there; is = k.is; same = k.same },
       λ j a b below is shape same. elim (cases_eq j s.left.given) [
-        | inl last ↦ g.apart i a b low (sym (ap (held_at s.facts.held) last) ∙ is) shape same
+        | inl last ↦ g.apart i a b low part (sym (ap (held_at s.facts.held) last) ∙ is) shape same
         | inr other ↦ apart j a b (omega (arith, below, other)) is shape same
       ],
     )

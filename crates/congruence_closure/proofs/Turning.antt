@@ -16,7 +16,7 @@ use Rattle.congruence_closure.specs.Keys.{key_of, IsHeld}
 use Rattle.congruence_closure.specs.State.{PartsState, IsApart, PartsFit}
 use Rattle.congruence_closure.specs.Changes.{IsAgainst, IsGiven}
 use Rattle.congruence_closure.proofs.Denials.{held_there}
-use Rattle.congruence_closure.proofs.Steps.{holder_key, holder_listed}
+use Rattle.congruence_closure.proofs.Steps.{holder_key, holder_listed, holder_part}
 use Rattle.congruence_closure.proofs.Terms.{cons_same, place_of, at_place, arguments_low, sides_low, same_roots}
 
 -- either way of a test
@@ -28,6 +28,11 @@ pub tests_apart : (a b : Bool) → beq a b ≡ false → a ≡ false → b ≡ t
 tests_apart true b e f = absurd (true≢false f)
 tests_apart false true e f = refl
 tests_apart false false e f = absurd (true≢false e)
+
+pub tests_denied : (a b : Bool) → beq a b ≡ false → a ≡ true → b ≡ false
+tests_denied true true e f = absurd (true≢false e)
+tests_denied true false e f = refl
+tests_denied false b e f = absurd (true≢false (sym f))
 
 -- one equality has one pair of sides
 pub sides_same : (x : Shape) (a b c d : TermId) → x ≡ equality_of a b → x ≡ equality_of c d → (a ≡ c) × (b ≡ d)
@@ -52,13 +57,13 @@ module _ (s : PartsState) (h : PartsFit s) (i : ℕ) (there : i < length s.facts
   apart_held absent j a b low is shape same = absent (subst (Contains s.facts.held) is (held_there s.facts.held j (omega (arith, low, h.given))))
 
   -- one with linked sides that is denied is against what is held
-  pub against : (a b : TermId) → (nth s.facts.listed i).shape ≡ equality_of a b → Linked s.edges a.0 b.0 → Contains s.facts.held (denial (nth s.facts.listed i).term) → IsAgainst s i
-  against a b shape linked denied =
-      (denied, (a, b, record { at = nth s.facts.listed i; there = at_place s.facts.listed i there; term = refl; shape = shape }, linked))
+  pub against : (a b : TermId) → (nth s.facts.listed i).shape ≡ equality_of a b → (nth s.facts.listed i).takes_part ≡ true → Linked s.edges a.0 b.0 → Contains s.facts.held (denial (nth s.facts.listed i).term) → IsAgainst s i
+  against a b shape part linked denied =
+      (denied, (a, b, record { at = nth s.facts.listed i; there = at_place s.facts.listed i there; term = refl; shape = shape }, part, linked))
 
   -- another term of one key has linked arguments
-  pub they_meet : (holder : ℕ) → IsHeld s.keys (key_of s.numbers (nth s.facts.listed i).shape) holder → Meet s.facts s.edges (nth s.facts.listed i).term (nth s.facts.listed holder).term
-  they_meet holder held =
+  pub they_meet : (nth s.facts.listed i).takes_part ≡ true → (holder : ℕ) → IsHeld s.keys (key_of s.numbers (nth s.facts.listed i).shape) holder → Meet s.facts s.edges (nth s.facts.listed i).term (nth s.facts.listed holder).term
+  they_meet part holder held =
       let low = holder_listed s h i holder held in
       let key = holder_key s h i holder there held in
       record {
@@ -66,6 +71,8 @@ module _ (s : PartsState) (h : PartsFit s) (i : ℕ) (there : i < length s.facts
         other = nth s.facts.listed holder;
         one_there = at_place s.facts.listed i there;
         other_there = at_place s.facts.listed holder low;
+        one_part = part;
+        other_part = holder_part s h i holder held;
         one_is = refl;
         other_is = refl;
         heads = ap (λ (x : Shape). x.head) key;
@@ -82,14 +89,20 @@ shape_at s h e a b i (lt, is) q =
 
 -- a listed term of the shape of an equality is one
 pub equality_at : (s : PartsState) (e a b : TermId) (i : ℕ) → HasPlace s.facts.listed e i → (nth s.facts.listed i).shape ≡ equality_of a b → IsEquality s.facts.listed e a b
-equality_at s e a b i (lt, is) shape = record { at = nth s.facts.listed i; there = at_place s.facts.listed i lt; term = is; shape = shape }
+equality_at s e a b i place shape = record { at = nth s.facts.listed i; there = at_place s.facts.listed i place.0; term = place.1; shape = shape }
+
+-- which takes part where the listed term does
+pub equality_part : (s : PartsState) (e a b : TermId) (i : ℕ) (place : HasPlace s.facts.listed e i) (shape : (nth s.facts.listed i).shape ≡ equality_of a b)
+    → (equality_at s e a b i place shape).at.takes_part ≡ (nth s.facts.listed i).takes_part
+unfolding equality_at
+equality_part s e a b i place shape = refl
 
 module _ (s : PartsState) (h : PartsFit s) (l : Lit) (decided : AreSame s.numbers l.term (truth_of s.facts.truths l.positive)) where
   -- a literal of no equality is given
   pub given_plain : (i : ℕ) → HasPlace s.facts.listed l.term i → ((a b : TermId) → (nth s.facts.listed i).shape ≡ equality_of a b → ⊥) → IsGiven s l
   given_plain i place none = record {
     stated = λ a b states. go a b states;
-    apart = λ k a b low is shape same.
+    apart = λ k a b low part is shape same.
         let e : i ≡ k = h.order.once i k place.0 low (place.1 ∙ ap (λ (m : Lit). m.term) is) in
         none a b (ap (λ n. (nth s.facts.listed n).shape) e ∙ shape);
   }
@@ -117,7 +130,7 @@ module _ (s : PartsState) (h : PartsFit s) (l : Lit) (decided : AreSame s.number
     pub given_equal : l.positive ≡ true → Linked s.edges a.0 b.0 → IsGiven s l
     given_equal positive linked = record {
       stated = λ c d states. go c d states;
-      apart = λ k c d low is shape same. absurd (true≢false (sym positive ∙ ap (λ (m : Lit). m.positive) is));
+      apart = λ k c d low part is shape same. absurd (true≢false (sym positive ∙ ap (λ (m : Lit). m.positive) is));
     }
       where
         go : (c d : TermId) → StatesEqual s.facts l c d → AreSame s.numbers c d
@@ -130,10 +143,23 @@ module _ (s : PartsState) (h : PartsFit s) (l : Lit) (decided : AreSame s.number
     pub given_denied : l.positive ≡ false → (Linked s.edges a.0 b.0 → ⊥) → IsGiven s l
     given_denied negative apart = record {
       stated = λ c d states. go c d states;
-      apart = λ k c d low is shape same.
+      apart = λ k c d low part is shape same.
           let place : HasPlace s.facts.listed l.term k = (low, ap (λ (m : Lit). m.term) (sym is)) in
           let e = sides_same (nth s.facts.listed k).shape a b c d (shape_at s h l.term a b k place equality) shape in
           apart ((h.joint.agree a b ends_low.0 ends_low.1).1 (ap (λ (t : TermId). slice_index s.numbers t.0) e.0 ∙ same ∙ ap (λ (t : TermId). slice_index s.numbers t.0) (sym e.1)));
+    }
+      where
+        go : (c d : TermId) → StatesEqual s.facts l c d → AreSame s.numbers c d
+        go _ _ decides = decided
+        go c d (equates _ _ p q) = absurd (true≢false (sym p ∙ negative))
+
+    -- one that is denied, and takes no part
+    pub given_apart : l.positive ≡ false → equality.at.takes_part ≡ false → IsGiven s l
+    given_apart negative none = record {
+      stated = λ c d states. go c d states;
+      apart = λ k c d low part is shape same.
+          let e : where_at.0 ≡ k = h.order.once where_at.0 k where_at.1 low (own_place.1 ∙ ap (λ (m : Lit). m.term) is) in
+          absurd (true≢false (sym part ∙ ap (λ n. (nth s.facts.listed n).takes_part) (sym e) ∙ ap (λ (x : Application). x.takes_part) where_at.2 ∙ none));
     }
       where
         go : (c d : TermId) → StatesEqual s.facts l c d → AreSame s.numbers c d

@@ -1,5 +1,5 @@
 -- What calls do to the parts of a closure.
-use Rattle.std.specs.Prelude.{◌≡◌, ℕ, ◌+◌, ◌-◌, ◌<◌, ◌≤◌, ◌⊎◌, List, [], ◌∷◌, ◌++◌, Option, Some, None, length, get_or}
+use Rattle.std.specs.Prelude.{◌≡◌, ℕ, ◌+◌, ◌-◌, ◌<◌, ◌≤◌, ◌⊎◌, true, List, [], ◌∷◌, ◌++◌, Option, Some, None, length, get_or}
 use Rattle.std.specs.Prelude.{take, Contains}
 use Rattle.term_core.specs.declared.ids.TermId.{TermId}
 use Rattle.term_core.specs.declared.ids.Lit.{Lit}
@@ -92,10 +92,10 @@ abbrev pub IsWhy : Facts → List Edge → Option Lit → TermId → TermId → 
 IsWhy f es (Some l) a b = Contains f.held l × (StatesEqual f l a b ⊎ StatesEqual f l b a)
 IsWhy f es None a b = Meet f es a b
 
--- the places have all terms with an argument in a term's class
+-- the places have all terms that take part, with an argument in a term's class
 abbrev pub AreClassUsers : List Application → List ℕ → TermId → List ℕ → Type 0
 AreClassUsers listed numbers t places = (i : ℕ) (a : TermId) → i < length listed
-    → Contains (nth listed i).shape.arguments a
+    → (nth listed i).takes_part ≡ true → Contains (nth listed i).shape.arguments a
     → a.0 < length numbers → AreSame numbers a t → Contains places i
 
 -- places were put last
@@ -110,22 +110,23 @@ ClassAtMost numbers a b = members_count numbers (class_at numbers a) ≤ members
 abbrev pub IsLonger : PartsView → PartsView → Type 0
 IsLonger old new = length old.now.edges < length new.now.edges
 
--- the listed term of a place is an equality that is denied, with linked sides
+-- the listed term of a place is an equality that takes part and is denied, with linked sides
 abbrev pub IsAgainst : PartsState → ℕ → Type 0
 IsAgainst s i = IsConflict s.facts s.edges (Sides (nth s.facts.listed i).term)
 
 -- what came of looking at a listed term
 abbrev pub HasLooked : PartsView → ℕ → PartsView → Turn → Type 0
-HasLooked old i new turns.Quiet = (new.now.left ≡ old.now.left) × (new.now.edges ≡ old.now.edges) × HasKey new.now i
-    × IsApart new.now i
+HasLooked old i new turns.Quiet = (new.now.left ≡ old.now.left) × (new.now.edges ≡ old.now.edges)
+    × ((nth new.now.facts.listed i).takes_part ≡ true → HasKey new.now i × IsApart new.now i)
 HasLooked old i new turns.Joined = IsLonger old new
 HasLooked old i new (turns.Against c) = IsConflict new.now.facts new.now.edges c
 HasLooked old i new turns.Done = ⊥
 
--- What a literal states is in one class, and what it denies in two.
+-- What a literal states is in one class, and what it denies in two where that takes part.
 pub record IsGiven (s : PartsState) (l : Lit) : Type 0 where
   pub stated : (a b : TermId) → StatesEqual s.facts l a b → AreSame s.numbers a b
-  pub apart : (i : ℕ) (a b : TermId) → i < length s.facts.listed → l ≡ denial (nth s.facts.listed i).term
+  pub apart : (i : ℕ) (a b : TermId) → i < length s.facts.listed → (nth s.facts.listed i).takes_part ≡ true
+      → l ≡ denial (nth s.facts.listed i).term
       → (nth s.facts.listed i).shape ≡ equality_of a b → AreSame s.numbers a b → ⊥
 
 -- what came of giving a literal

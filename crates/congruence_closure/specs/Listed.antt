@@ -1,5 +1,5 @@
 -- Lists of terms with their heads and arguments.
-use Rattle.std.specs.Prelude.{◌≡◌, ℕ, ◌<◌, false, List, [], ◌∷◌, length, get_or, Contains}
+use Rattle.std.specs.Prelude.{◌≡◌, ℕ, ◌<◌, true, false, List, [], ◌∷◌, length, get_or, Contains}
 use Rattle.term_core.specs.declared.ids.TermId.{TermId}
 use Rattle.term_core.specs.declared.ids.Lit.{Lit}
 use Rattle.term_core.specs.declared.nodes.Head.TheVariants as heads
@@ -8,7 +8,7 @@ use Rattle.congruence_relation.specs.Relation.{Application}
 
 -- what no place has
 abbrev pub no_application : Application
-no_application = record { term = record { 0 = 0 }; shape = no_shape }
+no_application = record { term = record { 0 = 0 }; shape = no_shape; takes_part = false }
 
 -- what no place of terms has
 abbrev pub no_term_id : TermId
@@ -43,6 +43,7 @@ IsListed listed t = (i : ℕ) × HasPlace listed t i
 abbrev pub equality_of : TermId → TermId → Shape
 equality_of a b = record { head = heads.Equal; arguments = a ∷ b ∷ [] }
 
--- the places have all terms that have a term as an argument
+-- the places have all terms that take part, and have a term as an argument
 abbrev pub AreUsers : List Application → TermId → List ℕ → Type 0
-AreUsers listed t places = (i : ℕ) → i < length listed → Contains (nth listed i).shape.arguments t → Contains places i
+AreUsers listed t places = (i : ℕ) → i < length listed → (nth listed i).takes_part ≡ true
+    → Contains (nth listed i).shape.arguments t → Contains places i

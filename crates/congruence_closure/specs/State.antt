@@ -1,5 +1,6 @@
 -- What the parts of a closure keep.
-use Rattle.std.specs.Prelude.{◌≡◌, ℕ, ◌<◌, ◌≤◌, ◌⊎◌, ◌↔◌, List, [], ◌∷◌, ◌++◌, length, take, slice_index_or, All}
+use Rattle.std.specs.Prelude.{◌≡◌, ℕ, ◌<◌, ◌≤◌, ◌⊎◌, ◌↔◌, true, List, [], ◌∷◌, ◌++◌, length, take}
+use Rattle.std.specs.Prelude.{slice_index_or, All}
 use Rattle.std.specs.Prelude.{Contains}
 use Rattle.term_core.specs.declared.ids.TermId.{TermId}
 use Rattle.term_core.specs.declared.ids.Lit.{Lit}
@@ -77,8 +78,9 @@ pub record AreThere (f : Facts) (n : ℕ) : Type 0 where
 pub record ArePresent (s : PartsState) : Type 0 where
   -- each key has one holder
   pub keys : AreKeys s.keys
-  -- holders are listed
+  -- holders are listed, and take part
   pub holders : (k : ℕ) → k < length s.keys.shapes → holder_at s.keys k < length s.facts.listed
+  pub parts : (k : ℕ) → k < length s.keys.shapes → (nth s.facts.listed (holder_at s.keys k)).takes_part ≡ true
   -- arguments are below the count of terms
   pub low : (k : ℕ) → k < length s.keys.shapes
       → All (λ (a : TermId). a.0 < length s.numbers) (key_at s.keys k).arguments
@@ -120,8 +122,9 @@ pub record PartsFit (s : PartsState) : Type 0 where
   -- what was done is there
   pub looked : s.left.looked ≤ length s.facts.listed
   pub given : s.left.given ≤ length s.facts.held
-  -- each listed term is to be looked at, or its key is there, and its sides are apart
-  pub ready : (i : ℕ) → i < length s.facts.listed → IsPending s.left i ⊎ (HasKey s i × IsApart s i)
+  -- each listed term that takes part is to be looked at, or its key is there, and its sides are apart
+  pub ready : (i : ℕ) → i < length s.facts.listed → (nth s.facts.listed i).takes_part ≡ true
+      → IsPending s.left i ⊎ (HasKey s i × IsApart s i)
   -- what given literals state is in one class
   pub stated : (j : ℕ) (a b : TermId) → j < s.left.given → StatesEqual s.facts (held_at s.facts.held j) a b
       → AreSame s.numbers a b

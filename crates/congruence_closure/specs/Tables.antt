@@ -1,5 +1,5 @@
 -- Lists by the numbers of terms, which find places.
-use Rattle.std.specs.Prelude.{◌≡◌, ℕ, ◌*◌, ◌<◌, ◌≤◌, false, List, [], length, map, get_or, set, if◌then◌else◌, All}
+use Rattle.std.specs.Prelude.{◌≡◌, ℕ, ◌*◌, ◌<◌, ◌≤◌, true, false, List, [], length, map, get_or, set, if◌then◌else◌, All}
 use Rattle.std.specs.Prelude.{Contains, Vec}
 use Rattle.std.specs.declared.alloc.Global.{Global}
 use Rattle.term_core.specs.declared.ids.TermId.{TermId}
@@ -30,7 +30,7 @@ HaveKeptBelow place old new = (t i : ℕ) → i < place → Contains (get_or old
 abbrev pub HaveNoted : List TermId → ℕ → List (List ℕ) → Type 0
 HaveNoted ts place all = All (λ (t : TermId). Contains (get_or all t.0 []) place) ts
 
--- The places of listed terms are found by their numbers, and by their arguments.
+-- The places of listed terms are found by their numbers, and by their arguments where they take part.
 pub record IsIndexed (listed : List Application) (entries : List ℕ) (all : List (List ℕ)) : Type 0 where
   -- no term is listed twice
   pub once : AreListedOnce listed
@@ -39,8 +39,8 @@ pub record IsIndexed (listed : List Application) (entries : List ℕ) (all : Lis
   -- which is its place
   pub places : (i : ℕ) → i < length listed → get_or entries (nth listed i).term.0 0 ≡ i
   -- the lists of its arguments have its place
-  pub users : (i : ℕ) (t : TermId) → i < length listed → Contains (nth listed i).shape.arguments t
-      → Contains (get_or all t.0 []) i
+  pub users : (i : ℕ) (t : TermId) → i < length listed → (nth listed i).takes_part ≡ true
+      → Contains (nth listed i).shape.arguments t → Contains (get_or all t.0 []) i
 
 -- the entries, of which that of a denied term is a place
 abbrev pub noted : List ℕ → Lit → ℕ → List ℕ

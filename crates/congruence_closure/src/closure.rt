@@ -73,21 +73,26 @@ impl Closure {
         })
     }
 
-    /// Lists a term, by its number and a copy of its node. The room for literals of it comes with it.
+    /// Lists a term, by its number and a copy of its node. The room for literals of it comes with it. One that takes no part is never
+    /// looked at: it is equal to no other by its arguments, and its sides may be equal where it is denied.
     ///
     /// `NoMemory` comes where it finds no memory; then what it is about is as it was.
-    pub fn watch(&mut self, id: TermId, node: &Node) -> Result<(), NoMemory>
+    pub fn watch(&mut self, id: TermId, node: &Node, takes_part: bool) -> Result<(), NoMemory>
         requires new { IsListed self.old.now.facts.listed id → ⊥ }
         requires below { NamesBelow id.0 node.now }
         ensures ok { OnOk result (self.new.now ≡ record {
-          facts = with_listed self.old.now.facts (record { term = id; shape = shape_of node.now });
+          facts = with_listed self.old.now.facts (record {
+            term = id;
+            shape = shape_of node.now;
+            takes_part = takes_part;
+          });
           saturated = false;
         }) }
         ensures edges { self.new.edges ≡ self.old.edges }
         ensures marks { self.new.marks ≡ self.old.marks }
         ensures err { OnErr result (self.new ≡ self.old) }
     {
-        self.parts.watch(id, node)?;
+        self.parts.watch(id, node, takes_part)?;
         self.saturated = false;
         Ok(())
     }

@@ -1,6 +1,6 @@
 //! The listed terms, with their places and users.
 
-ghost use Rattle.std.specs.Prelude.{◌≡◌, ◌<◌, ◌++◌, ◌∷◌, [], length, take, OnOk, OnErr, MatchOption};
+ghost use Rattle.std.specs.Prelude.{◌≡◌, ◌<◌, ◌++◌, ◌∷◌, [], true, length, take, OnOk, OnErr, MatchOption};
 ghost use Rattle.term_core.specs.Tables.{shape_of};
 ghost use Rattle.congruence_relation.specs.Relation.{applications};
 ghost use Rattle.congruence_closure.specs.Listed.{nth, HasPlace, IsListed, AreUsers};
@@ -12,7 +12,19 @@ use std::alloc::Global;
 use std::marker::Model;
 use term_core::{Node, TermId};
 
-/// Holds the listed terms, oldest first. It finds the place of a term, and the places of terms that have it as an argument.
+/// Lends the arguments of a term that takes part, else none.
+fn used_by(node: &Node, takes_part: bool) -> &[TermId]
+    ensures { takes_part ≡ true → result.now ≡ node.now.arguments.items }
+{
+    if takes_part {
+        node.arguments.as_slice()
+    } else {
+        &[]
+    }
+}
+
+/// Holds the listed terms, oldest first. It finds the place of a term, and the places of terms that take part and have it as an
+/// argument.
 ///
 /// Contracts see the listed terms.
 #[derive(Drop)]
@@ -22,7 +34,7 @@ pub(crate) struct Listing {
     listed: Vec<Listed>,
     /// For each listed term, by its number, its place. What is at the number of another term says nothing.
     places: Vec<u64>,
-    /// For each term, by its number, the places of the listed terms that have it as an argument.
+    /// For each term, by its number, the places of the listed terms that take part and have it as an argument.
     users: Vec<Vec<u64>>,
 }
 
@@ -70,6 +82,7 @@ impl Listing {
         requires { place < length self.now }
         ensures term { result.now.term ≡ (nth self.now place).term }
         ensures node { shape_of result.now.node ≡ (nth self.now place).shape }
+        ensures part { result.now.takes_part ≡ (nth self.now place).takes_part }
     {
         &self.listed[place as usize]
     }
@@ -92,7 +105,7 @@ impl Listing {
         }
     }
 
-    /// Lends places, among which are those of all listed terms that have a term as an argument. It takes no memory.
+    /// Lends places, among which are those of all listed terms that take part and have a term as an argument. It takes no memory.
     pub fn users_of(&self, t: TermId) -> &[u64]
         ensures { AreUsers self.now t result.now }
     {
@@ -103,12 +116,13 @@ impl Listing {
         }
     }
 
-    /// Lists a term, as the last one, with a copy of its node.
+    /// Lists a term, as the last one, with a copy of its node. Where it takes no part it is no user of its arguments.
     ///
     /// `NoMemory` comes where it finds no memory; then the list is as it was.
-    pub fn add(&mut self, term: TermId, node: &Node) -> Result<(), NoMemory>
+    pub fn add(&mut self, term: TermId, node: &Node, takes_part: bool) -> Result<(), NoMemory>
         requires { IsListed self.old term → ⊥ }
-        ensures ok { OnOk result (self.new ≡ self.old ++ record { term = term; shape = shape_of node.now } ∷ []) }
+        ensures ok { OnOk result (self.new ≡ self.old
+            ++ record { term = term; shape = shape_of node.now; takes_part = takes_part } ∷ []) }
         ensures err { OnErr result (self.new ≡ self.old) }
     {
         let place = self.listed.len() as u64;
@@ -118,11 +132,15 @@ impl Listing {
         note_users(
             &mut self.users,
             self.alloc,
-            node.arguments.as_slice(),
+            used_by(node, takes_part),
             place,
         )?;
         self.places[term.0 as usize] = place;
-        self.listed.push_reserved(Listed { term, node: copy });
+        self.listed.push_reserved(Listed {
+            term,
+            node: copy,
+            takes_part,
+        });
         Ok(())
     }
 

@@ -1,10 +1,10 @@
 //! Looking at a listed term, and giving a literal.
 
-ghost use Rattle.std.specs.Prelude.{◌≡◌, ◌<◌, length, false, IfOk, MatchBool, MatchOption, Contains};
+ghost use Rattle.std.specs.Prelude.{◌≡◌, ◌<◌, length, true, false, IfOk, MatchBool, MatchOption, Contains};
 ghost use Rattle.term_core.specs.declared.ids.TermId.{TermId as Number};
 ghost use Rattle.class_table.specs.Classes.{AreSame};
-ghost use Rattle.congruence_relation.specs.Relation.{IsEquality, truth_of};
-ghost use Rattle.congruence_closure.specs.Listed.{nth, equality_of};
+ghost use Rattle.congruence_relation.specs.Relation.{truth_of};
+ghost use Rattle.congruence_closure.specs.Listed.{nth, HasPlace, equality_of};
 ghost use Rattle.congruence_closure.specs.Keys.{key_of, IsHeld};
 ghost use Rattle.congruence_closure.specs.State.{IsApart};
 ghost use Rattle.congruence_closure.specs.Changes.{KeepsFacts, IsAgainst, HasLooked, HasGiven};
@@ -40,9 +40,18 @@ impl ClosureParts {
         sides_of(&self.listing.at(place).node)
     }
 
-    /// Tells whether the listed term of a place is an equality that is denied, with linked sides. It takes no memory.
-    fn is_against(&self, place: u64) -> bool
+    /// Tells whether the listed term of a place takes part. It takes no memory.
+    fn takes_part_at(&self, place: u64) -> bool
         requires { place < length self.now.now.facts.listed }
+        ensures { result ≡ (nth self.now.now.facts.listed place).takes_part }
+    {
+        self.listing.at(place).takes_part
+    }
+
+    /// Tells whether the listed term of a place, which takes part, is an equality that is denied, with linked sides. It takes no memory.
+    fn is_against(&self, place: u64) -> bool
+        requires there { place < length self.now.now.facts.listed }
+        requires part { (nth self.now.now.facts.listed place).takes_part ≡ true }
         ensures { MatchBool result (IsAgainst self.now.now place) (IsApart self.now.now place) }
     {
         self.are_kept();
@@ -52,7 +61,8 @@ impl ClosureParts {
         }
     }
 
-    /// Looks at the listed term of a place: whether it is denied though its sides are linked, and whether another term has its key.
+    /// Looks at the listed term of a place, if it takes part: whether it is denied though its sides are linked, and whether another
+    /// term has its key.
     ///
     /// `NoMemory` comes where the key, or what is to be looked at again, finds no memory.
     pub(crate) fn look(&mut self, place: u64) -> Result<Turn, NoMemory>
@@ -60,6 +70,9 @@ impl ClosureParts {
         ensures goes { KeepsFacts self.old self.new }
         ensures ok { IfOk result (HasLooked self.old place self.new) }
     {
+        if !self.takes_part_at(place) {
+            return Ok(Turn::Quiet);
+        }
         if self.is_against(place) {
             return Ok(Turn::Against(Conflict::Sides(self.listing.at(place).term)));
         }
@@ -75,6 +88,7 @@ impl ClosureParts {
     /// `NoMemory` comes where what is to be looked at again finds no memory.
     fn meet(&mut self, place: u64, holder: u64) -> Result<Turn, NoMemory>
         requires there { place < length self.old.now.facts.listed }
+        requires part { (nth self.old.now.facts.listed place).takes_part ≡ true }
         requires held { IsHeld self.old.now.keys
             (key_of self.old.now.numbers (nth self.old.now.facts.listed place).shape) holder }
         requires apart { IsApart self.old.now place }
@@ -91,7 +105,8 @@ impl ClosureParts {
         Ok(Turn::Joined)
     }
 
-    /// Gives a literal: its term is in the class of its truth value, and the sides of an equality are in one class or in two.
+    /// Gives a literal: its term is in the class of its truth value, and the sides of an equality are in one class, or in two where it
+    /// takes part.
     ///
     /// `NoMemory` comes where what is to be looked at again finds no memory.
     pub(crate) fn give(&mut self, lit: Lit) -> Result<Turn, NoMemory>
@@ -109,17 +124,18 @@ impl ClosureParts {
             return Ok(Turn::Quiet);
         };
         match self.sides_at(place) {
-            Some((a, b)) => self.give_sides(lit, a, b),
+            Some((a, b)) => self.give_sides(lit, place, a, b),
             None => Ok(Turn::Quiet),
         }
     }
 
-    /// Gives the sides of an equality: they are in one class where it is held as it is, else in two.
+    /// Gives the sides of an equality: they are in one class where it is held as it is, else in two where it takes part.
     ///
     /// `NoMemory` comes where what is to be looked at again finds no memory.
-    fn give_sides(&mut self, lit: Lit, a: TermId, b: TermId) -> Result<Turn, NoMemory>
+    fn give_sides(&mut self, lit: Lit, place: u64, a: TermId, b: TermId) -> Result<Turn, NoMemory>
         requires held { Contains self.old.now.facts.held lit }
-        requires sides { IsEquality self.old.now.facts.listed lit.term a b }
+        requires place { HasPlace self.old.now.facts.listed lit.term place }
+        requires sides { (nth self.old.now.facts.listed place).shape ≡ equality_of a b }
         requires decided { AreSame self.old.now.numbers lit.term (truth_of self.old.now.facts.truths lit.positive) }
         ensures goes { KeepsFacts self.old self.new }
         ensures ok { IfOk result (HasGiven self.old lit self.new) }
@@ -129,10 +145,13 @@ impl ClosureParts {
         if linked == lit.positive {
             return Ok(Turn::Quiet);
         }
-        if linked {
+        if !linked {
+            self.join(a, b, Some(lit))?;
+            return Ok(Turn::Joined);
+        }
+        if self.takes_part_at(place) {
             return Ok(Turn::Against(Conflict::Sides(lit.term)));
         }
-        self.join(a, b, Some(lit))?;
-        Ok(Turn::Joined)
+        Ok(Turn::Quiet)
     }
 }

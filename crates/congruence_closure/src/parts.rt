@@ -85,18 +85,22 @@ impl ClosureParts {
         })
     }
 
-    /// Lists a term.
+    /// Lists a term, which takes part or not.
     ///
     /// `NoMemory` comes where it finds no memory; then terms may have come that are not listed.
-    pub fn watch(&mut self, id: TermId, node: &Node) -> Result<(), NoMemory>
+    pub fn watch(&mut self, id: TermId, node: &Node, takes_part: bool) -> Result<(), NoMemory>
         requires new { IsListed self.old.now.facts.listed id → ⊥ }
         requires below { NamesBelow id.0 node.now }
         ensures ok { OnOk result (Changes self.old
-            (with_listed self.old.now.facts (record { term = id; shape = shape_of node.now })) self.new) }
+            (with_listed self.old.now.facts (record {
+              term = id;
+              shape = shape_of node.now;
+              takes_part = takes_part;
+            })) self.new) }
         ensures err { OnErr result (Changes self.old self.old.now.facts self.new) }
     {
         add_term(&mut self.classes, &mut self.forest, &mut self.holding, id)?;
-        self.listing.add(id, node)?;
+        self.listing.add(id, node, takes_part)?;
         Ok(())
     }
 

@@ -27,7 +27,7 @@ pub(crate) enum Turn {
     Done,
 }
 
-/// Puts the places of all terms that have a member of a term's class as an argument last among those to look at.
+/// Puts the places of all terms that take part and have a member of a term's class as an argument last among those to look at.
 ///
 /// `NoMemory` comes where they find no memory. Then some of them may be there.
 fn queue_users(

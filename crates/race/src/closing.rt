@@ -67,7 +67,7 @@ impl Marked {
     fn watch(&mut self, table: &TermTable, terms: &[TermId]) -> Result<(), Fault> {
         for t in terms {
             if is_new(&self.closure, table, *t)? {
-                self.closure.watch(*t, table.node(*t))?;
+                self.closure.watch(*t, table.node(*t), true)?;
             }
         }
         Ok(())
@@ -79,7 +79,7 @@ impl Marked {
             return Ok(());
         }
         self.closure.is_right();
-        self.closure.watch(t, table.node(t))?;
+        self.closure.watch(t, table.node(t), true)?;
         self.closure.hold(Lit {
             term: t,
             positive: true,

@@ -42,7 +42,7 @@ impl Marked {
         {
             return Ok(false);
         }
-        self.closure.watch(t, node)?;
+        self.closure.watch(t, node, true)?;
         Ok(true)
     }
 

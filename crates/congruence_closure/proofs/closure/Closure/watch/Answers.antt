@@ -15,12 +15,12 @@ invariant_of-self c =
 
 pub invariant_of-self-2 : goal.invariant_of-self-2
 invariant_of-self-2 c =
-    let x : Application = record { term = c.args.id; shape = shape_of c.args.node.now } in
+    let x : Application = record { term = c.args.id; shape = shape_of c.args.node.now; takes_part = c.args.takes_part } in
     let f = follows_changes c.self.inside.parts c.watch.new.self (with_listed c.self.inside.parts.now.facts x) (front_listed c.self.inside.parts.now.facts x) c.in_ok-watch.ensures.ok in
     whole_follows c.self.inside.parts c.watch.new.self f c.self.inside.saturated false c.self.inside.marks.items c.self.invariant (λ e. absurd (true≢false (sym e)))
 
 pub returns-clause-marks : goal.returns-clause-marks
 returns-clause-marks c =
-    let x : Application = record { term = c.args.id; shape = shape_of c.args.node.now } in
+    let x : Application = record { term = c.args.id; shape = shape_of c.args.node.now; takes_part = c.args.takes_part } in
     let f = follows_changes c.self.inside.parts c.watch.new.self (with_listed c.self.inside.parts.now.facts x) (front_listed c.self.inside.parts.now.facts x) c.in_ok-watch.ensures.ok in
     marks_follow c.self.inside.parts c.watch.new.self f c.self.inside.saturated c.self.inside.marks.items c.self.invariant ∙ ap (λ (v : ClosureView). v.marks) c.self.view_is

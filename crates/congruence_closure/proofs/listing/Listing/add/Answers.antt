@@ -26,12 +26,12 @@ invariant_of-self-in_err-note_users c =
 
 pub invariant_of-self-2 : goal.invariant_of-self-2
 invariant_of-self-2 c =
-    let x : Application = record { term = c.args.term; shape = shape_of c.args.node.now } in
+    let x : Application = record { term = c.args.term; shape = shape_of c.args.node.now; takes_part = c.args.takes_part } in
     let shape : shape_of c.in_ok-copy.copy ≡ shape_of c.args.node.now = λ i. record { head = c.in_ok-copy.ensures.0 i; arguments = (c.in_ok-copy.ensures.1 ∙ c.as_slice.ensures) i } in
     let is : applications c.push_reserved.new.self.items ≡ applications c.self.inside.listed.items ++ x ∷ []
-    = ap applications c.push_reserved.ensures.items ∙ map_push application c.reserve.new.self.items (record { term = c.args.term; node = c.in_ok-copy.copy })
-    ∙ ap (λ xs. applications xs ++ record { term = c.args.term; shape = shape_of c.in_ok-copy.copy } ∷ []) c.in_ok-reserve.ensures.items
-    ∙ ap (λ (s : Shape). applications c.self.inside.listed.items ++ record { term = c.args.term; shape = s } ∷ []) shape in
+    = ap applications c.push_reserved.ensures.items ∙ map_push application c.reserve.new.self.items (record { term = c.args.term; node = c.in_ok-copy.copy; takes_part = c.args.takes_part })
+    ∙ ap (λ xs. applications xs ++ record { term = c.args.term; shape = shape_of c.in_ok-copy.copy; takes_part = c.args.takes_part } ∷ []) c.in_ok-reserve.ensures.items
+    ∙ ap (λ (s : Shape). applications c.self.inside.listed.items ++ record { term = c.args.term; shape = s; takes_part = c.args.takes_part } ∷ []) shape in
     let place : c.len-place.result ≡ length (applications c.self.inside.listed.items) = omega (arith, length-map c.self.inside.listed.items application, c.self.inside.listed.ok.0) in
     let none = subst (λ (xs : List Application). IsListed xs c.args.term → ⊥) (sym c.self.view_is) c.requires in
     subst (λ k. IsIndexed (applications c.push_reserved.new.self.items) (set c.grow.new.numbers.items c.args.term.0 k) (lists c.note_users.new.all.items)) (sym place)
@@ -39,5 +39,5 @@ invariant_of-self-2 c =
     (indexed_push (applications c.self.inside.listed.items) c.self.inside.places.items c.grow.new.numbers.items (lists c.self.inside.users.items) (lists c.note_users.new.all.items) x c.self.invariant none
     c.in_ok-grow.ensures.kept c.in_ok-grow.ensures.ok
     (subst (λ k. HaveKeptBelow k (lists c.self.inside.users.items) (lists c.note_users.new.all.items)) place c.in_ok-note_users.ensures.kept)
-    (subst (λ k. HaveNoted c.args.node.now.arguments.items k (lists c.note_users.new.all.items)) place
-    (subst (λ (ts : List TermId). HaveNoted ts c.len-place.result (lists c.note_users.new.all.items)) c.as_slice-2.ensures c.in_ok-note_users.ensures.ok))))
+    (λ part. subst (λ k. HaveNoted c.args.node.now.arguments.items k (lists c.note_users.new.all.items)) place
+    (subst (λ (ts : List TermId). HaveNoted ts c.len-place.result (lists c.note_users.new.all.items)) (c.used_by.ensures part) c.in_ok-note_users.ensures.ok))))

@@ -14,4 +14,4 @@ returns-then-t-len c = subst (λ (xs : List Application). AreUsers xs c.args.t c
 
 pub returns-else-t-len : goal.returns-else-t-len
 returns-else-t-len c = subst (λ (xs : List Application). AreUsers xs c.args.t []) c.self.view_is
-    (λ i lt there. absurd (none_there (lists c.self.inside.users.items) c.args.t.0 i (omega (arith, length-map c.self.inside.users.items (λ v. v.items))) (c.self.invariant.users i c.args.t lt there)))
+    (λ i lt part there. absurd (none_there (lists c.self.inside.users.items) c.args.t.0 i (omega (arith, length-map c.self.inside.users.items (λ v. v.items))) (c.self.invariant.users i c.args.t lt part there)))

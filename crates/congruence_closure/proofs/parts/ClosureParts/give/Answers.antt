@@ -37,3 +37,6 @@ returns-in-None-clause-ok c =
     let decided = (c.are_kept.ensures.kept.joint.agree c.args.lit.term (truth_of c.args.self.now.now.facts.truths c.args.lit.positive) low (truth_low c.args.self.now.now c.are_kept.ensures.kept c.args.lit.positive)).0 linked in
     let place = subst (λ (v : PartsView). HasPlace v.now.facts.listed c.args.lit.term c.in-Some.place) c.self.view_is c.in-Some.ensures in
     (refl, given_plain c.args.self.now.now c.are_kept.ensures.kept c.args.lit decided c.in-Some.place place c.in-None.ensures)
+
+pub give_sides-requires-clause-place : goal.give_sides-requires-clause-place
+give_sides-requires-clause-place c = subst (λ (v : PartsView). HasPlace v.now.facts.listed c.args.lit.term c.in-Some.place) c.self.view_is c.in-Some.ensures

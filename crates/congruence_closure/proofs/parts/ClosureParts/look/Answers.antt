@@ -1,6 +1,9 @@
 -- A key that was absent is put, with its term.
-use Rattle.std.proofs.Common.{◌≡◌, ◌<◌, length, sym, ap, ◌∙◌, subst}
+use Rattle.std.proofs.Common.{◌≡◌, ◌<◌, length, true≢false, refl, sym, ap, ◌∙◌, subst}
+use Rattle.term_core.specs.declared.ids.TermId.{TermId}
 use Rattle.term_core.specs.Tables.{Shape, shape_of}
+use Rattle.congruence_relation.specs.declared.Conflict.TheVariants.{Sides}
+use Rattle.congruence_relation.specs.Edges.{IsConflict}
 use Rattle.congruence_closure.specs.Listed.{nth}
 use Rattle.congruence_closure.specs.Keys.{Keys, key_of, with_key, IsAbsent}
 use Rattle.congruence_closure.specs.State.{PartsView, PartsFit, HasKey, IsApart}
@@ -16,8 +19,9 @@ invariant_of-self-in-None c =
     let absent = subst (IsAbsent c.self.inside.keys) key told.0 in
     let is : c.look_up.new.self ≡ with_key c.self.inside.keys (key_of c.self.inside.classes.numbers (nth c.self.inside.listing c.args.place).shape) c.args.place
     = told.1 ∙ ap (λ (x : Shape). with_key c.self.inside.keys x c.args.place) key in
+    let taken = ap (λ (v : PartsView). (nth v.now.facts.listed c.args.place).takes_part) c.self.view_is ∙ sym c.takes_part_at.ensures ∙ c.if-not-takes_part_at.false in
     record {
-      kept = subst (λ (k : Keys). PartsFit (with_keys (state_of c.self.inside) k)) (sym is) (kept_key (state_of c.self.inside) c.args.place c.self.invariant.kept low absent);
+      kept = subst (λ (k : Keys). PartsFit (with_keys (state_of c.self.inside) k)) (sym is) (kept_key (state_of c.self.inside) c.args.place c.self.invariant.kept low absent taken);
       terms = c.self.invariant.terms;
       room = c.self.invariant.room;
       next = c.self.invariant.next;
@@ -30,9 +34,26 @@ returns-in-None-clause-ok c =
     let low = subst (λ (v : PartsView). c.args.place < length v.now.facts.listed) (sym c.self.view_is) c.requires in
     let absent = subst (IsAbsent c.self.inside.keys) key told.0 in
     let is : c.look_up.new.self ≡ with_key c.self.inside.keys (key_of c.self.inside.classes.numbers (nth c.self.inside.listing c.args.place).shape) c.args.place
-    = told.1 ∙ ap (λ (x : Shape). with_key c.self.inside.keys x c.args.place) key in (
+    = told.1 ∙ ap (λ (x : Shape). with_key c.self.inside.keys x c.args.place) key in
+    let taken = ap (λ (v : PartsView). (nth v.now.facts.listed c.args.place).takes_part) c.self.view_is ∙ sym c.takes_part_at.ensures ∙ c.if-not-takes_part_at.false in (
       ap (λ (v : PartsView). v.now.left) c.self.view_is,
       ap (λ (v : PartsView). v.now.edges) c.self.view_is,
-      subst (λ (k : Keys). HasKey (with_keys (state_of c.self.inside) k) c.args.place) (sym is) (has_new_key (state_of c.self.inside) c.args.place c.self.invariant.kept low absent),
-      subst (λ (v : PartsView). IsApart v.now c.args.place) (sym c.self.view_is) c.if-is_against.ensures,
+      λ part. (
+        subst (λ (k : Keys). HasKey (with_keys (state_of c.self.inside) k) c.args.place) (sym is) (has_new_key (state_of c.self.inside) c.args.place c.self.invariant.kept low absent taken),
+        subst (λ (v : PartsView). IsApart v.now c.args.place) (sym c.self.view_is) c.if-is_against.ensures,
+      ),
     )
+
+pub returns-then-not-takes_part_at-clause-ok : goal.returns-then-not-takes_part_at-clause-ok
+returns-then-not-takes_part_at-clause-ok c = (refl, refl, λ part. absurd (true≢false (sym part ∙ sym c.takes_part_at.ensures ∙ c.if-not-takes_part_at.true)))
+
+pub is_against-requires-clause-part : goal.is_against-requires-clause-part
+is_against-requires-clause-part c = sym c.takes_part_at.ensures ∙ c.if-not-takes_part_at.false
+
+pub meet-requires-clause-part : goal.meet-requires-clause-part
+meet-requires-clause-part c = ap (λ (v : PartsView). (nth v.now.facts.listed c.args.place).takes_part) c.self.view_is ∙ sym c.takes_part_at.ensures ∙ c.if-not-takes_part_at.false
+
+pub returns-then-is_against-clause-ok : goal.returns-then-is_against-clause-ok
+returns-then-is_against-clause-ok c =
+    subst (λ (t : TermId). IsConflict c.args.self.now.now.facts c.args.self.now.now.edges (Sides t)) (sym (c.at.ensures.term ∙ ap (λ (v : PartsView). (nth v.now.facts.listed c.args.place).term) c.self.view_is))
+    c.if-is_against.ensures

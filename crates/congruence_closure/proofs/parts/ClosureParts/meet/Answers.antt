@@ -13,4 +13,4 @@ join-requires-clause-why c =
     let other = c.at-2.ensures.term ∙ ap (λ (v : PartsView). (nth v.now.facts.listed c.args.holder).term) c.self.view_is in
     subst (λ (t : TermId). Meet c.args.self.now.now.facts c.args.self.now.now.edges t c.at-2.result.now.term) (sym one)
     (subst (λ (t : TermId). Meet c.args.self.now.now.facts c.args.self.now.now.edges (nth c.args.self.now.now.facts.listed c.args.place).term t) (sym other)
-    (they_meet c.args.self.now.now c.are_kept.ensures.kept c.args.place c.requires.there c.args.holder c.requires.held))
+    (they_meet c.args.self.now.now c.are_kept.ensures.kept c.args.place c.requires.there c.requires.part c.args.holder c.requires.held))

@@ -1,6 +1,7 @@
 -- The first of those to look at again is done.
-use Rattle.std.proofs.Common.{◌≡◌, ◌<◌, ◌+◌, length, drop, get_or, sym, ap, ◌∙◌, subst, arith}
+use Rattle.std.proofs.Common.{◌≡◌, ◌<◌, ◌+◌, true, length, drop, get_or, sym, ap, ◌∙◌, subst, arith}
 use Rattle.std.proofs.lemmas.List.{drop_more, length-drop, get_or_default}
+use Rattle.congruence_closure.specs.Listed.{nth}
 use Rattle.congruence_closure.specs.State.{Left, PartsView, HasKey, IsApart}
 use Rattle.congruence_closure.specs.Kept.{state_of}
 use Rattle.congruence_closure.proofs.Steps.{kept_next}
@@ -15,7 +16,7 @@ invariant_of-self c =
     let first = get_or_default c.self.inside.pending.items c.self.inside.next c.index-place.result.now 0 low in
     record {
       kept = kept_next (state_of c.self.inside) (get_or c.self.inside.pending.items c.self.inside.next 0) (drop (c.self.inside.next + 1) c.self.inside.pending.items) c.self.invariant.kept is
-          (λ lt. absurd (omega (arith, lt, c.index-place.ensures ∙ first)));
+          (λ lt part. absurd (omega (arith, lt, c.index-place.ensures ∙ first)));
       terms = c.self.invariant.terms;
       room = c.self.invariant.room;
       next = omega (arith, low);
@@ -34,11 +35,11 @@ invariant_of-self-in-Quiet c =
     let is = drop_more c.self-2.inside.pending.items c.self-2.inside.next 0 still in
     let first : c.index-place.result.now ≡ get_or c.self-2.inside.pending.items c.self-2.inside.next 0
     = c.index-place.ensures ∙ get_or_default c.self.inside.pending.items c.self.inside.next c.index-place.result.now 0 low ∙ (cons_same (sym was ∙ sym left ∙ is)).0 in
-    let key = subst (λ (v : PartsView). HasKey v.now c.index-place.result.now) (sym c.self-2.view_is) told.2 in
-    let apart = subst (λ (v : PartsView). IsApart v.now c.index-place.result.now) (sym c.self-2.view_is) told.3 in
+    let ready = subst (λ (v : PartsView). (nth v.now.facts.listed c.index-place.result.now).takes_part ≡ true → HasKey v.now c.index-place.result.now × IsApart v.now c.index-place.result.now)
+    (sym c.self-2.view_is) told.2 in
     record {
       kept = kept_next (state_of c.self-2.inside) (get_or c.self-2.inside.pending.items c.self-2.inside.next 0) (drop (c.self-2.inside.next + 1) c.self-2.inside.pending.items) c.self-2.invariant.kept is
-          (λ lt. (subst (HasKey (state_of c.self-2.inside)) first key, subst (IsApart (state_of c.self-2.inside)) first apart));
+          (λ lt. subst (λ n. (nth c.self-2.inside.listing n).takes_part ≡ true → HasKey (state_of c.self-2.inside) n × IsApart (state_of c.self-2.inside) n) first ready);
       terms = c.self-2.invariant.terms;
       room = c.self-2.invariant.room;
       next = omega (arith, still);

@@ -44,7 +44,7 @@ invariant_of-self-in_err-add c =
 pub invariant_of-self-2 : goal.invariant_of-self-2
 invariant_of-self-2 c =
     let added = c.in_ok-add_term.ensures in
-    let x : Application = record { term = c.args.id; shape = shape_of c.args.node.now } in
+    let x : Application = record { term = c.args.id; shape = shape_of c.args.node.now; takes_part = c.args.takes_part } in
     let absent = subst (λ (v : PartsView). IsListed v.now.facts.listed c.args.id → ⊥) (sym c.self.view_is) c.requires.new in
     let low = subst (λ n. c.args.id.0 < n) (ap length added.classes.numbers) added.ok in
     let grown = with_numbers (state_of c.self.inside) (with_terms added.classes.count c.self.inside.classes.numbers) in
