@@ -1,6 +1,6 @@
 -- Lists by the numbers of terms, which find places.
-use Rattle.std.specs.Prelude.{◌≡◌, ℕ, ◌*◌, ◌<◌, ◌≤◌, true, false, List, [], length, map, get_or, set, if◌then◌else◌, All}
-use Rattle.std.specs.Prelude.{Contains, Vec}
+use Rattle.std.specs.Prelude.{◌≡◌, ℕ, ◌*◌, ◌<◌, ◌≤◌, true, false, List, [], length, map, get_or, set, if◌then◌else◌}
+use Rattle.std.specs.Prelude.{All, Contains, Vec}
 use Rattle.std.specs.declared.alloc.Global.{Global}
 use Rattle.term_core.specs.declared.ids.TermId.{TermId}
 use Rattle.term_core.specs.declared.ids.Lit.{Lit}

@@ -50,7 +50,8 @@ pub record IsClosed (f : Facts) (es : List Edge) : Type 0 where
   pub stated : (l : Lit) (a b : TermId) → Contains f.held l → StatesEqual f l a b → Linked es a.0 b.0
   -- what takes part, and has linked arguments
   pub arguments : (x y : Application) → Contains f.listed x → Contains f.listed y → x.shape.head ≡ y.shape.head
-      → x.takes_part ≡ true → y.takes_part ≡ true → roots es x.shape.arguments ≡ roots es y.shape.arguments → Linked es x.term.0 y.term.0
+      → x.takes_part ≡ true → y.takes_part ≡ true
+      → roots es x.shape.arguments ≡ roots es y.shape.arguments → Linked es x.term.0 y.term.0
 
 -- terms are linked that must not be: `true` and `false`, or the sides of an equality that takes part, whose
 -- negation is held

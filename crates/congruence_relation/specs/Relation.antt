@@ -73,7 +73,8 @@ mutual
     joined : (a b c : TermId) → IsCongruentIn f a b → IsCongruentIn f b c → IsCongruentIn f a c
     -- listed terms that take part, with one head and equal arguments
     by_arguments : (x y : Application) → Contains f.listed x → Contains f.listed y → x.shape.head ≡ y.shape.head
-        → x.takes_part ≡ true → y.takes_part ≡ true → AreCongruentIn f x.shape.arguments y.shape.arguments → IsCongruentIn f x.term y.term
+        → x.takes_part ≡ true → y.takes_part ≡ true
+        → AreCongruentIn f x.shape.arguments y.shape.arguments → IsCongruentIn f x.term y.term
 
   -- as many terms as others, each equal to the other in its place
   pub data AreCongruentIn (f : Facts) : List TermId → List TermId → Type 0 where

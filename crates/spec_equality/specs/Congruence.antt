@@ -1,8 +1,8 @@
 -- The congruence of literals over listed terms. Source: Nelson and Oppen, Fast decision procedures based on congruence
 -- closure, JACM 1980; that a literal's term is equal to a truth value, and which terms take part, is own.
 use Rattle.std.specs.Prelude.{◌≡◌, ◌⊎◌, Bool, true, false, not, List, [], Contains}
-use Rattle.spec_sorts.specs.Terms.{Truth, True, False, And, Or, Xor, Implies, Equal, Ite, Head, Term, Terms, app, nil, cons}
-use Rattle.spec_sorts.specs.Terms.{of, same_sort, second_sort}
+use Rattle.spec_sorts.specs.Terms.{Truth, True, False, And, Or, Xor, Implies, Equal, Ite, Head, Term, Terms, app, nil}
+use Rattle.spec_sorts.specs.Terms.{cons, of, same_sort, second_sort}
 use Rattle.spec_sorts.specs.Literals.{Literal}
 use Rattle.spec_equality.specs.Reasons.{equal}
 
@@ -43,7 +43,8 @@ mutual
     joined : (t u v : Term) → IsCongruent listed held t u → IsCongruent listed held u v → IsCongruent listed held t v
     -- listed terms that take part, with one head and equal arguments
     by_arguments : (h : Head) (ts us : Terms) → Contains listed (app h ts) → Contains listed (app h us)
-        → takes_part (app h ts) ≡ true → takes_part (app h us) ≡ true → AreCongruent listed held ts us → IsCongruent listed held (app h ts) (app h us)
+        → takes_part (app h ts) ≡ true → takes_part (app h us) ≡ true → AreCongruent listed held ts us
+        → IsCongruent listed held (app h ts) (app h us)
 
   -- as many terms as others, each equal to the other in its place
   pub data AreCongruent (listed : List Term) (held : List Literal) : Terms → Terms → Type 0 where
