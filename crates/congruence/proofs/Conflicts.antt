@@ -17,8 +17,8 @@ denial e = record { term = e; positive = false }
 -- a conflict of edges with reasons refutes what is held
 pub conflict_refutes : (f : Facts) (es : List Edge) → EdgesHaveReasons f es → (c : Conflict) → IsConflict f es c → FactsAreRefuted f
 conflict_refutes f es reasons Truths linked = inl (linked_congruent f es reasons f.truths.true_term f.truths.false_term linked)
-conflict_refutes f es reasons (Sides e) (held, (a, b, equality, linked)) =
-    inr (a, b, record { literal = denial e; held = held; negative = refl; equality = equality }, linked_congruent f es reasons a b linked)
+conflict_refutes f es reasons (Sides e) (held, (a, b, equality, part, linked)) =
+    inr (a, b, record { literal = denial e; held = held; negative = refl; equality = equality; part = part }, linked_congruent f es reasons a b linked)
 
 -- the literal of a denied equality, by its parts
 held_denial : (f : Facts) (l : Lit) → Contains f.held l → l.positive ≡ false → Contains f.held (record { term = l.term; positive = false })
@@ -28,4 +28,4 @@ held_denial f l held negative = subst (λ b. Contains f.held (record { term = l.
 pub none_refutes : (f : Facts) (es : List Edge) → IsClosed f es → ((c : Conflict) → IsConflict f es c → ⊥) → FactsAreRefuted f → ⊥
 none_refutes f es closed none (inl equal) = none Truths (congruent_linked f es closed f.truths.true_term f.truths.false_term equal)
 none_refutes f es closed none (inr (a, b, denied, equal)) =
-    none (Sides denied.literal.term) (held_denial f denied.literal denied.held denied.negative, (a, b, denied.equality, congruent_linked f es closed a b equal))
+    none (Sides denied.literal.term) (held_denial f denied.literal denied.held denied.negative, (a, b, denied.equality, denied.part, congruent_linked f es closed a b equal))

@@ -3,3 +3,4 @@ pub mod Views
 pub mod Terms
 pub mod Conflicts
 pub mod Checking
+pub mod Taking

@@ -5,6 +5,7 @@ use Rattle.std.proofs.lemmas.List.{length-map, get_or-map}
 use Rattle.std.proofs.lemmas.Simd.{map-map}
 use Rattle.std.proofs.lemmas.List.Elements.{All-append, All-cons, All-nil, All-take, Contains-append_left, Contains-get_or}
 use Rattle.spec_sorts.specs.Terms.{True, False, of}
+use Rattle.spec_equality.specs.Congruence.{takes_part}
 use Rattle.term_core.specs.declared.ids.TermId.{TermId}
 use Rattle.term_core.specs.declared.ids.Lit.{Lit}
 use Rattle.term_core.specs.Tables.{TableView, shape_term, term_at, IsIn, ShapeFits}
@@ -27,9 +28,9 @@ terms_over t v over k d low =
     subst (IsTermIn t) (get_or-map (λ (x : Application). x.term) v.now.facts.listed k d d.term low) (over.terms k d.term (rw (length-map v.now.facts.listed (λ (x : Application). x.term)) low))
 
 -- what is listed of a table, is one with a term of it more
-pub more_listed : (t : TableView) (f : Facts) (x : Application) → AreFactsOf t f → IsIn t x.term → ShapeFits t x.shape → shape_term t x.shape ≡ term_at t x.term → AreFactsOf t (with_listed f x)
-more_listed t f x h there fits is = record {
-  terms = All-append (λ y. IsIn t y.term × ShapeFits t y.shape × (shape_term t y.shape ≡ term_at t y.term)) f.listed (x ∷ []) h.terms (All-cons (λ y. IsIn t y.term × ShapeFits t y.shape × (shape_term t y.shape ≡ term_at t y.term)) x [] (there, fits, is) (All-nil (λ y. IsIn t y.term × ShapeFits t y.shape × (shape_term t y.shape ≡ term_at t y.term))));
+pub more_listed : (t : TableView) (f : Facts) (x : Application) → AreFactsOf t f → IsIn t x.term → ShapeFits t x.shape → shape_term t x.shape ≡ term_at t x.term → x.takes_part ≡ takes_part (term_at t x.term) → AreFactsOf t (with_listed f x)
+more_listed t f x h there fits is part = record {
+  terms = All-append (λ y. IsIn t y.term × ShapeFits t y.shape × (shape_term t y.shape ≡ term_at t y.term) × (y.takes_part ≡ takes_part (term_at t y.term))) f.listed (x ∷ []) h.terms (All-cons (λ y. IsIn t y.term × ShapeFits t y.shape × (shape_term t y.shape ≡ term_at t y.term) × (y.takes_part ≡ takes_part (term_at t y.term))) x [] (there, fits, is, part) (All-nil (λ y. IsIn t y.term × ShapeFits t y.shape × (shape_term t y.shape ≡ term_at t y.term) × (y.takes_part ≡ takes_part (term_at t y.term)))));
   true_there = h.true_there;
   true_is = h.true_is;
   false_there = h.false_there;
@@ -57,7 +58,7 @@ listed_of f t (k, there, is) =
 -- what is listed of a table, is one in a prefix of it
 pub front_of : (t : TableView) (f g : Facts) → AreFactsOf t f → ArePrefix g f → AreInOrder g → AreFactsOf t g
 front_of t f g h front order = record {
-  terms = subst (All (λ x. IsIn t x.term × ShapeFits t x.shape × (shape_term t x.shape ≡ term_at t x.term))) (sym front.listed) (All-take (λ x. IsIn t x.term × ShapeFits t x.shape × (shape_term t x.shape ≡ term_at t x.term)) (length g.listed) f.listed h.terms);
+  terms = subst (All (λ x. IsIn t x.term × ShapeFits t x.shape × (shape_term t x.shape ≡ term_at t x.term) × (x.takes_part ≡ takes_part (term_at t x.term)))) (sym front.listed) (All-take (λ x. IsIn t x.term × ShapeFits t x.shape × (shape_term t x.shape ≡ term_at t x.term) × (x.takes_part ≡ takes_part (term_at t x.term))) (length g.listed) f.listed h.terms);
   true_there = subst (λ (ts : Truths). IsIn t ts.true_term) (sym front.truths) h.true_there;
   true_is = subst (λ (ts : Truths). term_at t ts.true_term ≡ of True []) (sym front.truths) h.true_is;
   false_there = subst (λ (ts : Truths). IsIn t ts.false_term) (sym front.truths) h.false_there;

@@ -18,7 +18,7 @@ use term_core::{TermId, TermTable};
 /// Holds literals of equality and uninterpreted functions, closed under congruence as far as they were checked.
 ///
 /// Held literals make terms equal: the sides of an equality that is held as it is, a literal's term and its truth value, and
-/// watched terms with one head and equal arguments. Contracts see what it holds and watches, now and at each mark.
+/// watched terms with one head and equal arguments that are no connectives. Contracts see what it holds and watches, now and at each mark.
 /// Source: Nieuwenhuis and Oliveras, Information and Computation 205, 2007.
 #[derive(Drop)]
 pub struct Congruence {

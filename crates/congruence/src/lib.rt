@@ -5,6 +5,7 @@
 #![tactic(auto)]
 
 mod congruence;
+mod parts;
 mod theory;
 
 pub use congruence::Congruence;

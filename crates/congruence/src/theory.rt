@@ -14,6 +14,7 @@ ghost use Rattle.congruence_relation.specs.Edges.{IsConflict};
 ghost use Rattle.congruence.specs.Views.{theory_of};
 
 use crate::congruence::Congruence;
+use crate::parts::takes_part;
 use congruence_closure::Closure;
 use congruence_explain::explain;
 use congruence_relation::{Conflict, facts_stay_over_more_terms, refutations_agree};
@@ -89,7 +90,8 @@ impl Theory for Congruence {
         ensures stops { IfErr result (StopsBy (λ _. ⊥) (λ _. ⊥)) }
         ensures memory { IfErr result (λ stop. stop ≡ stops.Memory) }
     {
-        self.closure.watch(id, table.node(id))?;
+        let part = takes_part(table, id);
+        self.closure.watch(id, table.node(id), part)?;
         Ok(())
     }
 
