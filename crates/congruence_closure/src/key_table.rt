@@ -15,7 +15,7 @@ use term_core::{Node, TermId};
 
 /// Makes the key of a node: its head, and for each argument its class's number.
 ///
-/// `NoMemory` comes where more than two arguments find no memory.
+/// `NoMemory` comes where more than three arguments find no memory.
 pub(crate) fn key_of(alloc: Global, classes: &ClassTable, node: &Node) -> Result<Node, NoMemory>
     requires { All (λ (a : Number). a.0 < length classes.now.numbers) node.now.arguments.items }
     ensures { IfOk result (λ key. shape_of key ≡ key_of classes.now.numbers (shape_of node.now)) }

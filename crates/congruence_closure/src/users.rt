@@ -1,6 +1,6 @@
 //! Places by the numbers of terms.
 
-ghost use Rattle.std.specs.Prelude.{◌<◌, ◌≤◌, ℕ, suc, max, OnOk, Contains, [], get_or, length};
+ghost use Rattle.std.specs.Prelude.{◌≡◌, ◌<◌, ◌≤◌, ℕ, suc, max, true, OnOk, Contains, [], get_or, length};
 ghost use Rattle.congruence_closure.specs.Tables.{lists, AreGrown, HaveKept, HaveKeptBelow, HaveNoted};
 
 use no_memory::NoMemory;
@@ -61,12 +61,23 @@ pub(crate) fn drop_users(all: &mut Vec<Vec<u64>>, terms: &[TermId], place: u64)
     }
 }
 
-/// Puts a place last into the list of a term.
+/// Tells whether a place is the last one of a list.
+fn is_last(list: &[u64], place: u64) -> bool
+    ensures { result ≡ true → Contains list.now place }
+{
+    let len = list.len();
+    len > 0 && list[len - 1] == place
+}
+
+/// Puts a place last into the list of a term, unless it is there: an argument that repeats is noted once.
 fn note(all: &mut Vec<Vec<u64>>, t: TermId, place: u64) -> Result<(), NoMemory>
     requires { t.0 < length all.old.items }
     ensures kept { HaveKept (lists all.old.items) (lists all.new.items) }
     ensures ok { OnOk result (Contains (get_or (lists all.new.items) t.0 []) place) }
 {
+    if is_last(all[t.0 as usize].as_slice(), place) {
+        return Ok(());
+    }
     all[t.0 as usize].push(place)?;
     Ok(())
 }
