@@ -225,7 +225,7 @@ module _ (t : TableView) (ts : Truths) (v : ForestState) (f : Facts) (b : IsBasi
 
   -- the sides of an equality whose negation is held
   pub sides_linked : (e : TermId) → IsConflict f v.edges (conflicts.Sides e) → HasLinkedSides (terms_listed t f) t v e
-  sides_linked e (held, (a, c, q, linked)) = record {
+  sides_linked e (held, (a, c, q, part, linked)) = record {
     atom = held_atom t ts v f b (record { term = e; positive = false }) held;
     made = held_made t ts v f b (record { term = e; positive = false }) held;
     one = a;

@@ -10,6 +10,7 @@ use Rattle.spec_sorts.specs.Terms.{Sort, Truth, True, False, Term, terms_of, of,
 use Rattle.spec_sorts.specs.Subsets.{arguments_of}
 use Rattle.spec_sorts.specs.WellSorted.{IsWellSorted}
 use Rattle.spec_sorts.proofs.WellSorted.{same_sort_is}
+use Rattle.spec_equality.specs.Congruence.{takes_part}
 use Rattle.spec_equality.specs.Reasons.{equal as equal_terms, Joins}
 use Rattle.spec_derivations.specs.Lemmas.{IsMadeOf, «given», is_true, is_false, is_equality}
 use Rattle.spec_derivations.proofs.Below.{argument_sorted}
@@ -114,8 +115,8 @@ truth_made terms t ts h false = subst (IsMadeOf terms) (sym h.false_is) is_false
 
 module _ (t : TableView) (ts : Truths) (v : ForestState) (f : Facts) (b : IsBasis t ts v f) where
   -- what a table says of a listed term
-  listed : (x : Application) → Contains f.listed x → IsIn t x.term × ShapeFits t x.shape × (shape_term t x.shape ≡ term_at t x.term)
-  listed x there = All-contains (λ x. IsIn t x.term × ShapeFits t x.shape × (shape_term t x.shape ≡ term_at t x.term)) f.listed x b.facts.terms there
+  listed : (x : Application) → Contains f.listed x → IsIn t x.term × ShapeFits t x.shape × (shape_term t x.shape ≡ term_at t x.term) × (x.takes_part ≡ takes_part (term_at t x.term))
+  listed x there = All-contains (λ x. IsIn t x.term × ShapeFits t x.shape × (shape_term t x.shape ≡ term_at t x.term) × (x.takes_part ≡ takes_part (term_at t x.term))) f.listed x b.facts.terms there
 
   pub listed_term : (x : Application) → Contains f.listed x → IsTermIn t x.term
   listed_term x there = All-contains (λ x. IsTermIn t x.term) f.listed x b.terms there
