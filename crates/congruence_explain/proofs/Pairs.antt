@@ -1,8 +1,9 @@
 -- Terms that are equal to others, one by one.
 use Rattle.std.proofs.Common.{◌≡◌, ◌≢◌, ℕ, zero, suc, ◌+◌, ◌<◌, ◌≤◌, ◌==◌, inl, inr, Bool, true, false, List, [], ◌∷◌, ◌++◌, length, get_or, drop, if◌then◌else◌, refl, sym, ap, ◌∙◌, subst, arith, append_assoc, append-nil, add-one}
+use Rattle.std.specs.Prelude.{Contains}
 use Rattle.std.proofs.lemmas.Bool.Decides.{nat_tests}
 use Rattle.std.proofs.lemmas.List.{drop_all}
-use Rattle.std.proofs.lemmas.List.Elements.{All-nil, All-cons, All-append}
+use Rattle.std.proofs.lemmas.List.Elements.{All-nil, All-cons, All-append, All-contains}
 use Rattle.spec_sorts.specs.Terms.{Term}
 use Rattle.spec_sorts.specs.Literals.{complement}
 use Rattle.term_core.specs.declared.ids.TermId.{TermId}
@@ -80,4 +81,15 @@ pairs_more s a b c xs ys i d h clause after is first one = λ k le linked.
     let o = one k le both in (
       grows_both k a b c f.0 o.0,
       subst (ShowsDenied s c) (sym is) (All-append (λ m. ShowsLiteral s c (complement (claim_as_literal s.table m))) clause (all_unequal (get_or xs i d ∷ []) (get_or ys i d ∷ [])) (shows_each s k b c o.0 clause f.1) o.1),
+    )
+
+-- a pair that the clause denies already is shown
+pub pairs_again : (s : ExplanationSetting) (a b : Notes) (xs ys : List TermId) (x y : TermId) (clause after : List SignedClaim) → Contains clause (unequal x y) → after ≡ clause ++ unequal x y ∷ []
+    → TellsClause s a b xs ys clause → TellsClause s a b xs ys after
+pairs_again s a b xs ys x y clause after there is told = λ k le linked.
+    let f = told k le linked in
+    let shown = All-contains (λ m. ShowsLiteral s b (complement (claim_as_literal s.table m))) clause (unequal x y) f.1 there in (
+      f.0,
+      subst (ShowsDenied s b) (sym is) (All-append (λ m. ShowsLiteral s b (complement (claim_as_literal s.table m))) clause (unequal x y ∷ []) f.1
+          (All-cons (λ m. ShowsLiteral s b (complement (claim_as_literal s.table m))) (unequal x y) [] shown (All-nil (λ m. ShowsLiteral s b (complement (claim_as_literal s.table m)))))),
     )

@@ -1,9 +1,9 @@
 //! Steps that say that linked terms are equal, where the edges between them are explained.
 
-ghost use Rattle.std.specs.Prelude.{◌≡◌, ℕ, ◌<◌, true, [], ◌∷◌, ◌++◌, map, length, get_or, All, IfOk, OnOk};
+ghost use Rattle.std.specs.Prelude.{◌≡◌, ◌≢◌, ℕ, ◌<◌, true, [], ◌∷◌, ◌++◌, map, length, get_or, All, Contains, IfOk, OnOk};
 ghost use Rattle.spec_equality.specs.Reasons.{equal as equal_terms};
 ghost use Rattle.term_core.specs.Tables.{term_at, IsIn};
-ghost use Rattle.congruence_explain.specs.Claims.{IsClaimIn, IsOneEquality, denied_step, all_unequal, no_term_id};
+ghost use Rattle.congruence_explain.specs.Claims.{IsClaimIn, IsOneEquality, denied_step, unequal, all_unequal, no_term_id};
 ghost use Rattle.congruence_explain.specs.Basis.{IsBasis, AreLinkedIn, AreLinkedOr};
 ghost use Rattle.congruence_explain.specs.Steps.{Start, derived, spoken, Explains, setting, notes, AddsEdges, edges_on, TellsPair, TellsPairs};
 
@@ -128,7 +128,28 @@ fn tell_pair(
     Ok(())
 }
 
+/// Tells whether a clause denies last that two terms are equal that differ.
+fn denies_last(clause: &[SignedClaim], x: TermId, y: TermId) -> bool
+    ensures { result ≡ true → (x.0 ≢ y.0) × Contains clause.now (unequal x y) }
+{
+    if x.0 == y.0 {
+        return false;
+    }
+    let Some((last, _)) = clause.split_last() else {
+        return false;
+    };
+    if last.positive {
+        return false;
+    }
+    match last.claim {
+        Claim::Equality(a, b) => a.0 == x.0 && b.0 == y.0,
+        Claim::Atom(_) => false,
+    }
+}
+
 /// Logs that arguments are equal to others, one by one, and gives the clause that denies it of each two that differ.
+///
+/// A pair that is the same as the one before is told once.
 pub(crate) fn tell_pairs(
     alloc: Global,
     table: &mut TermTable,
@@ -153,6 +174,10 @@ pub(crate) fn tell_pairs(
 {
     let mut clause = Vec::new(alloc);
     'pairs: for i in 0..xs.len() {
+        if denies_last(&clause, xs[i], ys[i]) {
+            clause.push(unequality(xs[i], ys[i]))?;
+            continue;
+        }
         tell_pair(
             alloc,
             table,
