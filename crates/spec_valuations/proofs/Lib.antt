@@ -13,3 +13,4 @@ pub mod Saturating
 pub mod Numberless
 pub mod Numbered
 pub mod Named
+pub mod TruthsAlone

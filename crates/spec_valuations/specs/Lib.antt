@@ -2,3 +2,4 @@
 pub mod Tables
 pub mod Classes
 pub mod Saturation
+pub mod Propositional

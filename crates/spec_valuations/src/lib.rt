@@ -7,3 +7,4 @@
 
 pub mod checks;
 pub mod laws;
+pub mod propositional;
