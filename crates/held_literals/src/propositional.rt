@@ -1,0 +1,94 @@
+//! The theory of formulas whose clauses say all.
+
+ghost use Rattle.std.specs.Prelude.{◌≡◌, []};
+
+use crate::held::HeldLiterals;
+use no_memory::NoMemory;
+use proof_log::{ProofLog, Theory, Verdict};
+use sat_budget::{Budget, Stop};
+use std::alloc::Global;
+use std::marker::Model;
+use term_core::{Lit, TermId, TermTable};
+
+/// Holds literals of watched terms, and finds nothing wrong with them.
+///
+/// A search of propositional formulas needs no more, as their clauses define each connective.
+#[derive(Drop)]
+pub struct PropositionalTheory {
+    literals: HeldLiterals,
+}
+
+impl Model for PropositionalTheory {
+    ghost use Rattle.proof_log.specs.Theories.{TheoryView};
+
+    ghost Value = { TheoryView };
+
+    ghost view = { λ p. p.literals };
+}
+
+impl PropositionalTheory {
+    /// Holds and watches nothing. It takes no memory.
+    pub fn new(alloc: Global) -> PropositionalTheory
+        ensures { result ≡ record { held = []; watched = []; marks = [] } }
+    {
+        PropositionalTheory {
+            literals: HeldLiterals::new(alloc),
+        }
+    }
+}
+
+impl Theory for PropositionalTheory {
+    ghost view = { λ p. p };
+
+    ghost goes_with = { λ _ _. Unit {0} };
+
+    ghost agrees = { λ _ _ _. Unit {0} };
+
+    ghost refuses = { λ _ _ _. ⊥ };
+
+    ghost came_by = { λ _ _ _ _ _. Unit {0} };
+
+    ghost stopped_by = { λ _ _ _ _ _. Unit {0} };
+
+    ghost may_overflow = { λ _ _ _ _. ⊥ };
+
+    ghost needs_more = { λ _ _ _. ⊥ };
+
+    /// Watches a term that it does not watch yet. `Memory` comes where memory ran out, the one stop; then it watches what it did.
+    fn watch_term(&mut self, table: &TermTable, id: TermId) -> Result<(), Stop> {
+        let _ = table;
+        self.literals.watch(id)?;
+        Ok(())
+    }
+
+    fn assume_lit(&mut self, lit: Lit) {
+        self.literals.hold(lit);
+    }
+
+    /// Finds nothing wrong: it answers `Fine` always, in a time that depends on nothing, and changes nothing.
+    fn check(
+        &mut self,
+        table: &mut TermTable,
+        log: &mut ProofLog,
+        budget: &mut Budget,
+    ) -> Result<Verdict, Stop> {
+        let _ = table;
+        let _ = log;
+        let _ = budget;
+        Ok(Verdict::Fine)
+    }
+
+    fn mark(&mut self) -> Result<(), NoMemory> {
+        self.literals.mark()
+    }
+
+    fn back(&mut self, marks: u32) {
+        self.literals.back(marks);
+    }
+
+    ghost grown = { λ p t u more with. with };
+
+    ghost came_grown = { λ p t u more with ts n es came. came };
+
+    ghost exact = { λ p ts ls fine refuted. refuted };
+}
