@@ -4,6 +4,8 @@ pub mod SearchRelated
 pub mod SearchTruths
 pub mod SearchNumbers
 pub mod SearchStops
+pub mod SearchMet
+pub mod SearchTruthsAlone
 pub mod SearchModelled
 pub mod SearchOverflowed
 pub mod SharedTerms

@@ -48,7 +48,7 @@ left_of true (app Equal (cons s (cons t nil))) c e = left_of_pair Equal equals s
 left_of positive u c e = absurd (none-some c e)
 
 -- the same number for each term
-same_number : (q : Fraction) (ts : List Term) → replicate (length ts) q ≡ map (λ (u : Term). q) ts
+pub same_number : (q : Fraction) (ts : List Term) → replicate (length ts) q ≡ map (λ (u : Term). q) ts
 same_number q [] = refl
 same_number q (t ∷ ts) = ap (λ (qs : List Fraction). q ∷ qs) (same_number q ts)
 

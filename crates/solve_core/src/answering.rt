@@ -22,6 +22,7 @@ ghost use Rattle.solve_core.specs.Ending.{EndsRound, SaturatesRound, AnswersStop
 use crate::agreeing::{AgreementFound, agreement};
 use crate::bounding::relate_bounds;
 use crate::modelling::{TheoryAssignment, model, zeros};
+use crate::propositional::{answer_propositional, are_propositional};
 use crate::sharing::is_number;
 use crate::truths::truth_values;
 use combined::Combined;
@@ -66,8 +67,9 @@ fn have_numbers(table: &TermTable, terms: &[TermId]) -> bool
     false
 }
 
-/// Searches with the theory of equality and functions, and with that of linear arithmetic as well where some term is a number, from
-/// the beginning to an answer, or to where it is saturated and they do not agree on shared terms.
+/// Searches with no theory where all terms are propositional, else with the theory of equality and functions, and with that of linear
+/// arithmetic as well where some term is a number. It goes on from the beginning to an answer, or to where it is saturated and the theories
+/// do not agree on shared terms.
 pub(crate) fn answer(
     search: &mut Search,
     table: &mut TermTable,
@@ -79,6 +81,10 @@ pub(crate) fn answer(
     ensures declared { declared_in table.new ≡ declared_in table.old }
     ensures ends { IfOk result (EndsRound (state table.old search.old) (state table.new search.new) shared.now) }
 {
+    if are_propositional(table, &search.terms) {
+        let answer = answer_propositional(search, table)?;
+        return Ok(Round::Answered(answer));
+    }
     if have_numbers(table, &search.terms) {
         return answer_numbers(search, table, shared);
     }

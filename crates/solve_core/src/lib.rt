@@ -11,6 +11,7 @@ mod equalities;
 mod forms;
 mod modelling;
 mod outcome;
+mod propositional;
 mod sharing;
 mod solver;
 mod truths;

@@ -8,16 +8,18 @@ use Rattle.spec_simplex.specs.Numbers.{HoldsAt}
 use Rattle.ratio128.specs.Meant.{fraction}
 use Rattle.spec_sorts.specs.Literals.{Literal}
 use Rattle.spec_sorts.specs.Subsets.{IsClosed}
+use Rattle.spec_valuations.specs.Saturation.{values_of}
 use Rattle.term_core.specs.declared.ids.TermId.{TermId}
 use Rattle.term_core.specs.Symbols.{SymbolsView, AreDeclared}
 use Rattle.term_core.specs.Tables.{term_at, clause_at, literal_at}
 use Rattle.term_clauses.specs.SpokenTerms.{AreRising}
-use Rattle.search_model.specs.Models.{IsModelOf}
+use Rattle.search_model.specs.Models.{truths_of, IsModelOf}
 use Rattle.search_loop.specs.declared.cdcl.Answer.TheVariants.{Sat}
 use Rattle.search_loop.specs.Rounds.{ShowsAnswer}
 use Rattle.search_loop.proofs.SearchReady.{held_in}
 use Rattle.search_loop.proofs.SearchShows.{learning_shows}
-use Rattle.solve_core.proofs.SearchModelled.{given, taken, saturated_here, nothing_assumed, has_model}
+use Rattle.solve_core.proofs.SearchMet.{nothing_assumed, has_model}
+use Rattle.solve_core.proofs.SearchModelled.{given, taken, saturated_here}
 use Rattle.solve_core.proofs.modelling.model.Goals as goal
 
 pub model_of-requires-clause-rising : goal.model_of-requires-clause-rising
@@ -76,8 +78,8 @@ returns c =
     let g = given t differ x v _ h consistent h.agrees ns tell problem s place linear number k.values.reduced kept in
     let saturation = saturated_here t differ x v _ h consistent h.agrees ns tell problem s place linear number k.values.reduced kept k.shared k.shares k.heads k.agree in
     let arguments = taken t differ x v _ h consistent h.agrees ns tell problem s place linear number k.values.reduced kept k.shared k.shares k.heads k.agree in
-    let assumed = nothing_assumed t differ x v _ h consistent h.agrees ns tell problem s in (
-      has_model t differ x v _ h consistent h.agrees ns tell problem s place linear number k.values.reduced kept interp good
+    let assumed = nothing_assumed t x problem s (truths_of t ls) in (
+      has_model t ls ids ns (map number terms) (values_of g) problem interp good
           (c.made_models_have_interpretations.ensures.represents t ls ids ns (map number terms) interp declared.names_apart good)
           (c.made_models_are_those_of_numbers.ensures t ls ids ns number interp arguments good)
           (λ i by. c.searches_saturated_on_numbers_have_models.ensures.interprets t.symbols problem terms held g i saturation by)
