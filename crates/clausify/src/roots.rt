@@ -83,8 +83,7 @@ pub fn clauses_of(
 /// negations that clauses need, come into the table.
 ///
 /// Time and memory go in proportion to the number of the table's terms, to the lengths of the clauses, and to the forms
-/// of equalities' sides. But the rules `and_pos` and `or_neg` look for the argument that a clause has, so a term of n
-/// arguments costs in the order of n^2 comparisons of numbers.
+/// of equalities' sides. The clauses by a term's head are not judged: they are right as they are made.
 ///
 /// `Wide` comes where the forms of an equality's sides, or their sum, leave the bound on numbers, and `Memory` where a
 /// clause or a term of it finds no memory; then table and log are as they were.

@@ -158,9 +158,6 @@ fn state_innermost(
 }
 
 /// States the clauses that have a first term and after it one of the arguments of a term, or its negation.
-///
-/// The rule looks for the argument among all of them, without memory: n arguments cost in the order of n^2 comparisons of
-/// numbers, all together.
 fn state_any(
     alloc: Global,
     table: &mut TermTable,

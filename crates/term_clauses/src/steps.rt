@@ -9,12 +9,11 @@ ghost use Rattle.term_clauses.specs.Growth.{Grows};
 ghost use Rattle.term_clauses.specs.Stating.{listed_steps, Tells};
 
 use no_memory::NoMemory;
-use proof_log::{Clause, LogFault, Numbers, ProofLog, Rule, Step, StepId, StepIds};
-use spec_rules::laws::wide_steps_are_not_right;
+use proof_log::{Clause, Numbers, ProofLog, Rule, Step, StepId, StepIds};
 use std::alloc::Global;
 use term_core::{TermId, TermTable};
 
-/// Logs a step that is right without premises, and puts its number after the others.
+/// Logs a step that is right without premises, and puts its number after the others. It is not judged.
 pub fn state(
     alloc: Global,
     table: &TermTable,
@@ -30,20 +29,13 @@ pub fn state(
     ensures tells { OnOk result (Tells (listed_steps table.now log.old steps.old.items)
         (listed_steps table.now log.new steps.new.items) (clause_at table.now clause.items ∷ [])) }
 {
-    wide_steps_are_not_right();
     let step = Step {
         rule,
         premises: StepIds::from(Vec::new(alloc)),
         arguments: Numbers::from(Vec::new(alloc)),
         clause: Clause::from(clause),
     };
-    match log.add(table, step) {
-        Ok(number) => {
-            steps.push(number)?;
-            Ok(())
-        }
-        Err(LogFault::RuleFails) => unreachable!(),
-        Err(LogFault::Wide) => unreachable!(),
-        Err(LogFault::Memory) => Err(NoMemory),
-    }
+    let number = log.add_right(table, step)?;
+    steps.push(number)?;
+    Ok(())
 }
