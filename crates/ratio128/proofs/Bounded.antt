@@ -81,7 +81,7 @@ sum_fits_true x y g e l r t f =
     (both_true _ _ (small_true _ t) f)
 
 -- whole numbers
-coprime_to_one : (n : ℕ) → gcd n 1 ≡ 1
+pub coprime_to_one : (n : ℕ) → gcd n 1 ≡ 1
 coprime_to_one n = eq-one_of_dvd-one (gcd-dvd_right n 1)
 
 pub whole-reduced : (z : ℤ) → IsReduced (whole z)

@@ -9,8 +9,28 @@ use std::cmp::Ordering;
 
 const MOST: u128 = i128::MAX as u128;
 
-/// Gives the greatest common divisor of two numbers, the second above 0, by Euclid's algorithm.
+// Up to it, numbers are short: each fits into 64 bits, and the product of two of them into 128.
+const SHORT: u128 = i64::MAX as u128;
+
+/// Gives the greatest common divisor of two numbers, the second above 0.
+///
+/// Where both are short it is found in 64 bits, and where the second is 1 without a division.
 pub(crate) fn gcd_of(a: u128, b: u128) -> u128
+    requires { 0 < b }
+    ensures value { result ≡ gcd a b }
+    ensures positive { 0 < result }
+{
+    if b == 1 {
+        return 1;
+    }
+    if a <= SHORT && b <= SHORT {
+        return short_gcd_of(a as u64, b as u64) as u128;
+    }
+    long_gcd_of(a, b)
+}
+
+// The same by Euclid's algorithm.
+fn long_gcd_of(a: u128, b: u128) -> u128
     requires { 0 < b }
     ensures value { result ≡ gcd a b }
     ensures positive { 0 < result }
@@ -25,13 +45,43 @@ pub(crate) fn gcd_of(a: u128, b: u128) -> u128
     x
 }
 
+// The same of short numbers.
+fn short_gcd_of(a: u64, b: u64) -> u64
+    requires { 0 < b }
+    ensures value { result ≡ gcd a b }
+    ensures positive { 0 < result }
+{
+    let mut x = a;
+    let mut y = b;
+    while y != 0 {
+        let rest = x % y;
+        x = y;
+        y = rest;
+    }
+    x
+}
+
+/// Gives a size over another one, without a division where that is 1, and in 64 bits where both are short.
+pub(crate) fn quotient_of(size: u128, by: u128) -> u128
+    requires { 0 < by }
+    ensures { result ≡ size / by }
+{
+    if by == 1 {
+        return size;
+    }
+    if size <= SHORT && by <= SHORT {
+        return (size as u64 / by as u64) as u128;
+    }
+    size / by
+}
+
 /// Gives a signed number over one of its divisors.
 pub(crate) fn cut(num: i128, by: u128) -> i128
     requires positive { 0 < by }
     requires small { unsigned_abs num < 2 ^ 127 }
     ensures { result ≡ over num by }
 {
-    signed(num < 0, num.unsigned_abs() / by)
+    signed(num < 0, quotient_of(num.unsigned_abs(), by))
 }
 
 /// Gives the number of a sign and a size.

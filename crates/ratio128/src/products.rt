@@ -5,7 +5,7 @@ ghost use Rattle.spec_numbers.specs.Fractions.{times};
 ghost use Rattle.spec_numbers.specs.Bounds.{fits, multiplied};
 ghost use Rattle.ratio128.specs.Meant.{fraction, outcome, IsNarrow};
 
-use crate::parts::{cut, gcd_of, narrow_product, narrow_signed_product};
+use crate::parts::{cut, gcd_of, narrow_product, narrow_signed_product, quotient_of};
 use crate::{Op, Ratio, Wide};
 
 impl Ratio {
@@ -40,6 +40,6 @@ fn cut_product_of(a: Ratio, b: Ratio) -> Option<Ratio>
     let first = gcd_of(a.num.unsigned_abs(), b.den);
     let second = gcd_of(b.num.unsigned_abs(), a.den);
     let num = narrow_signed_product(cut(a.num, first), cut(b.num, second))?;
-    let den = narrow_product(a.den / second, b.den / first)?;
+    let den = narrow_product(quotient_of(a.den, second), quotient_of(b.den, first))?;
     Some(Ratio { num, den })
 }

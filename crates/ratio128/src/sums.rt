@@ -5,7 +5,7 @@ ghost use Rattle.spec_numbers.specs.Fractions.{plus};
 ghost use Rattle.spec_numbers.specs.Bounds.{sum_fits, added, subtracted};
 ghost use Rattle.ratio128.specs.Meant.{fraction, outcome, IsNarrow};
 
-use crate::parts::{cut, gcd_of, narrow_multiple, narrow_product, narrow_sum};
+use crate::parts::{cut, gcd_of, narrow_multiple, narrow_product, narrow_sum, quotient_of};
 use crate::{Op, Ratio, Wide};
 
 impl Ratio {
@@ -50,11 +50,11 @@ fn common_sum_of(a: Ratio, b: Ratio) -> Option<Ratio>
     ensures { IsNarrow result (sum_fits (fraction a) (fraction b)) (plus (fraction a) (fraction b)) }
 {
     let shared = gcd_of(a.den, b.den);
-    let left = narrow_multiple(a.num, b.den / shared)?;
-    let right = narrow_multiple(b.num, a.den / shared)?;
+    let left = narrow_multiple(a.num, quotient_of(b.den, shared))?;
+    let right = narrow_multiple(b.num, quotient_of(a.den, shared))?;
     let sum = narrow_sum(left, right)?;
     let common = gcd_of(sum.unsigned_abs(), shared);
-    let den = narrow_product(a.den / shared, b.den / common)?;
+    let den = narrow_product(quotient_of(a.den, shared), quotient_of(b.den, common))?;
     Some(Ratio {
         num: cut(sum, common),
         den,

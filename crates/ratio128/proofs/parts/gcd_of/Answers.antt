@@ -1,12 +1,7 @@
-use Rattle.std.proofs.Common.{◌≡◌, sym, ◌∙◌, arith, ap}
+use Rattle.std.proofs.Common.{sym, ◌∙◌, ap}
 use Rattle.spec_numbers.specs.Fractions.{gcd}
-use Rattle.spec_numbers.proofs.Gcd.{gcd-step, gcd-zero, gcd_positive}
+use Rattle.ratio128.proofs.Bounded.{coprime_to_one}
 use Rattle.ratio128.proofs.parts.gcd_of.Goals as goal
 
-pub loop-y-preserved : goal.loop-y-preserved
-loop-y-preserved c = sym (gcd-step _ _ (omega arith)) ∙ c.loop-y.invariant
-
-pub returns : goal.returns
-returns c =
-    let e : c.loop-y.x ≡ gcd c.args.a c.args.b = sym (gcd-zero _) ∙ ap (gcd c.loop-y.x) (sym c.loop-y-test.false) ∙ c.loop-y.invariant in
-    record { value = e; positive = rw e (gcd_positive c.args.a c.args.b c.requires) }
+pub returns-then-b-eq1-clause-value : goal.returns-then-b-eq1-clause-value
+returns-then-b-eq1-clause-value c = sym (ap (gcd c.args.a) c.if-b-eq1.true ∙ coprime_to_one c.args.a)

@@ -39,7 +39,8 @@ returns-in_err-den c =
     let right = simp to_z-of_z at c.cut-2.ensures in
     let whole = product_is (fraction c.args.a) (fraction c.args.b) (reduced c.args.a) (reduced c.args.b) c.gcd_of-first.result c.gcd_of-second.result p q
     ∙ (λ i. record { num = sym left i *ℤ sym right i; den = (c.args.a.den / c.gcd_of-second.result) * (c.args.b.den / c.gcd_of-first.result) }) in
-    rw c.from_residual-in_err-den.ensures (den_wide (times (fraction c.args.a) (fraction c.args.b)) (λ h. c.in_err-den.ensures (subst (λ x. x.den < 2 ^ 127) whole h)))
+    let shares : c.quotient_of.result * c.quotient_of-2.result ≡ (c.args.a.den / c.gcd_of-second.result) * (c.args.b.den / c.gcd_of-first.result) = λ i. c.quotient_of.ensures i * c.quotient_of-2.ensures i in
+    rw c.from_residual-in_err-den.ensures (den_wide (times (fraction c.args.a) (fraction c.args.b)) (λ h. c.in_err-den.ensures (subst (λ n. n < 2 ^ 127) (sym shares) (subst (λ x. x.den < 2 ^ 127) whole h))))
 
 pub invariant_of-result : goal.invariant_of-result
 invariant_of-result c =
@@ -58,7 +59,8 @@ invariant_of-result c =
     let n : SFits w128 c.in_ok-num.num = search rules in
     let h = simp to_z-of_z at c.in_ok-num.ensures in
     let d = c.in_ok-den.ensures in
-    let is = whole ∙ (λ i. record { num = sym h.1 i; den = sym d.1 i }) in
+    let shares : c.quotient_of.result * c.quotient_of-2.result ≡ (c.args.a.den / c.gcd_of-second.result) * (c.args.b.den / c.gcd_of-first.result) = λ i. c.quotient_of.ensures i * c.quotient_of-2.ensures i in
+    let is = whole ∙ (λ i. record { num = sym h.1 i; den = sym (d.1 ∙ shares) i }) in
     let small : unsigned_abs c.in_ok-num.num < 2 ^ 127 = rw h.1 h.0 in
     let den_small : c.in_ok-den.den < 2 ^ 127 = rw d.1 d.0 in
     record { parts = rw to_z-of_z (parts_of (times (fraction c.args.a) (fraction c.args.b)) c.in_ok-num.num c.in_ok-den.den (times-reduced _ _ c.args.a.parts.positive c.args.b.parts.positive) is small den_small) }
@@ -80,7 +82,8 @@ returns c =
     let n : SFits w128 c.in_ok-num.num = search rules in
     let h = simp to_z-of_z at c.in_ok-num.ensures in
     let d = c.in_ok-den.ensures in
-    let is = whole ∙ (λ i. record { num = sym h.1 i; den = sym d.1 i }) in
+    let shares : c.quotient_of.result * c.quotient_of-2.result ≡ (c.args.a.den / c.gcd_of-second.result) * (c.args.b.den / c.gcd_of-first.result) = λ i. c.quotient_of.ensures i * c.quotient_of-2.ensures i in
+    let is = whole ∙ (λ i. record { num = sym h.1 i; den = sym (d.1 ∙ shares) i }) in
     let small : unsigned_abs c.in_ok-num.num < 2 ^ 127 = rw h.1 h.0 in
     let den_small : c.in_ok-den.den < 2 ^ 127 = rw d.1 d.0 in (
       fits_parts (times (fraction c.args.a) (fraction c.args.b)) c.in_ok-num.num c.in_ok-den.den is small den_small,

@@ -1,6 +1,6 @@
 use Rattle.std.proofs.Common.{◌≡◌}
 use Rattle.spec_numbers.specs.Fractions.{gcd}
-use Rattle.ratio128.proofs.parts.gcd_of.Given as goal
+use Rattle.ratio128.proofs.parts.short_gcd_of.Given as goal
 
 abbrev pub invariant-loop-y : goal.invariant-loop-y
 invariant-loop-y l = gcd l.x l.y ≡ gcd l.fn.a l.fn.b
