@@ -44,6 +44,7 @@ fn quotients(alloc: Global, entries: &[Entry], d: Ratio) -> Result<Vec<Entry>, R
     ensures wide { IfErr result (OnRowOverflow (OverflowsQuotients (entries_of entries.now) (number_of d))) }
 {
     let mut out = Vec::new(alloc);
+    out.reserve(entries.len())?;
     let mut rest = entries;
     while let Some((e, more)) = rest.split_first() {
         let divided = quotient(e.coefficient, d)?;
@@ -61,6 +62,7 @@ fn negated(alloc: Global, entries: &[Entry]) -> Result<Vec<Entry>, NoMemory>
     ensures { IfOk result (λ v. entries_of v.items ≡ definitions.negated numbers (entries_of entries.now)) }
 {
     let mut out = Vec::new(alloc);
+    out.reserve(entries.len())?;
     let mut rest = entries;
     while let Some((e, more)) = rest.split_first() {
         out.push(Entry {
@@ -180,6 +182,7 @@ pub(crate) fn changes_of(
 {
     let row = pivot_row(alloc, pivot)?;
     let mut made = Vec::new(alloc);
+    made.reserve(column.len().saturating_add(1))?;
     made.push(RowChange { number, row })?;
     let mut rest = column;
     while let Some((k, more)) = rest.split_first() {

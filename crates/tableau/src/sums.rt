@@ -105,6 +105,7 @@ pub(crate) fn merge(
         (entries_of gs.now))) }
 {
     let mut out = Vec::new(alloc);
+    out.reserve(es.len().saturating_add(gs.len()))?;
     let mut left = es;
     let mut taken = gs;
     while let Some((g, later)) = taken.split_first() {
@@ -123,6 +124,7 @@ pub(crate) fn without(alloc: Global, entries: &[Entry], x: u64) -> Result<Vec<En
     ensures { IfOk result (λ v. entries_of v.items ≡ definitions.without x (entries_of entries.now)) }
 {
     let mut out = Vec::new(alloc);
+    out.reserve(entries.len())?;
     let mut rest = entries;
     while let Some((e, more)) = rest.split_first() {
         if e.variable == x {
@@ -144,6 +146,7 @@ pub(crate) fn put(alloc: Global, entries: &[Entry], x: u64, c: Ratio) -> Result<
     ensures wide { IfErr result (OnRowOverflow (OverflowsPut (entries_of entries.now) x (number_of c))) }
 {
     let mut out = Vec::new(alloc);
+    out.reserve(entries.len().saturating_add(1))?;
     let mut rest = entries;
     while let Some((e, more)) = rest.split_first() {
         if x < e.variable {
@@ -174,6 +177,7 @@ pub(crate) fn put_new(
     ensures { IfOk result (λ v. entries_of v.items ≡ definitions.put numbers x (number_of c) (entries_of entries.now)) }
 {
     let mut out = Vec::new(alloc);
+    out.reserve(entries.len().saturating_add(1))?;
     let mut rest = entries;
     while let Some((e, more)) = rest.split_first() {
         if x < e.variable {

@@ -11,7 +11,7 @@ use Rattle.tableau.proofs.pivots.quotients.Goals as goal
 pub returns-in_err-divided-clause-wide : goal.returns-in_err-divided-clause-wide
 returns-in_err-divided-clause-wide c =
     let some : c.loop-e.rest.now ≡ c.in-Some.e.now ∷ c.in-Some.more.now = search rules in
-    told_wide (OverflowsQuotients (entries_of c.args.entries.now) (number_of c.args.d)) c.from_residual.result c.in_err-divided.field-0.0 c.from_residual.ensures.1
+    told_wide (OverflowsQuotients (entries_of c.args.entries.now) (number_of c.args.d)) c.from_residual-in_err-divided.result c.in_err-divided.field-0.0 c.from_residual-in_err-divided.ensures.1
     (record {
       entry = entry_of c.in-Some.e.now;
       there = left_first (entry_of c.in-Some.e.now) (entries_of c.loop-e.rest.now) (entries_of c.in-Some.more.now) (entries_of c.args.entries.now) (ap entries_of some) c.loop-e.invariant.left;

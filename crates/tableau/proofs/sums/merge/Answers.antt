@@ -12,10 +12,10 @@ returns-in_err-rest-clause-wide c =
     let i = c.loop-g.invariant in
     passed_on (OverflowsCombined c.args.minus (entries_of c.loop-g.left.now) (number_of c.args.k) (entry_of c.in-Some.g.now ∷ []))
     (OverflowsCombined c.args.minus (entries_of c.args.es.now) (number_of c.args.k) (entries_of c.args.gs.now))
-    c.from_residual.result c.in_err-rest.field-0.0
+    c.from_residual-in_err-rest.result c.in_err-rest.field-0.0
     (λ o. combined_more c.args.minus (entries_of c.args.es.now) (entries_of c.loop-g.left.now) (entries_of c.args.gs.now) (number_of c.args.k) (entry_of c.in-Some.g.now) o i.es_left
     (left_first (entry_of c.in-Some.g.now) (entries_of c.loop-g.taken.now) (entries_of c.in-Some.later.now) (entries_of c.args.gs.now) (ap entries_of some) i.gs_left))
-    c.from_residual.ensures.1 c.in_err-rest.ensures.wide
+    c.from_residual-in_err-rest.ensures.1 c.in_err-rest.ensures.wide
 
 pub loop-g-preserved-then-used : goal.loop-g-preserved-then-used
 loop-g-preserved-then-used c =
