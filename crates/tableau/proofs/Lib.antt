@@ -7,6 +7,7 @@ pub mod Merging
 pub mod Turns
 pub mod Telling
 pub mod Loops
+pub mod Putting
 pub mod RowOverflowing
 pub mod Noting
 pub mod Changing

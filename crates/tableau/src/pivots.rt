@@ -62,7 +62,8 @@ fn negated(alloc: Global, entries: &[Entry]) -> Result<Vec<Entry>, NoMemory>
     ensures { IfOk result (λ v. entries_of v.items ≡ definitions.negated numbers (entries_of entries.now)) }
 {
     let mut out = Vec::new(alloc);
-    out.reserve(entries.len())?;
+    // One more is put in by a pivot.
+    out.reserve(entries.len().saturating_add(1))?;
     let mut rest = entries;
     while let Some((e, more)) = rest.split_first() {
         out.push(Entry {
@@ -103,8 +104,8 @@ pub(crate) fn pivot_row(alloc: Global, pivot: &Pivot) -> Result<Row, NoMemory>
     requires { IsTidyPivot (pivot_meant pivot.now) }
     ensures { IfOk result (λ r. row_meant r ≡ definitions.pivot_row numbers (pivot_meant pivot.now)) }
 {
-    let others = negated(alloc, &pivot.others)?;
-    let entries = put_new(alloc, &others, pivot.leaving, pivot.factor)?;
+    let mut entries = negated(alloc, &pivot.others)?;
+    put_new(&mut entries, pivot.leaving, pivot.factor)?;
     Ok(Row {
         basic: pivot.entering,
         entries,
@@ -129,8 +130,9 @@ fn substituted(
 {
     let scaled = product(c, pivot.factor)?;
     let rest = without(alloc, entries, pivot.entering)?;
-    let merged = merge(alloc, &rest, c, &pivot.others, true)?;
-    Ok(put_new(alloc, &merged, pivot.leaving, scaled)?)
+    let mut merged = merge(alloc, &rest, c, &pivot.others, true)?;
+    put_new(&mut merged, pivot.leaving, scaled)?;
+    Ok(merged)
 }
 
 /// Adds the new row of a number to the changes, if the exchange changes it and it is not that of the leaving variable.

@@ -1,10 +1,10 @@
 //! Sums of ordered lists of entries.
 
-ghost use Rattle.std.specs.Prelude.{◌≡◌, ◌==◌, ◌++◌, ◌∷◌, [], ℕ, false, Err, OnOk, IfOk, IfErr};
+ghost use Rattle.std.specs.Prelude.{◌≡◌, ◌==◌, ◌≤◌, ◌++◌, ◌∷◌, [], ℕ, false, Err, length, take, drop, OnOk, IfOk, IfErr};
 ghost use Rattle.ratio128.specs.Meant.{fraction, overflow};
 ghost use Rattle.spec_tableaux.specs.Rows as definitions;
 ghost use Rattle.spec_tableaux.specs.SolvedForms.{IsTidy, AllVariables};
-ghost use Rattle.spec_tableaux.specs.Numbers.{numbers};
+ghost use Rattle.spec_tableaux.specs.Numbers.{Number, numbers};
 ghost use Rattle.tableau.specs.Numbers.{number_of};
 ghost use Rattle.tableau.specs.Entries.{entry_of, entries_of};
 ghost use Rattle.tableau.specs.Sums.{turned, operation, combined, Merges, Shrinks, IsLeft, OverflowsCombined, OverflowsPut};
@@ -105,7 +105,8 @@ pub(crate) fn merge(
         (entries_of gs.now))) }
 {
     let mut out = Vec::new(alloc);
-    out.reserve(es.len().saturating_add(gs.len()))?;
+    // One more is put in by a pivot.
+    out.reserve(es.len().saturating_add(gs.len()).saturating_add(1))?;
     let mut left = es;
     let mut taken = gs;
     while let Some((g, later)) = taken.split_first() {
@@ -166,28 +167,42 @@ pub(crate) fn put(alloc: Global, entries: &[Entry], x: u64, c: Ratio) -> Result<
     Ok(out)
 }
 
-/// Gives the entries with one of the variable x, of which they have none.
-pub(crate) fn put_new(
-    alloc: Global,
-    entries: &[Entry],
-    x: u64,
-    c: Ratio,
-) -> Result<Vec<Entry>, NoMemory>
+/// Counts the entries of variables below x, where there is none of x.
+#[tactic(auto, using(crate::proofs::Putting::puts_between, crate::proofs::Putting::puts_last))]
+fn place_of(entries: &[Entry], x: u64) -> usize
     requires { AllVariables (λ y. (y == x) ≡ false) (entries_of entries.now) }
-    ensures { IfOk result (λ v. entries_of v.items ≡ definitions.put numbers x (number_of c) (entries_of entries.now)) }
+    ensures low { result ≤ length entries.now }
+    ensures place { (c : Number) → definitions.put numbers x c (entries_of entries.now)
+        ≡ entries_of (take result entries.now)
+        ++ definitions.with_entry numbers x c (entries_of (drop result entries.now)) }
 {
-    let mut out = Vec::new(alloc);
-    out.reserve(entries.len().saturating_add(1))?;
     let mut rest = entries;
     while let Some((e, more)) = rest.split_first() {
         if x < e.variable {
-            append(&mut out, x, c)?;
-            out.extend_from_slice(rest)?;
-            return Ok(out);
+            return entries.len() - rest.len();
         }
-        out.push(*e)?;
         rest = more;
     }
-    append(&mut out, x, c)?;
-    Ok(out)
+    entries.len()
+}
+
+/// Puts an entry of the variable x, of which there is none, to the others. Where there is room, nothing is copied.
+///
+/// `NoMemory` comes where there is no room and no memory.
+#[tactic(auto, using(crate::proofs::Putting::put_there))]
+pub(crate) fn put_new(entries: &mut Vec<Entry>, x: u64, c: Ratio) -> Result<(), NoMemory>
+    requires { AllVariables (λ y. (y == x) ≡ false) (entries_of entries.old.items) }
+    ensures { OnOk result (entries_of entries.new.items
+        ≡ definitions.put numbers x (number_of c) (entries_of entries.old.items)) }
+{
+    let place = place_of(entries, x);
+    if is_zero(c) {
+        return Ok(());
+    }
+    let entry = Entry {
+        variable: x,
+        coefficient: c,
+    };
+    entries.insert(place, entry)?;
+    Ok(())
 }

@@ -7,4 +7,4 @@ use Rattle.tableau.proofs.Loops.{negated_new}
 use Rattle.tableau.proofs.pivots.pivot_row.Goals as goal
 
 pub put_new-requires : goal.put_new-requires
-put_new-requires c = negated_new (pivot_meant c.args.pivot.now) (entries_of c.deref-2.result.now) c.requires (ap entries_of c.deref-2.ensures.value ∙ c.in_ok-others.ensures ∙ ap (λ es. negated numbers (entries_of es)) c.deref.ensures.value)
+put_new-requires c = negated_new (pivot_meant c.args.pivot.now) (entries_of c.in_ok-entries.entries.items) c.requires (c.in_ok-entries.ensures ∙ ap (λ es. negated numbers (entries_of es)) c.deref.ensures.value)

@@ -23,9 +23,9 @@ returns-in_err-merged-clause-wide c =
     c.from_residual-in_err-merged.ensures.1 c.in_err-merged.ensures.wide
 
 pub put_new-requires : goal.put_new-requires
-put_new-requires c = merged_new (pivot_meant c.args.pivot.now) (entries_of c.args.entries.now) (entries_of c.in_ok-rest.rest.items) (entries_of c.deref-3.result.now) (number_of c.args.c)
-    c.requires.ready c.requires.tidy c.requires.new c.in_ok-rest.ensures (ap entries_of c.deref-3.ensures.value ∙ (c.in_ok-merged.ensures.ok ∙ (λ i. combined true (entries_of (c.deref.ensures.value i)) (number_of c.args.c) (entries_of (c.deref-2.ensures.value i)))))
+put_new-requires c = merged_new (pivot_meant c.args.pivot.now) (entries_of c.args.entries.now) (entries_of c.in_ok-rest.rest.items) (entries_of c.in_ok-merged.merged.items) (number_of c.args.c)
+    c.requires.ready c.requires.tidy c.requires.new c.in_ok-rest.ensures (c.in_ok-merged.ensures.ok ∙ (λ i. combined true (entries_of (c.deref.ensures.value i)) (number_of c.args.c) (entries_of (c.deref-2.ensures.value i))))
 
 pub returns-clause-ok : goal.returns-clause-ok
-returns-clause-ok c = substituted_made (pivot_meant c.args.pivot.now) (entries_of c.args.entries.now) (entries_of c.in_ok-rest.rest.items) (entries_of c.deref-3.result.now) (entries_of c.in_ok-put_new.field-0.items) (number_of c.args.c) (number_of c.in_ok-scaled.scaled)
-    c.requires.there c.in_ok-scaled.ensures.ok c.in_ok-rest.ensures (ap entries_of c.deref-3.ensures.value ∙ (c.in_ok-merged.ensures.ok ∙ (λ i. combined true (entries_of (c.deref.ensures.value i)) (number_of c.args.c) (entries_of (c.deref-2.ensures.value i))))) c.in_ok-put_new.ensures
+returns-clause-ok c = substituted_made (pivot_meant c.args.pivot.now) (entries_of c.args.entries.now) (entries_of c.in_ok-rest.rest.items) (entries_of c.in_ok-merged.merged.items) (entries_of c.put_new.new.entries.items) (number_of c.args.c) (number_of c.in_ok-scaled.scaled)
+    c.requires.there c.in_ok-scaled.ensures.ok c.in_ok-rest.ensures (c.in_ok-merged.ensures.ok ∙ (λ i. combined true (entries_of (c.deref.ensures.value i)) (number_of c.args.c) (entries_of (c.deref-2.ensures.value i)))) c.in_ok-put_new.ensures
