@@ -1,2 +1,2 @@
--- A theory that is asked of two literals.
-mod Asked
+-- Reasons of two literals.
+mod Reasons

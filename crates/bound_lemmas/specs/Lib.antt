@@ -1,4 +1,4 @@
--- When a theory may be asked of two literals.
-pub mod Excluding
+-- Literals of atoms.
+pub mod Literals
 -- What pairs of literals are of atoms.
 pub mod Pairs

@@ -20,12 +20,14 @@ pub(crate) struct Cut {
     pub(crate) place: Ratio,
     /// Whether that value itself is below the cut.
     pub(crate) after: bool,
+    /// The size of the number by which the form of the order is the sum's: that of its first coefficient.
+    pub(crate) size: Ratio,
     /// The literal of the order that says that the sum is below the cut.
     pub(crate) below: Lit,
 }
 
 /// Gives the quotient of two numbers; nothing where the second is 0 or the quotient leaves 128 bits.
-fn quotient(a: Ratio, d: Ratio) -> Option<Ratio> {
+pub(crate) fn quotient(a: Ratio, d: Ratio) -> Option<Ratio> {
     if d.is_zero() {
         return None;
     }
@@ -76,10 +78,12 @@ fn cut_by(
     };
     let is_below = lead.num() > 0;
     let is_strict = sides.kind == Comparison::Less;
+    let size = if is_below { lead } else { lead.neg() };
     Ok(Some(Cut {
         sum: sums.number(sum)?,
         place,
         after: is_strict != is_below,
+        size,
         below: Lit {
             term: sides.atom,
             positive: is_below,

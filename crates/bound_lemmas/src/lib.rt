@@ -5,10 +5,12 @@
 //! propagation).
 #![tactic(auto)]
 
-mod asking;
 mod cuts;
 mod neighbours;
+mod pair;
+mod stating;
 mod sums;
 
-pub use asking::excluding;
 pub use neighbours::neighbours_of;
+pub use pair::BoundPair;
+pub use stating::excluding;

@@ -4,7 +4,8 @@ ghost use Rattle.std.specs.Prelude.{◌≡◌, ◌≢◌, IfOk, IfSome, All};
 ghost use Rattle.term_core.specs.Tables.{AreIn};
 ghost use Rattle.bound_lemmas.specs.Pairs.{IsPairOf, IsCutOf};
 
-use crate::cuts::{Cut, cut_of};
+use crate::cuts::{Cut, cut_of, quotient};
+use crate::pair::BoundPair;
 use crate::sums::SumNumbers;
 use no_memory::NoMemory;
 use std::alloc::Global;
@@ -26,22 +27,30 @@ fn cuts_of(alloc: Global, table: &TermTable, atoms: &[TermId]) -> Result<Vec<Cut
 }
 
 /// Gives a literal that says that a sum is below a cut, and one that says that it is not below the next; nothing where these are cuts
-/// of two sums, or of one atom.
-fn pair_of(cut: Cut, next: Cut) -> Option<(Lit, Lit)>
-    ensures { IfSome result (λ p. (p.0.term ≡ cut.below.term) × (p.1.term ≡ next.below.term) × (p.0.term ≢ p.1.term)) }
+/// of two sums, or of one atom, and where the weight leaves 128 bits.
+fn pair_of(cut: Cut, next: Cut) -> Option<BoundPair>
+    ensures { IfSome result (λ p. (p.first.term ≡ cut.below.term) × (p.second.term ≡ next.below.term)
+        × (p.first.term ≢ p.second.term)) }
 {
     if cut.sum != next.sum || cut.below.term == next.below.term {
         return None;
     }
-    let above = Lit {
+    let Some(weight) = quotient(cut.size, next.size) else {
+        return None;
+    };
+    let second = Lit {
         term: next.below.term,
         positive: !next.below.positive,
     };
-    Some((cut.below, above))
+    Some(BoundPair {
+        first: cut.below,
+        second,
+        weight,
+    })
 }
 
 /// Lists the pairs of neighbours among cuts in order.
-fn pairs_of(alloc: Global, atoms: &[TermId], cuts: &[Cut]) -> Result<Vec<(Lit, Lit)>, NoMemory>
+fn pairs_of(alloc: Global, atoms: &[TermId], cuts: &[Cut]) -> Result<Vec<BoundPair>, NoMemory>
     requires { All (IsCutOf atoms.now) cuts.now }
     ensures { IfOk result (λ pairs. All (IsPairOf atoms.now) pairs.items) }
 {
@@ -57,14 +66,14 @@ fn pairs_of(alloc: Global, atoms: &[TermId], cuts: &[Cut]) -> Result<Vec<(Lit, L
 /// Lists pairs of literals that cannot both hold, where atoms cut the same sum in places that follow one another: for each such pair of
 /// atoms, that the sum is below the first cut and that it is not below the second.
 ///
-/// That these cannot both hold is seen from their forms and not proved: a theory decides. At most one pair comes for each atom, in the order
-/// of sums as they come first and then of places. An atom is passed over whose form leaves 128 bits. `NoMemory` comes where there is no
-/// memory for the cuts or the pairs.
+/// That these cannot both hold is seen from their forms and not proved: the rule `la_generic` decides. At most one pair comes for each
+/// atom, in the order of sums as they come first and then of places. An atom is passed over whose form leaves 128 bits, and a pair whose
+/// weight does. `NoMemory` comes where there is no memory for the cuts or the pairs.
 pub fn neighbours_of(
     alloc: Global,
     table: &TermTable,
     atoms: &[TermId],
-) -> Result<Vec<(Lit, Lit)>, NoMemory>
+) -> Result<Vec<BoundPair>, NoMemory>
     requires { AreIn table.now atoms.now }
     ensures { IfOk result (λ pairs. All (IsPairOf atoms.now) pairs.items) }
 {

@@ -89,9 +89,14 @@ fn stated(
     }
 }
 
-/// Logs that not all of some literals hold, where the rule takes that clause with their weights. On a fault table and
-/// log are as they were.
-pub(crate) fn refute(
+/// Logs that not all of some literals hold, where the rule `la_generic` takes that clause with their weights, and gives the number of
+/// the step, whose clause is false where they hold.
+///
+/// The step is as that of `explain`. That the literals cannot all hold need not be known: the rule decides. `NoContradiction` comes where
+/// it does not take the clause, `Shape` where a literal is one by which the rule does not sum, and `Wide` with its first operation that
+/// leaves the bound on numbers. `Memory` comes where a term, a form or the step finds no memory. After each, table and log are as they
+/// were. Time and memory go in proportion to the forms.
+pub fn refute(
     alloc: Global,
     table: &mut TermTable,
     log: &mut ProofLog,

@@ -1,8 +1,8 @@
 -- A pair that comes is of the atoms of two neighbours.
 use Rattle.std.proofs.Common.{◌∙◌, ◌-◌, List, All, Contains, ap, subst, sym, arith}
 use Rattle.std.proofs.lemmas.List.Elements.{All-contains, All-push}
-use Rattle.term_core.specs.declared.ids.Lit.{Lit}
 use Rattle.bound_lemmas.specs.declared.cuts.Cut.{Cut}
+use Rattle.bound_lemmas.specs.declared.pair.BoundPair.{BoundPair}
 use Rattle.bound_lemmas.specs.Pairs.{IsPairOf, IsCutOf}
 use Rattle.bound_lemmas.proofs.neighbours.pairs_of.Goals as goal
 use Rattle.bound_lemmas.proofs.neighbours.pairs_of.Goals.{in-Some+in_ok-push, in_default}
@@ -12,7 +12,7 @@ places-preserved c =
     let atoms = c.args.atoms.now in
     let cuts = c.args.cuts.now in
     let is_cut : Cut → Type 0 = IsCutOf atoms in
-    let is_pair : Lit × Lit → Type 0 = IsPairOf atoms in
+    let is_pair : BoundPair → Type 0 = IsPairOf atoms in
     elim c.match-pair_of.branch [
       | in-Some+in_ok-push w ↦
           subst (All is_pair) (sym (ap (λ v. v.items) w.pairs-is ∙ w.in_ok-push.ensures.items)) (All-push is_pair c.places.pairs.items w.in-Some.pair c.places.invariant
@@ -23,5 +23,5 @@ places-preserved c =
                 (All-contains is_cut cuts c.index-cuts-at-in-places.result c.requires (c.places.at, omega (arith, c.places-test.true), sym c.index-cuts-at-in-places.is));
             different = w.in-Some.ensures.2;
           }))
-      | in_default w ↦ subst (λ (pairs : List (Lit × Lit)). All is_pair pairs) (sym (ap (λ v. v.items) w.pairs-is)) c.places.invariant
+      | in_default w ↦ subst (λ (pairs : List BoundPair). All is_pair pairs) (sym (ap (λ v. v.items) w.pairs-is)) c.places.invariant
     ]

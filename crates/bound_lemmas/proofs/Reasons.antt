@@ -1,0 +1,38 @@
+-- Reasons of two literals, and a table and a log that stay as they are.
+use Rattle.std.proofs.Common.{◌≡◌, [], ◌∷◌, List, Contains, refl, sym, subst, arith}
+use Rattle.std.proofs.lemmas.List.{append-nil}
+use Rattle.std.proofs.lemmas.List.Elements.{All-nil, All-cons}
+use Rattle.spec_sorts.specs.Terms.{Term}
+use Rattle.spec_derivations.specs.Lemmas.{IsLemma}
+use Rattle.term_core.specs.Tables.{TableView}
+use Rattle.term_core.proofs.TermsExtend.{Extends-self}
+use Rattle.proof_log.specs.Logs.{Logged, IsLogOf, inference_of}
+use Rattle.proof_log.specs.Theories.{Derived, DerivesLemmas}
+use Rattle.simplex_explain.specs.declared.weighted.Weighted.{Weighted}
+use Rattle.simplex_explain.specs.Reasons.{AreAtomReasons, AreHeld}
+use Rattle.bound_lemmas.specs.Literals.{IsAtomOf}
+
+module _ (a b : Weighted) where
+  -- they are of atoms
+  pub both_of_atoms : (ts : List Term) (t : TableView) → IsAtomOf ts t a.literal → IsAtomOf ts t b.literal → AreAtomReasons ts t (a ∷ b ∷ [])
+  both_of_atoms ts t one other =
+      let P : Weighted → Type 0 = λ r. IsAtomOf ts t r.literal in
+      All-cons P a (b ∷ []) one (All-cons P b [] other (All-nil P))
+
+  -- and they hold where these two literals do
+  pub both_held : AreHeld (a.literal ∷ b.literal ∷ []) (a ∷ b ∷ [])
+  both_held =
+      let P : Weighted → Type 0 = λ r. Contains (a.literal ∷ b.literal ∷ []) r.literal in
+      All-cons P a (b ∷ []) (0, omega arith, refl) (All-cons P b [] (1, omega arith, refl) (All-nil P))
+
+-- where nothing came, only lemmas did, namely none
+pub nothing_came : (ts : List Term) (old new : Derived) → IsLogOf old.table old.log → new.table ≡ old.table → new.log ≡ old.log → DerivesLemmas ts old new
+nothing_came ts old new right e f =
+    subst (λ (x : Derived). DerivesLemmas ts old x) (λ i. record { table = sym e i; log = sym f i }) (record {
+      table = Extends-self old.table;
+      declared = refl;
+      more = [];
+      log = sym (append-nil old.log);
+      right = right;
+      lemmas = All-nil (λ (l : Logged). IsLemma ts _ (inference_of old.table l));
+    })

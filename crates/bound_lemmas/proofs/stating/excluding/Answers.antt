@@ -1,0 +1,25 @@
+-- The two literals are the reasons, and where there is no step nothing came.
+use Rattle.std.proofs.Common.{[], ◌∷◌}
+use Rattle.bound_lemmas.proofs.Reasons.{both_of_atoms, both_held, nothing_came}
+use Rattle.bound_lemmas.proofs.stating.excluding.Goals as goal
+
+pub refute-requires : goal.refute-requires
+refute-requires g c = (c.requires.0, both_of_atoms _ _ g.terms c.args.table.now c.requires.1.0 c.requires.1.1)
+
+pub returns-in-Ok-clause-clash : goal.returns-in-Ok-clause-clash
+returns-in-Ok-clause-clash g c = c.in-Ok.ensures.clash (c.args.pair.first ∷ c.args.pair.second ∷ []) (both_held _ _)
+
+pub returns-in-Err-Wide-clause-derives : goal.returns-in-Err-Wide-clause-derives
+returns-in-Err-Wide-clause-derives g c =
+    nothing_came g.terms (record { table = c.args.table.now; log = c.args.log.now }) (record { table = c.refute.new.table; log = c.refute.new.log })
+    c.requires.0 c.in-Err-Wide.ensures.same.0 c.in-Err-Wide.ensures.same.1
+
+pub returns-in-Err-Shape-clause-derives : goal.returns-in-Err-Shape-clause-derives
+returns-in-Err-Shape-clause-derives g c =
+    nothing_came g.terms (record { table = c.args.table.now; log = c.args.log.now }) (record { table = c.refute.new.table; log = c.refute.new.log })
+    c.requires.0 c.in-Err-Shape.ensures.same.0 c.in-Err-Shape.ensures.same.1
+
+pub returns-in-Err-NoContradiction-clause-derives : goal.returns-in-Err-NoContradiction-clause-derives
+returns-in-Err-NoContradiction-clause-derives g c =
+    nothing_came g.terms (record { table = c.args.table.now; log = c.args.log.now }) (record { table = c.refute.new.table; log = c.refute.new.log })
+    c.requires.0 c.in-Err-NoContradiction.ensures.same.0 c.in-Err-NoContradiction.ensures.same.1

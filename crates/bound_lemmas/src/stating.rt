@@ -1,0 +1,57 @@
+//! The step of the clause that two literals do not both hold, where the rule `la_generic` takes it.
+
+ghost use Rattle.std.specs.Prelude.{◌≡◌, [], ◌∷◌, List, IfOk, IfSome, MatchResult};
+ghost use Rattle.spec_sorts.specs.Terms.{Term};
+ghost use Rattle.proof_log.specs.Logs.{IsLogOf};
+ghost use Rattle.proof_log.specs.Theories.{DerivesLemmas};
+ghost use Rattle.proof_log.specs.Clashes.{IsClash};
+ghost use Rattle.bound_lemmas.specs.Literals.{IsAtomOf};
+
+use crate::pair::BoundPair;
+use no_memory::NoMemory;
+use proof_log::{ProofLog, StepId};
+use ratio128::Ratio;
+use simplex_explain::{ArithFault, Weighted, refute};
+use std::alloc::Global;
+use term_core::TermTable;
+
+/// Logs that the literals of a pair do not both hold, where the rule `la_generic` takes that clause with the weights 1 and the pair's,
+/// and gives the number of the step: each literal of its clause is false under the two.
+///
+/// Terms and steps that come are lemmas. Nothing is given where the rule does not take the clause, and where a number leaves 128 bits;
+/// then nothing came. `NoMemory` comes where memory ran out; then table and log are as they were.
+pub fn excluding(
+    alloc: Global,
+    table: &mut TermTable,
+    log: &mut ProofLog,
+    pair: BoundPair,
+) -> Result<Option<StepId>, NoMemory>
+    ghost terms: { List Term }
+    requires log { IsLogOf table.old log.old }
+    requires first { IsAtomOf terms table.old pair.first }
+    requires second { IsAtomOf terms table.old pair.second }
+    ensures derives { MatchResult result
+        (λ _. DerivesLemmas terms (record { table = table.old; log = log.old })
+        (record { table = table.new; log = log.new }))
+        (λ _. (table.new ≡ table.old) × (log.new ≡ log.old)) }
+    ensures clash { IfOk result (λ found. IfSome found
+        (IsClash table.new log.new (pair.first ∷ pair.second ∷ []))) }
+{
+    let reasons = [
+        Weighted {
+            literal: pair.first,
+            weight: Ratio::of(1, 1),
+        },
+        Weighted {
+            literal: pair.second,
+            weight: pair.weight,
+        },
+    ];
+    match refute(alloc, table, log, &reasons) {
+        Ok(step) => Ok(Some(step)),
+        Err(ArithFault::Memory) => Err(NoMemory),
+        Err(ArithFault::Wide(_)) => Ok(None),
+        Err(ArithFault::Shape) => Ok(None),
+        Err(ArithFault::NoContradiction) => Ok(None),
+    }
+}
