@@ -64,6 +64,7 @@ pub put_grown : (old mid new : List (List ℕ)) (k n : ℕ) → HasGrown old mid
 put_grown old mid new k n h lt e = record {
   list = ap (λ xs. get_or xs k []) e ∙ get_or-set_same mid k (get_or mid k [] ++ n ∷ []) [] lt ∙ ap (λ xs. xs ++ n ∷ []) (grown_same old mid h k);
   others = λ j o. ap (λ xs. get_or xs j []) e ∙ get_or-set_other mid k j (get_or mid k [] ++ n ∷ []) [] o ∙ grown_same old mid h j;
+  longer = omega (arith, ap length e, length-set mid k (get_or mid k [] ++ n ∷ []), ap length h.is, length-append old (replicate h.more []));
 }
 
 -- they are cut off again

@@ -1,6 +1,6 @@
 -- Lists of numbers by literals, and what the calls do to them.
-use Rattle.std.specs.Prelude.{◌≡◌, ◌≢◌, ◌+◌, ◌*◌, ◌<◌, nat_lt, ℕ, Bool, true, false, List, [], ◌∷◌, ◌++◌, length}
-use Rattle.std.specs.Prelude.{replicate, get_or}
+use Rattle.std.specs.Prelude.{◌≡◌, ◌≢◌, ◌+◌, ◌*◌, ◌<◌, ◌≤◌, nat_lt, ℕ, Bool, true, false, List, [], ◌∷◌, ◌++◌, length}
+use Rattle.std.specs.Prelude.{replicate, set, get_or}
 use Rattle.std.specs.List.{swap_remove, filter}
 use Rattle.term_core.specs.declared.ids.Lit.{Lit}
 
@@ -30,6 +30,8 @@ pub record IsAppended (old : List (List ℕ)) (place number : ℕ) (new : List (
   pub list : get_or new place [] ≡ get_or old place [] ++ number ∷ []
   -- the others
   pub others : (k : ℕ) → k ≢ place → get_or new k [] ≡ get_or old k []
+  -- there are no fewer lists
+  pub longer : length old ≤ length new
 
 -- An entry of the list of a place is taken out, and the last one is in its stead; the other lists are as they were.
 pub record IsTakenOut (old : List (List ℕ)) (place at : ℕ) (new : List (List ℕ)) : Type 0 where
@@ -56,6 +58,15 @@ pub record IsMovedOf (old : List (List ℕ)) (from : Lit) (number : ℕ) (to : L
   pub is : get_or (list_of old from) at 0 ≡ number
   -- the entry was moved
   pub moved : IsMoved old from at to new
+
+-- The list of a literal was taken, and is empty.
+pub record IsListTaken (old : List (List ℕ)) (l : Lit) (list : List ℕ) (new : List (List ℕ)) : Type 0 where
+  -- there is one
+  pub there : code l < length old
+  -- it was this
+  pub list_is : list ≡ list_of old l
+  -- it is empty
+  pub empty : new ≡ set old (code l) []
 
 -- the numbers numbers_below one
 abbrev pub numbers_below : ℕ → List ℕ → List ℕ

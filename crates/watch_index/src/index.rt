@@ -1,9 +1,9 @@
 //! Numbers by literals.
 
-ghost use Rattle.std.specs.Prelude.{◌≡◌, ◌<◌, [], OnOk, OnErr, MatchOption, length, map, get_or, Contains};
-ghost use Rattle.watch_index.specs.Indexes.{code, list_of, numbers_below, IsAppended, IsTakenOut, IsMoved, IsMovedOf};
+ghost use Rattle.std.specs.Prelude.{◌≡◌, ◌<◌, [], OnOk, OnErr, MatchOption, length, map, set, get_or, Contains};
+ghost use Rattle.watch_index.specs.Indexes.{code, list_of, numbers_below, IsAppended, IsTakenOut, IsMoved, IsMovedOf, IsListTaken};
 
-use crate::lists::{code_of, drop_all_from, place_of, put_at, take_out};
+use crate::lists::{code_of, drop_all_from, exchange, place_of, put_at, take_out};
 use no_memory::NoMemory;
 use std::alloc::Global;
 use std::marker::Model;
@@ -129,6 +129,33 @@ impl WatchIndex {
         match last_of(self.list(from), clause) {
             Some(at) => self.move_at(from, at, to),
             None => Ok(()),
+        }
+    }
+
+    /// Takes the list of a literal, if it has one; that is empty then, until `give_list` puts one there. It takes no memory.
+    pub fn take_list(&mut self, lit: Lit) -> Option<Vec<u64>>
+        ensures { MatchOption result ((self.new ≡ self.old) × (list_of self.old lit ≡ []))
+            (λ v. IsListTaken self.old lit v.items self.new) }
+    {
+        match place_of(&self.all, lit) {
+            Some(place) => {
+                let empty = Vec::new(self.alloc);
+                Some(exchange(&mut self.all, place, empty))
+            }
+            None => None,
+        }
+    }
+
+    /// Puts a list in the place of a literal's, which was taken. It takes no memory.
+    pub fn give_list(&mut self, lit: Lit, list: Vec<u64>)
+        requires { code lit < length self.old }
+        ensures { self.new ≡ set self.old (code lit) list.items }
+    {
+        match place_of(&self.all, lit) {
+            Some(place) => {
+                exchange(&mut self.all, place, list);
+            }
+            None => {}
         }
     }
 

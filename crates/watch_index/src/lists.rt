@@ -6,6 +6,7 @@ ghost use Rattle.watch_index.specs.Indexes.{code, numbers_below, HasGrown, IsApp
 
 use no_memory::NoMemory;
 use std::alloc::Global;
+use std::mem;
 use term_core::Lit;
 
 /// Gives the place of a literal among the lists.
@@ -79,6 +80,15 @@ pub(crate) fn take_out(all: &mut Vec<Vec<u64>>, place: usize, at: usize)
     ensures { IsTakenOut (lists all.old.items) place at (lists all.new.items) }
 {
     all[place].swap_remove(at);
+}
+
+/// Takes the list of a place out, and puts another one there.
+pub(crate) fn exchange(all: &mut Vec<Vec<u64>>, place: usize, list: Vec<u64>) -> Vec<u64>
+    requires { place < length all.old.items }
+    ensures taken { result.items ≡ get_or (lists all.old.items) place [] }
+    ensures put { lists all.new.items ≡ set (lists all.old.items) place list.items }
+{
+    mem::replace(&mut all[place], list)
 }
 
 /// Keeps the numbers below one.
