@@ -1,12 +1,13 @@
 -- A clause is watched by another literal.
-use Rattle.std.proofs.Common.{◌≡◌, ◌≢◌, ℕ, ◌+◌, ◌<◌, ◌==◌, List, [], length, get_or, set, Contains, ◌⊎◌, inl, inr, refl, sym, ap, ◌∙◌, subst, arith}
+use Rattle.std.proofs.Common.{◌≡◌, ◌≢◌, ℕ, ◌+◌, ◌<◌, ◌==◌, List, [], ◌∷◌, ◌++◌, length, get_or, set, Contains, ◌⊎◌, inl, inr, refl, sym, ap, ◌∙◌, subst, arith}
+use Rattle.std.specs.List.{swap_remove}
 use Rattle.std.proofs.lemmas.Bool.{cases_eq}
 use Rattle.std.proofs.lemmas.List.{get_or_default, length-set, get_or-set_same, get_or-set_other}
 use Rattle.term_core.specs.declared.ids.Lit.{Lit}
 use Rattle.clause_literals.specs.Literals.{lit_complement}
 use Rattle.clause_literals.specs.Statuses.{IsFalsified}
 use Rattle.clause_literals.proofs.LiteralLists.{decide}
-use Rattle.watch_index.specs.Indexes.{code, one_if, list_of, IsMoved}
+use Rattle.watch_index.specs.Indexes.{code, one_if, list_of, IsAppended, IsMoved}
 use Rattle.clause_store.specs.declared.pair.Pair.{Pair}
 use Rattle.clause_store.specs.Stores.{no_pair, hits}
 use Rattle.clause_store.specs.Watching.{Has, IsPairOf, ArePairs, IsIndexed, IsQuietPair, Passes, IsExchanged, IsRepaired, AreFalseBut}
@@ -117,6 +118,39 @@ module _ (pairs : List Pair) (index : List (List ℕ)) (ix : IsIndexed pairs ind
   which q other e one two =
       let is : q ≡ get_or pairs n no_pair = e ∙ get_or_default pairs n q no_pair below in
       other_by f other (get_or pairs n no_pair) has_it (subst (λ (p : Pair). p.first ≡ f → other ≡ p.second) is one) (subst (λ (p : Pair). p.first ≢ f → other ≡ p.first) is two)
+
+-- the list of a literal was taken from the index
+module _ (index : List (List ℕ)) (f : Lit) (list : List ℕ) (there : code f < length index) where
+  pub list_with : list_of (set index (code f) list) f ≡ list
+  list_with = get_or-set_same index (code f) list [] there
+
+  pub place_with : (at : ℕ) → at < length list → at < length (list_of (set index (code f) list) f)
+  place_with at lt = subst (λ (xs : List ℕ). at < length xs) (sym list_with) lt
+
+  pub number_with : (n at : ℕ) → n ≡ get_or list at 0 → n ≡ get_or (list_of (set index (code f) list) f) at 0
+  number_with n at e = e ∙ ap (λ xs. get_or xs at 0) (sym list_with)
+
+  -- its entry goes to the end of another's
+  pub moved_with : (new : List (List ℕ)) (d : Lit) (n at : ℕ) → code f ≢ code d → get_or list at 0 ≡ n → IsAppended index (code d) n new → IsMoved (set index (code f) list) f at d (set new (code f) (swap_remove list at 0))
+  moved_with new d n at apart number m = record {
+    middle = set new (code f) list;
+    put = record {
+      list = get_or-set_other new (code f) (code d) list [] (λ e. apart (sym e)) ∙ m.list ∙ ap (λ xs. xs ++ n ∷ []) (sym (get_or-set_other index (code f) (code d) list [] (λ e. apart (sym e))))
+          ∙ ap (λ j. list_of (set index (code f) list) d ++ j ∷ []) (sym number ∙ ap (λ xs. get_or xs at 0) (sym list_with));
+      others = λ k o. elim (cases_eq k (code f)) [
+        | inl e ↦ ap (λ j. get_or (set new (code f) list) j []) e ∙ get_or-set_same new (code f) list [] still ∙ sym (ap (λ j. get_or (set index (code f) list) j []) e ∙ list_with)
+        | inr other ↦ get_or-set_other new (code f) k list [] other ∙ m.others k o ∙ sym (get_or-set_other index (code f) k list [] other)
+      ];
+      longer = omega (arith, m.longer, length-set index (code f) list, length-set new (code f) list);
+    };
+    taken = record {
+      list = get_or-set_same new (code f) (swap_remove list at 0) [] still ∙ ap (λ xs. swap_remove xs at 0) (sym (get_or-set_same new (code f) list [] still));
+      others = λ k o. get_or-set_other new (code f) k (swap_remove list at 0) [] o ∙ sym (get_or-set_other new (code f) k list [] o);
+    };
+  }
+    where
+      still : code f < length new
+      still = omega (arith, there, m.longer)
 
 -- the clause of a number gets another literal in the place of one
 module _ (clauses : List (List Lit)) (pairs : List Pair) (index new : List (List ℕ)) (n at : ℕ) (f other d : Lit)

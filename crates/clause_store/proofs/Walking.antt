@@ -2,18 +2,19 @@
 use Rattle.std.proofs.Common.{◌≡◌, ◌≢◌, ℕ, ◌+◌, ◌-◌, ◌<◌, ◌≤◌, List, [], ◌∷◌, ◌++◌, length, get_or, set, take, Contains, ◌⊎◌, inl, inr, sym, ap, ◌∙◌, subst, arith}
 use Rattle.std.specs.List.{swap_remove}
 use Rattle.std.proofs.lemmas.Bool.{cases_lt, cases_eq}
-use Rattle.std.proofs.lemmas.List.{get_or_default, get_or-take, get_or-set_same, get_or-set_other, take_more}
+use Rattle.std.proofs.lemmas.List.{get_or_default, get_or-take, get_or-set_same, get_or-set_other, length-set, set-set, set-get_or, take_more}
 use Rattle.std.proofs.lemmas.List.Elements.{Contains-push_cases}
 use Rattle.term_core.specs.declared.ids.Lit.{Lit}
 use Rattle.clause_literals.specs.Literals.{lit_complement}
 use Rattle.clause_literals.proofs.LiteralLists.{negation_twice}
 use Rattle.sat_trail.specs.Trails.{TrailView, no_lit}
-use Rattle.watch_index.specs.Indexes.{code, list_of}
+use Rattle.watch_index.specs.Indexes.{code, list_of, IsListTaken}
 use Rattle.clause_store.specs.declared.pair.Pair.{Pair}
 use Rattle.clause_store.specs.Stores.{StoreView, no_pair}
 use Rattle.clause_store.specs.Watching.{IsQuietPair, AreQuietPairs, Passes, HavePassed, HaveAllPassed, IsIndexed, IsExchanged, AreLiteralsAmong, PropagatesPart}
 use Rattle.clause_store.proofs.Adding.{holds_on, same_front}
 use Rattle.clause_store.proofs.Indexing.{lists, one_or_two}
+use Rattle.clause_store.proofs.Looking.{list_with, place_with}
 use Rattle.clause_store.proofs.QuietPairs.{quiet_on, front_within}
 
 passes_on : (held more : List Lit) (f : Lit) (p : Pair) → AreLiteralsAmong held more → Passes held f p → Passes more f p
@@ -53,6 +54,34 @@ passed_all pairs index at held f ix le h n lt d = record {
   where
     found : Contains (list_of index f) n → Passes held f (get_or pairs n no_pair)
     found (j, within, e) = subst (λ (k : ℕ). Passes held f (get_or pairs k no_pair)) (get_or_default (list_of index f) j 0 n within ∙ e) (h j (omega (arith, within, le)) within)
+
+-- ---- the list was taken from the index
+
+-- in whole it is as it was
+pub taken_with : (pairs : List Pair) (index new : List (List ℕ)) (f : Lit) (list : List ℕ) → IsListTaken index f list new → IsIndexed pairs index → IsIndexed pairs (set new (code f) list)
+taken_with pairs index new f list t ix = subst (IsIndexed pairs) (sym (ap (λ xs. set xs (code f) list) t.empty ∙ set-set index (code f) [] list ∙ ap (set index (code f)) t.list_is ∙ set-get_or index (code f) [])) ix
+
+pub taken_there : (index new : List (List ℕ)) (f : Lit) (list : List ℕ) → IsListTaken index f list new → code f < length new
+taken_there index new f list t = omega (arith, t.there, ap length t.empty, length-set index (code f) [])
+
+pub moved_by : (pairs new : List Pair) (index new_index : List (List ℕ)) (list new_list : List ℕ) (at n : ℕ) (held more : List Lit) (f : Lit) → AreLiteralsAmong held more → at < length list → code f < length index → code f < length new_index
+    → IsExchanged (record { number = n; place = at; literal = f }) pairs new (set index (code f) list) (set new_index (code f) new_list) → HavePassed pairs list at held f → HavePassed new new_list at more f
+moved_by pairs new index new_index list new_list at n held more f w lt there still m h =
+    subst (λ (xs : List ℕ). HavePassed new xs at more f) (list_with new_index f new_list still)
+    (passed_moved pairs new (set index (code f) list) (set new_index (code f) new_list) at n held more f w (place_with index f list there at lt) m
+    (subst (λ (xs : List ℕ). HavePassed pairs xs at held f) (sym (list_with index f list there)) h))
+
+pub same_list : (index new_index : List (List ℕ)) (list new_list : List ℕ) (f : Lit) → code f < length index → code f < length new_index → set new_index (code f) new_list ≡ set index (code f) list → new_list ≡ list
+same_list index new_index list new_list f there still e = sym (list_with new_index f new_list still) ∙ ap (λ xs. get_or xs (code f) []) e ∙ list_with index f list there
+
+pub all_by : (pairs : List Pair) (index : List (List ℕ)) (list : List ℕ) (at : ℕ) (held : List Lit) (f : Lit) → code f < length index → IsIndexed pairs (set index (code f) list) → length list ≤ at
+    → HavePassed pairs list at held f → HaveAllPassed pairs held f
+all_by pairs index list at held f there ix le h = passed_all pairs (set index (code f) list) at held f ix (omega (arith, le, ap length (list_with index f list there)))
+    (subst (λ (xs : List ℕ). HavePassed pairs xs at held f) (sym (list_with index f list there)) h)
+
+-- there is none
+pub none_by : (pairs : List Pair) (index : List (List ℕ)) (held : List Lit) (f : Lit) → IsIndexed pairs index → list_of index f ≡ [] → HaveAllPassed pairs held f
+none_by pairs index held f ix e = passed_all pairs index 0 held f ix (omega (arith, ap length e)) (passed_none pairs (list_of index f) held f)
 
 -- one literal of the trail is done
 pub quiet_by_one : (s : StoreView) (a b : List Pair) (u v : TrailView) (done : ℕ) (f : Lit) → done < length u.literals → f ≡ lit_complement (get_or u.literals done no_lit) → PropagatesPart s (length a) a b u v → HaveAllPassed b v.literals f

@@ -82,6 +82,32 @@ pub record IsWatched (w : Watched) : Type 0 where
   -- the lists are by the pairs
   pub index_by : IsIndexed w.pairs.items w.index
 
+-- Clauses, pairs and lists.
+pub record WatchedView : Type 0 where
+  -- the clauses
+  pub clauses : List (List Lit)
+  -- the pairs
+  pub pairs : List Pair
+  -- the lists
+  pub index : List (List ℕ)
+
+-- the same with the list of a literal that was taken from the index
+abbrev pub with_list : Watched → Lit → List ℕ → WatchedView
+with_list w l list = record {
+  clauses = clauses_of w.entries.items;
+  pairs = w.pairs.items;
+  index = set w.index (code l) list;
+}
+
+-- Clauses, pairs and lists fit together, with the list of a literal that was taken from the index.
+pub record IsWatchedWith (w : Watched) (l : Lit) (list : List ℕ) : Type 0 where
+  -- the literal has a list
+  pub there : code l < length w.index
+  -- the pairs are the clauses'
+  pub pairs_by : ArePairs (clauses_of w.entries.items) w.pairs.items
+  -- the lists are by the pairs
+  pub index_by : IsIndexed w.pairs.items (set w.index (code l) list)
+
 -- each literal's term is one of so many variables
 abbrev pub AreKnownIn : Watched → ℕ → Type 0
 AreKnownIn w vars = All (All (λ (l : Lit). l.term.0 < vars)) (clauses_of w.entries.items)
@@ -214,11 +240,11 @@ pub record IsExchanged (v : Visit) (old new : List Pair) (index new_index : List
   pub list : get_or new_index (code v.literal) [] ≡ swap_remove (get_or index (code v.literal) []) v.place 0
 
 -- what a look at a clause comes to
-abbrev pub VisitsClause : Visit → Watched → Watched → List Lit → WatchOutcome → Type 0
-VisitsClause v old new held steps.Stays = (new.pairs.items ≡ old.pairs.items) × (new.index ≡ old.index)
-    × Passes held v.literal (get_or old.pairs.items v.number no_pair)
-VisitsClause v old new held steps.Moved = IsExchanged v old.pairs.items new.pairs.items old.index new.index
-VisitsClause v old new held steps.Clash = IsFalseOf (clauses_of old.entries.items) held v.number
+abbrev pub VisitsClause : Visit → WatchedView → WatchedView → List Lit → WatchOutcome → Type 0
+VisitsClause v old new held steps.Stays = (new.pairs ≡ old.pairs) × (new.index ≡ old.index)
+    × Passes held v.literal (get_or old.pairs v.number no_pair)
+VisitsClause v old new held steps.Moved = IsExchanged v old.pairs new.pairs old.index new.index
+VisitsClause v old new held steps.Clash = IsFalseOf old.clauses held v.number
 
 -- One clause alone may have got another pair.
 pub record IsRepaired (n : ℕ) (old new : List Pair) : Type 0 where

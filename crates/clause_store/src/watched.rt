@@ -2,9 +2,8 @@
 
 ghost use Rattle.std.specs.Prelude.{◌≡◌, ◌≢◌, ◌+◌, ◌<◌, Contains, OnOk, OnErr, IfOk, MatchOption, get_or, length};
 ghost use Rattle.clause_literals.specs.Literals.{lit_complement};
-ghost use Rattle.watch_index.specs.Indexes.{list_of};
 ghost use Rattle.clause_store.specs.Entries.{clauses_of, bare};
-ghost use Rattle.clause_store.specs.Watching.{IsWatched, AreKnownIn, IsPairOf, HaveSameLists, IsEntered, IsEnteredIfTwo, IsOneMore, IsAsBefore, HaveAllPassed, IsFalseOf, PropagatesPart, VisitsClause};
+ghost use Rattle.clause_store.specs.Watching.{IsWatched, IsWatchedWith, with_list, AreKnownIn, IsPairOf, HaveSameLists, IsEntered, IsEnteredIfTwo, IsOneMore, IsAsBefore, HaveAllPassed, IsFalseOf, PropagatesPart, VisitsClause};
 
 use crate::entry::StoredClause;
 use crate::literals::{is_false, is_true, next_open};
@@ -107,25 +106,26 @@ fn enter_two(index: &mut WatchIndex, pair: Pair, n: u64) -> Result<(), NoMemory>
 }
 
 impl Watched {
-    /// Looks at the clause of a place of the list of a literal that came to be false.
+    /// Looks at the clause of a place of the list of a literal that came to be false; the list was taken from the index.
     fn take_up(
         &mut self,
         n: usize,
+        list: &mut Vec<u64>,
         at: usize,
         f: Lit,
         trail: &mut SatTrail,
     ) -> Result<WatchOutcome, NoMemory>
-        requires watched { IsWatched self.old }
+        requires watched { IsWatchedWith self.old f list.old.items }
         requires known { AreKnownIn self.old trail.old.vars }
         requires fails { Contains trail.old.literals (lit_complement f) }
-        requires place { at < length (list_of self.old.index f) }
-        requires number { n ≡ get_or (list_of self.old.index f) at 0 }
-        ensures watched { IsWatched self.new }
+        requires place { at < length list.old.items }
+        requires number { n ≡ get_or list.old.items at 0 }
+        ensures watched { IsWatchedWith self.new f list.new.items }
         ensures entries { self.new.entries.items ≡ self.old.entries.items }
         ensures goes { PropagatesPart (bare self.old.entries.items) (length self.old.pairs.items) self.old.pairs.items
             self.new.pairs.items trail.old trail.new }
-        ensures looks { IfOk result (VisitsClause (record { number = n; place = at; literal = f }) self.old self.new
-            trail.new.literals) }
+        ensures looks { IfOk result (VisitsClause (record { number = n; place = at; literal = f })
+            (with_list self.old f list.old.items) (with_list self.new f list.new.items) trail.new.literals) }
     {
         trail.is_sound();
         let other = other_of(self.pairs[n], f);
@@ -133,8 +133,9 @@ impl Watched {
             return Ok(WatchOutcome::Stays);
         }
         match next_open(&self.entries[n].literals, &mut self.starts, n, other, trail) {
-            Some(d) => match self.index.move_at(f, at, d) {
+            Some(d) => match self.index.add(d, n as u64) {
                 Ok(()) => {
+                    list.swap_remove(at);
                     self.pairs[n] = Pair {
                         first: other,
                         second: d,
@@ -153,7 +154,38 @@ impl Watched {
         }
     }
 
+    /// Goes through the list of a literal that came to be false, taken from the index, and gives the number of a clause that is false.
+    fn walk_list(
+        &mut self,
+        list: &mut Vec<u64>,
+        f: Lit,
+        trail: &mut SatTrail,
+    ) -> Result<Option<usize>, NoMemory>
+        requires watched { IsWatchedWith self.old f list.old.items }
+        requires known { AreKnownIn self.old trail.old.vars }
+        requires fails { Contains trail.old.literals (lit_complement f) }
+        ensures watched { IsWatchedWith self.new f list.new.items }
+        ensures entries { self.new.entries.items ≡ self.old.entries.items }
+        ensures goes { PropagatesPart (bare self.old.entries.items) (length self.old.pairs.items) self.old.pairs.items
+            self.new.pairs.items trail.old trail.new }
+        ensures ends { IfOk result (λ o. MatchOption o (HaveAllPassed self.new.pairs.items trail.new.literals f)
+            (IsFalseOf (clauses_of self.old.entries.items) trail.new.literals)) }
+    {
+        let mut at = 0;
+        'places: while at < list.len() {
+            let n = list[at] as usize;
+            match self.take_up(n, list, at, f, trail)? {
+                WatchOutcome::Clash => return Ok(Some(n)),
+                WatchOutcome::Moved => {}
+                WatchOutcome::Stays => at += 1,
+            }
+        }
+        Ok(None)
+    }
+
     /// Goes through the list of a literal that came to be false, and gives the number of a clause that is false.
+    ///
+    /// The list is out of the index meanwhile, so that a step of the walk does not look for it there.
     pub(crate) fn walk(&mut self, f: Lit, trail: &mut SatTrail) -> Result<Option<usize>, NoMemory>
         requires watched { IsWatched self.old }
         requires known { AreKnownIn self.old trail.old.vars }
@@ -165,16 +197,15 @@ impl Watched {
         ensures ends { IfOk result (λ o. MatchOption o (HaveAllPassed self.new.pairs.items trail.new.literals f)
             (IsFalseOf (clauses_of self.old.entries.items) trail.new.literals)) }
     {
-        let mut at = 0;
-        'places: while at < self.index.list(f).len() {
-            let n = self.index.list(f)[at] as usize;
-            match self.take_up(n, at, f, trail)? {
-                WatchOutcome::Clash => return Ok(Some(n)),
-                WatchOutcome::Moved => {}
-                WatchOutcome::Stays => at += 1,
+        match self.index.take_list(f) {
+            Some(list) => {
+                let mut list = list;
+                let found = self.walk_list(&mut list, f, trail);
+                self.index.give_list(f, list);
+                found
             }
+            None => Ok(None),
         }
-        Ok(None)
     }
 
     /// Puts a clause last, watched by its first two different literals, if it has two.

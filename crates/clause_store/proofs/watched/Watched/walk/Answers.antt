@@ -1,69 +1,28 @@
--- The walk along the list.
-use Rattle.std.proofs.Common.{arith, ◌<◌, ◌∙◌, length, get_or, subst, ap, refl}
-use Rattle.watch_index.specs.Indexes.{list_of}
-use Rattle.clause_store.specs.Entries.{bare}
-use Rattle.clause_store.specs.Watching.{PropagatesPart}
-use Rattle.clause_store.proofs.Adding.{holds_on}
-use Rattle.clause_store.proofs.QuietPairs.{goes_none, goes_on}
-use Rattle.clause_store.proofs.Walking.{passed_none, passed_stays, passed_moved, passed_all}
+-- The list is out of the index while it is walked.
+use Rattle.std.proofs.Common.{sym, subst}
+use Rattle.clause_store.specs.Watching.{IsIndexed}
+use Rattle.clause_store.proofs.QuietPairs.{goes_none}
+use Rattle.clause_store.proofs.Walking.{taken_with, taken_there, none_by}
 use Rattle.clause_store.proofs.watched.Watched.walk.Goals as goal
 
-pub places-init : goal.places-init
-places-init c = record {
-  watched = c.requires.watched;
-  known = c.requires.known;
-  fails = c.requires.fails;
-  entries = refl;
-  goes = goes_none _ _ _ _;
-  passed = passed_none _ _ _ _;
+pub walk_list-found-requires-clause-watched : goal.walk_list-found-requires-clause-watched
+walk_list-found-requires-clause-watched c = record {
+  there = taken_there c.args.self.now.index c.take_list.new.self c.args.f _ c.in-Some.ensures;
+  pairs_by = c.requires.watched.pairs_by;
+  index_by = taken_with c.args.self.now.pairs.items c.args.self.now.index c.take_list.new.self c.args.f _ c.in-Some.ensures c.requires.watched.index_by;
 }
 
-pub returns-in_err-take_up-clause-goes : goal.returns-in_err-take_up-clause-goes
-returns-in_err-take_up-clause-goes c =
-    let g = c.take_up.ensures.goes in
-    let goes = goes_on _ _ _ _ _ _ _ _ c.places.invariant.goes (subst (λ xs. PropagatesPart (bare xs) (length c.args.self.now.pairs.items) c.places.self.pairs.items c.take_up.new.self.pairs.items c.places.trail c.take_up.new.trail) c.places.invariant.entries
-    (subst (λ n. PropagatesPart (bare c.places.self.entries.items) n c.places.self.pairs.items c.take_up.new.self.pairs.items c.places.trail c.take_up.new.trail) c.places.invariant.goes.paired g)) in
-    goes
+pub returns-in-None-clause-goes : goal.returns-in-None-clause-goes
+returns-in-None-clause-goes c = goes_none _ _ _ _
 
-pub returns-in-Clash-clause-goes : goal.returns-in-Clash-clause-goes
-returns-in-Clash-clause-goes c =
-    let g = c.take_up.ensures.goes in
-    let goes = goes_on _ _ _ _ _ _ _ _ c.places.invariant.goes (subst (λ xs. PropagatesPart (bare xs) (length c.args.self.now.pairs.items) c.places.self.pairs.items c.take_up.new.self.pairs.items c.places.trail c.take_up.new.trail) c.places.invariant.entries
-    (subst (λ n. PropagatesPart (bare c.places.self.entries.items) n c.places.self.pairs.items c.take_up.new.self.pairs.items c.places.trail c.take_up.new.trail) c.places.invariant.goes.paired g)) in
-    goes
+pub returns-in-None-clause-ends : goal.returns-in-None-clause-ends
+returns-in-None-clause-ends c = none_by c.args.self.now.pairs.items c.args.self.now.index c.args.trail.now.literals c.args.f c.requires.watched.index_by c.in-None.ensures.1
 
-pub places-preserved-in-Moved : goal.places-preserved-in-Moved
-places-preserved-in-Moved c =
-    let g = c.take_up.ensures.goes in
-    let goes = goes_on _ _ _ _ _ _ _ _ c.places.invariant.goes (subst (λ xs. PropagatesPart (bare xs) (length c.args.self.now.pairs.items) c.places.self.pairs.items c.take_up.new.self.pairs.items c.places.trail c.take_up.new.trail) c.places.invariant.entries
-    (subst (λ n. PropagatesPart (bare c.places.self.entries.items) n c.places.self.pairs.items c.take_up.new.self.pairs.items c.places.trail c.take_up.new.trail) c.places.invariant.goes.paired g)) in
-    let lt : c.places.at < length (list_of c.places.self.index c.args.f) = omega (arith, c.places-test.true, ap length c.list.ensures) in
-    record {
-      watched = c.take_up.ensures.watched;
-      known = rw (c.take_up.ensures.entries, g.advances.0.vars) c.places.invariant.known;
-      fails = holds_on _ _ _ g.advances.0 _ c.places.invariant.fails;
-      entries = c.take_up.ensures.entries ∙ c.places.invariant.entries;
-      goes = goes;
-      passed = passed_moved c.places.self.pairs.items c.take_up.new.self.pairs.items c.places.self.index c.take_up.new.self.index c.places.at _ c.places.trail.literals c.take_up.new.trail.literals c.args.f (holds_on _ _ _ g.advances.0) lt
-          (rw c.in-Moved.is at c.in_ok-take_up.ensures.looks) c.places.invariant.passed;
-    }
+pub give_list-requires : goal.give_list-requires
+give_list-requires c = c.walk_list-found.ensures.watched.there
 
-pub places-preserved : goal.places-preserved
-places-preserved c =
-    let g = c.take_up.ensures.goes in
-    let goes = goes_on _ _ _ _ _ _ _ _ c.places.invariant.goes (subst (λ xs. PropagatesPart (bare xs) (length c.args.self.now.pairs.items) c.places.self.pairs.items c.take_up.new.self.pairs.items c.places.trail c.take_up.new.trail) c.places.invariant.entries
-    (subst (λ n. PropagatesPart (bare c.places.self.entries.items) n c.places.self.pairs.items c.take_up.new.self.pairs.items c.places.trail c.take_up.new.trail) c.places.invariant.goes.paired g)) in
-    let looks = rw c.in-Stays.is at c.in_ok-take_up.ensures.looks in
-    let lt : c.places.at < length (list_of c.places.self.index c.args.f) = omega (arith, c.places-test.true, ap length c.list.ensures) in
-    record {
-      watched = c.take_up.ensures.watched;
-      known = rw (c.take_up.ensures.entries, g.advances.0.vars) c.places.invariant.known;
-      fails = holds_on _ _ _ g.advances.0 _ c.places.invariant.fails;
-      entries = c.take_up.ensures.entries ∙ c.places.invariant.entries;
-      goes = goes;
-      passed = rw (looks.0, looks.1) (passed_stays c.places.self.pairs.items _ c.places.at _ c.places.trail.literals c.take_up.new.trail.literals c.args.f (holds_on _ _ _ g.advances.0) (ap (λ xs. get_or xs c.places.at 0) c.list-in-places.ensures) looks.2 c.places.invariant.passed);
-    }
-
-pub returns-clause-ends : goal.returns-clause-ends
-returns-clause-ends c =
-    passed_all c.places.self.pairs.items c.places.self.index c.places.at c.places.trail.literals c.args.f c.places.invariant.watched.index_by (omega (arith, c.places-test.false, ap length c.list.ensures)) c.places.invariant.passed
+pub returns-in-Some-clause-watched : goal.returns-in-Some-clause-watched
+returns-in-Some-clause-watched c = record {
+  pairs_by = c.walk_list-found.ensures.watched.pairs_by;
+  index_by = subst (IsIndexed c.walk_list-found.new.self.pairs.items) (sym c.give_list.ensures) c.walk_list-found.ensures.watched.index_by;
+}
