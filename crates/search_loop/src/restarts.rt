@@ -3,11 +3,11 @@
 ghost use Rattle.std.specs.Prelude.{◌≤◌};
 
 /// How many conflicts the shortest run from level 0 has.
-const SHORTEST_RUN: u64 = 64;
+const SHORTEST_RUN: u64 = 256;
 
 /// Counts conflicts up to the next restart.
 ///
-/// The runs between restarts are 64 times as long as the numbers 1, 1, 2, 1, 1, 2, 4 and so on say. Nothing depends on it but time.
+/// The runs between restarts are 256 times as long as the numbers 1, 1, 2, 1, 1, 2, 4 and so on say. Nothing depends on it but time.
 /// Source: Luby, Sinclair and Zuckerman 1993, for the sequence; Knuth, The Art of Computer Programming, 4B, 7.2.2.2, for its steps.
 #[derive(Drop)]
 pub struct Restarts {
