@@ -1,6 +1,6 @@
 //! A text that comes in pieces, and what is next in it.
 
-ghost use Rattle.std.specs.Prelude.{◌≡◌, ◌+◌, ◌-◌, ◌≤◌, ◌^◌, ◌++◌, List, [], length, min, true, false, OnOk, OnErr};
+ghost use Rattle.std.specs.Prelude.{◌≡◌, ◌+◌, ◌-◌, ◌≤◌, ◌^◌, ◌++◌, [], length, min, true, false, OnOk, OnErr};
 ghost use Rattle.spec_text.specs.Places.{IsPlaceOf};
 ghost use Rattle.spec_text.specs.Readings.{text_limit, kept, prefix};
 ghost use Rattle.stream_scan.specs.Scanning.{scanned_from};

@@ -65,7 +65,7 @@ left_size (Values ts ∷ ls) = 1 + (sizes (trees_meant ts) + left_size ls)
 left_size (Body ts body ∷ ls) = 3 + (size (tree_meant body) + left_size ls)
 left_size (Back n ∷ ls) = 1 + left_size ls
 
--- one of the names is found, or whether one occurs free is told by what is left, of which there is less than so much
+-- one of the names is found, or whether one occurs free follows from what is left, of which there is less than so much
 abbrev pub FindsName : List Name → Bool → ℕ → Rest → Result Bool NoMemory → Type 0
 FindsName ns all most r (Ok true) = all ≡ true
 FindsName ns all most r (Ok false) = (all ≡ rest_mentions ns r) × (left_size r.left < most)

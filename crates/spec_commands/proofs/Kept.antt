@@ -8,7 +8,7 @@ use Rattle.spec_sorts.specs.Terms.{Truth, Declared, sort_of}
 use Rattle.spec_sorts.specs.WellSorted.{IsWellSorted, IsFormulaOver}
 use Rattle.spec_sorts.specs.Values.{truth, Interpretation, Interprets}
 use Rattle.spec_sorts.specs.TermValues.{value_at}
-use Rattle.spec_sorts.specs.Signatures.{Definition, Declaration, of_sort, of_function, declared, Signature, symbols_in, definition}
+use Rattle.spec_sorts.specs.Signatures.{Declaration, of_sort, of_function, declared, Signature, symbols_in, definition}
 use Rattle.spec_sorts.specs.Signatures as signatures
 use Rattle.spec_sorts.specs.Meaning.{meaning_of, value_under}
 use Rattle.spec_sorts.proofs.WellSorted.{same_sort_is}

@@ -4,7 +4,7 @@ use Rattle.std.specs.Prelude.{Ok}
 use Rattle.std.proofs.lemmas.List.Elements.{All-weaker}
 use Rattle.spec_text.specs.Trees.{Tree, Trees}
 use Rattle.spec_sorts.specs.Terms.{Declared}
-use Rattle.spec_sorts.specs.Signatures.{Definition, Declaration, of_sort, of_function, declared, Signature}
+use Rattle.spec_sorts.specs.Signatures.{of_sort, of_function, declared, Signature}
 use Rattle.spec_sorts.specs.Signatures as signatures
 use Rattle.spec_reading.specs.Names.{script}
 use Rattle.spec_commands.specs.Commands.{Command, DeclareSort, DefineSort, DeclareFun, DefineFun, Assert}

@@ -1,6 +1,6 @@
 //! The table of terms: each term once, by its number.
 
-ghost use Rattle.std.specs.Prelude.{◌⊎◌, ◌≡◌, List, map, MatchBool, true, false, Contains, [], ◌∷◌, ◌++◌, length, take, None, Some, IfOk, OnErr, OnOk};
+ghost use Rattle.std.specs.Prelude.{◌⊎◌, ◌≡◌, List, map, MatchBool, true, false, Contains, [], ◌∷◌, ◌++◌, length, take, None, IfOk, OnErr, OnOk};
 ghost use Rattle.spec_text.specs.Bytes.{among};
 ghost use Rattle.spec_sorts.specs.Terms.{Sort as TermSort, Head as TermHead, Term, Terms, app, list_of, sort_of};
 ghost use Rattle.spec_sorts.specs.WellSorted.{AllHeads, IsHeadOver, IsWellSorted};
