@@ -40,6 +40,10 @@ fn queue_users(
     ensures put { ArePut pending.old.items pending.new.items
         (λ more. OnOk result (AreClassUsers listing.now classes.now.numbers t more)) }
 {
+    if classes.size_of(t) == 1 {
+        pending.extend_from_slice(listing.users_of(t))?;
+        return Ok(());
+    }
     let members = classes.members(t)?;
     'members: for m in &members {
         pending.extend_from_slice(listing.users_of(*m))?;
