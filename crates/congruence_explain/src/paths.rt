@@ -149,7 +149,7 @@ fn denies_last(clause: &[SignedClaim], x: TermId, y: TermId) -> bool
 
 /// Logs that arguments are equal to others, one by one, and gives the clause that denies it of each two that differ.
 ///
-/// A pair that is the same as the one before is told once.
+/// A pair that is the same as the one before is explained once.
 pub(crate) fn tell_pairs(
     alloc: Global,
     table: &mut TermTable,
