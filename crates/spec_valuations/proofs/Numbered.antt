@@ -140,7 +140,7 @@ module _ (symbols : List Symbol) (p : Problem) (terms : List Term) (held : List 
         (sym (ap (same_sort Number) left)) (0, omega arith, refl)
 
     fact_so : is_so (order_fact s t) ≡ true
-    fact_so = alone symbols p terms held a.truths a.class at_saturation (order_fact s t)
+    fact_so = alone a.truths (order_fact s t)
         (clause_of_term (pair Equal s t) there (order_fact s t ∷ []) (Contains-append_right (defining_clauses (pair Equal s t)) (order_clauses (pair Equal s t)) (order_fact s t ∷ []) fact_clause))
 
     fact_takes : head_takes [] Or (sorts_of (cons (pair Equal s t) (cons (negated (pair AtMost s t)) (cons (negated (pair AtMost t s)) nil)))) ≡ true

@@ -38,9 +38,17 @@ pub some_interpretation : Interpretation
 some_interpretation = record { table = λ n. record { rows = []; default = truth false } }
 
 -- arguments of sort Bool
-all_truths : (ts : Terms) → ((u : Term) → Contains (list_of ts) u → sort_of u ≡ Truth) → all_same Truth (sorts_of ts) ≡ true
+pub all_truths : (ts : Terms) → ((u : Term) → Contains (list_of ts) u → sort_of u ≡ Truth) → all_same Truth (sorts_of ts) ≡ true
 all_truths nil f = refl
 all_truths (cons t ts) f = both_true (ap (same_sort Truth) (f t (first t (list_of ts)))) (all_truths ts (λ u c. f u (later t (list_of ts) u c)))
+
+-- a term whose clause is met is true
+pub alone : (v : Truths) (t : Term) → list_any (term_true_by v) (t ∷ []) ≡ true → term_true_by v t ≡ true
+alone v t e = go (term_true_by v t) e
+  where
+    go : (b : Bool) → b || false ≡ true → b ≡ true
+    go true e = refl
+    go false e = e
 
 -- What a search has of its truths and classes where it is saturated, whatever theories it has.
 pub record IsAtSaturation (symbols : List Symbol) (p : Problem) (terms : List Term) (held : List HeldLiteral) (v : Truths) (class : Term → ℕ) : Type 0 where
@@ -94,14 +102,6 @@ module _ (symbols : List Symbol) (p : Problem) (terms : List Term) (held : List 
 
   pub is_met : (t : Term) → Contains terms t → IsMet v t
   is_met t t_in c c_in = r.defining t t_in c (Contains-append_left (clauses_of t) (choice_clauses t) c c_in)
-
-  -- a term whose clause is met is true
-  pub alone : (t : Term) → list_any is_so (t ∷ []) ≡ true → is_so t ≡ true
-  alone t e = go (is_so t) e
-    where
-      go : (b : Bool) → b || false ≡ true → b ≡ true
-      go true e = refl
-      go false e = e
 
   -- both facts are listed, with their subterms
   fact_listed : (b : Bool) → Contains terms (truth_fact b)
@@ -242,13 +242,13 @@ module _ (symbols : List Symbol) (p : Problem) (terms : List Term) (held : List 
       asserted_valued k d lt =
           let t = get_or p.asserted k d in
           let t_in = Contains-get_or p.asserted k d lt in
-          true_valued t (Contains-append_left p.asserted p.assumed t t_in) (alone t (r.asserted t t_in))
+          true_valued t (Contains-append_left p.asserted p.assumed t t_in) (alone v t (r.asserted t t_in))
 
       pub all_valued : All (λ t. term_true_by v t ≡ true) p.assumed → All (λ t. value_at i [] t ≡ truth true) (terms_of_problem p)
       all_valued assumed k d lt = go (get_or (terms_of_problem p) k d) (Contains-get_or (terms_of_problem p) k d lt)
         where
           go : (t : Term) → Contains (terms_of_problem p) t → value_at i [] t ≡ truth true
           go t t_in = true_valued t t_in (elim (Contains-append_cases p.asserted p.assumed t t_in) [
-            | inl own ↦ alone t (r.asserted t own)
+            | inl own ↦ alone v t (r.asserted t own)
             | inr other ↦ All-contains (λ x. term_true_by v x ≡ true) p.assumed t assumed other
           ])

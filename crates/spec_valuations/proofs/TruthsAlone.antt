@@ -1,13 +1,11 @@
 -- Where a search over propositional terms is saturated, the interpretation that its truths give is a model.
-use Rattle.std.proofs.Common.{◌≡◌, ℕ, Bool, true, false, ◌||◌, List, [], ◌∷◌, map, length, get_or, inl, inr, All, Contains, refl, sym, ap, ◌∙◌, subst, arith}
+use Rattle.std.proofs.Common.{◌≡◌, ℕ, Bool, true, false, List, [], ◌∷◌, map, length, get_or, inl, inr, All, Contains, refl, sym, ap, ◌∙◌, subst, arith}
 use Rattle.std.specs.Prelude.{flat_map}
-use Rattle.std.specs.Cmp.Derive.{both_true}
-use Rattle.std.specs.List.{list_any}
 use Rattle.std.proofs.lemmas.Bool.{false≢true}
 use Rattle.std.proofs.lemmas.List.Elements.{All-contains, Contains-append_left, Contains-append_right, Contains-append_cases, Contains-get_or}
-use Rattle.spec_text.proofs.Members.{first, later, to_image, in_flat}
+use Rattle.spec_text.proofs.Members.{to_image, in_flat}
 use Rattle.spec_numbers.specs.Fractions.{Fraction}
-use Rattle.spec_sorts.specs.Terms.{Truth, Number, Symbol, same_sort, Less, AtMost, Minus, Plus, Times, Divide, Literal, Parameter, Apply, Head, Term, Terms, app, nil, cons, list_of, sort_of, sorts_of, all_same, head_takes}
+use Rattle.spec_sorts.specs.Terms.{Truth, Number, Symbol, Less, AtMost, Minus, Plus, Times, Divide, Literal, Parameter, Apply, Head, Term, Terms, app, nil, cons, list_of, sort_of, sorts_of, all_same, head_takes}
 use Rattle.spec_sorts.specs.Values.{truth, HasSort, Interpretation, Interprets}
 use Rattle.spec_sorts.specs.TermValues.{value_at}
 use Rattle.spec_sorts.specs.WellSorted.{IsWellSorted}
@@ -29,11 +27,7 @@ use Rattle.spec_valuations.specs.Propositional.{IsPropositional, IsPropositional
 use Rattle.spec_valuations.proofs.Meeting.{value_is, no_parameter}
 use Rattle.spec_valuations.proofs.Interpreting.{interprets}
 use Rattle.spec_valuations.proofs.Formulas.{core_joins, formula_obeys}
-
--- arguments of sort Bool
-all_truths : (ts : Terms) → ((u : Term) → Contains (list_of ts) u → sort_of u ≡ Truth) → all_same Truth (sorts_of ts) ≡ true
-all_truths nil f = refl
-all_truths (cons t ts) f = both_true (ap (same_sort Truth) (f t (first t (list_of ts)))) (all_truths ts (λ u c. f u (later t (list_of ts) u c)))
+use Rattle.spec_valuations.proofs.Saturating.{all_truths, alone}
 
 -- no arguments
 bare_nil : (ts : Terms) → list_of ts ≡ [] → ts ≡ nil
@@ -61,14 +55,6 @@ module _ (symbols : List Symbol) (p : Problem) (terms : List Term) (v : Truths) 
   is_met t t_in c c_in = r.met c (Contains-append_right (map (λ x. x ∷ []) p.asserted) (flat_map whole_clauses_of (whole_terms p)) c
       (in_flat whole_clauses_of (whole_terms p) t c (r.only t t_in)
       (Contains-append_left (defining_clauses t) (order_clauses t) c (Contains-append_left (clauses_of t) (choice_clauses t) c c_in))))
-
-  -- a term whose clause is met is true
-  alone : (t : Term) → list_any is_so (t ∷ []) ≡ true → is_so t ≡ true
-  alone t e = go (is_so t) e
-    where
-      go : (b : Bool) → b || false ≡ true → b ≡ true
-      go true e = refl
-      go false e = e
 
   module _ (point : Term → Fraction) (class : Term → ℕ) where
     abbrev by : Valuation
@@ -122,7 +108,7 @@ module _ (symbols : List Symbol) (p : Problem) (terms : List Term) (v : Truths) 
           valued t there ∙ ap (λ s. value_in s (is_so t) (point t) (class t)) (propositional t there).sort ∙ ap truth e
 
       asserted_true : (t : Term) → Contains p.asserted t → is_so t ≡ true
-      asserted_true t t_in = alone t (r.met (t ∷ []) (Contains-append_left (map (λ x. x ∷ []) p.asserted) (flat_map whole_clauses_of (whole_terms p)) (t ∷ []) (to_image (λ x. x ∷ []) p.asserted t t_in)))
+      asserted_true t t_in = alone v t (r.met (t ∷ []) (Contains-append_left (map (λ x. x ∷ []) p.asserted) (flat_map whole_clauses_of (whole_terms p)) (t ∷ []) (to_image (λ x. x ∷ []) p.asserted t t_in)))
 
       pub asserted_valued : All (λ t. value_at i [] t ≡ truth true) p.asserted
       asserted_valued k d lt =
