@@ -1,8 +1,8 @@
 -- Live entries, and the index of them.
-use Rattle.std.proofs.Common.{◌≡◌, ◌≢◌, ℕ, zero, suc, ◌+◌, ◌<◌, ◌≤◌, ◌⊎◌, inl, inr, Bool, true, false, List, [], ◌∷◌, ◌++◌, length, take, drop, get_or, Option, Some, None, nat_eq, refl, sym, ◌∙◌, ap, subst, arith, add-one, length-append, true≢false}
+use Rattle.std.proofs.Common.{◌≡◌, ◌≢◌, ℕ, zero, suc, ◌+◌, ◌<◌, ◌≤◌, ◌⊎◌, inl, inr, Bool, true, false, List, [], ◌∷◌, ◌++◌, length, take, drop, get_or, Option, Some, None, nat_eq, if◌then◌else◌, refl, sym, ◌∙◌, ap, subst, arith, add-one, length-append, true≢false}
 use Rattle.std.proofs.Math.Seq.{drop-cons, get_or-append_seam}
 use Rattle.std.proofs.Math.ListN.{set, get_or-append}
-use Rattle.std.proofs.lemmas.List.{take-append-drop, set_split, length-take-le, length-set, get_or-take, get_or-set_same, get_or-set_other}
+use Rattle.std.proofs.lemmas.List.{take-append-drop, set_split, length-take-le, length-set, take_more, take_all, get_or_default, get_or-take, get_or-set_same, get_or-set_other}
 use Rattle.std.proofs.lemmas.Bool.{cases_lt, cases_eq}
 use Rattle.std.proofs.lemmas.Bool.Decides.{eqb_tells}
 use Rattle.std.specs.Map.{lookup}
@@ -14,7 +14,7 @@ use Rattle.spec_arithmetic.proofs.General.{same_some}
 use Rattle.ratio128.specs.declared.ratio.Ratio.{Ratio}
 use Rattle.ratio128.specs.Meant.{fraction}
 use Rattle.term_core.specs.declared.ids.TermId.{TermId}
-use Rattle.linear_form.specs.Entries.{unless_dead, live, LacksNumber, IsLiveAt, IsIndex}
+use Rattle.linear_form.specs.Entries.{unless_dead, live, LacksNumber, IsLiveAt, IsIndex, IsKept}
 
 -- entries before others
 dead_append : (b : Bool) (v : TermId) (k : Fraction) (xs ys : List (TermId × Fraction)) → unless_dead b v k (xs ++ ys) ≡ unless_dead b v k xs ++ ys
@@ -232,3 +232,102 @@ module _ (g : ℕ → Option ℕ) (ps : List (TermId × Ratio)) (id : TermId) (a
           absurd (true≢false (sym z ∙ subst (λ (p : TermId × Ratio). is_zero (fraction p.1) ≡ false) (get_or-set_same ps at (id, s) (id, s) here.within) (subst (λ n. is_zero (fraction (get_or (set ps at (id, s)) n (id, s)).1) ≡ false) e (l.not_zero (id, s)))))
       told_by q j l (inr o) (inl e) = absurd (o (one_place g ps q j at i (was_there q j o l) (subst (λ n. IsLiveAt n ps at) e.1 here)))
       told_by q j l (inr o) (inr e) = other q e.0 ∙ i.tells_all q j (was_there q j o l)
+
+-- ---- what the map has not, where there are few entries
+
+-- a dead entry at the end
+pub index_dead : (g : ℕ → Option ℕ) (ps : List (TermId × Ratio)) (id : TermId) (k : Ratio) → is_zero (fraction k) ≡ true → IsIndex g ps → IsIndex g (ps ++ (id, k) ∷ [])
+index_dead g ps id k z i = record {
+  tells = λ q at f. longer q at (i.tells q at f);
+  tells_all = λ q at l. told_by q at l (cases_lt at (length ps));
+}
+  where
+    longer : (q at : ℕ) → IsLiveAt q ps at → IsLiveAt q (ps ++ (id, k) ∷ []) at
+    longer q at l = live_moved q ps (ps ++ (id, k) ∷ []) at (omega (arith, l.within, length-append ps ((id, k) ∷ []))) (λ d. get_or-append ps ((id, k) ∷ []) d at l.within) l
+
+    told_by : (q at : ℕ) → IsLiveAt q (ps ++ (id, k) ∷ []) at → (at < length ps) ⊎ (length ps ≤ at) → g q ≡ Some at
+    told_by q at l (inl lt) = i.tells_all q at (live_moved q (ps ++ (id, k) ∷ []) ps at lt (λ d. sym (get_or-append ps ((id, k) ∷ []) d at lt)) l)
+    told_by q at l (inr le) =
+        let place : at ≡ length ps = omega (arith, le, l.within, length-append ps ((id, k) ∷ [])) in
+        absurd (true≢false (sym z ∙ subst (λ (p : TermId × Ratio). is_zero (fraction p.1) ≡ false) (ap (λ n. get_or (ps ++ (id, k) ∷ []) n (id, k)) place ∙ get_or-append_seam ps (id, k) [] (id, k)) (l.not_zero (id, k))))
+
+-- an index with another answer for one number
+abbrev put_for : ℕ → Option ℕ → (ℕ → Option ℕ) → ℕ → Option ℕ
+put_for n o g q = if nat_eq n q then o else g q
+
+put_here : (n : ℕ) (o : Option ℕ) (g : ℕ → Option ℕ) → put_for n o g n ≡ o
+put_here n o g = by (eqb_tells n n)
+  where
+    by : ((nat_eq n n ≡ true) × (n ≡ n)) ⊎ ((nat_eq n n ≡ false) × (n ≢ n)) → put_for n o g n ≡ o
+    by (inl e) = ap (λ b. if b then o else g n) e.0
+    by (inr e) = absurd (e.1 refl)
+
+put_other : (n : ℕ) (o : Option ℕ) (g : ℕ → Option ℕ) (q : ℕ) → nat_eq n q ≡ false → put_for n o g q ≡ g q
+put_other n o g q e = ap (λ b. if b then o else g q) e
+
+pub kept_few : (g m : ℕ → Option ℕ) (ps : List (TermId × Ratio)) → length ps ≤ 8 → IsIndex g ps → IsKept m ps
+kept_few g m ps few i = record { index = g; tells = i; same = λ many q. absurd (omega (arith, few, many)) }
+
+pub kept_index : (m : ℕ → Option ℕ) (ps : List (TermId × Ratio)) → IsIndex m ps → IsKept m ps
+kept_index m ps i = record { index = m; tells = i; same = λ many q. refl }
+
+pub kept_map : (m : ℕ → Option ℕ) (ps : List (TermId × Ratio)) → 8 < length ps → IsKept m ps → IsIndex m ps
+kept_map m ps many k = index_kept k.index m ps ps (k.same many) refl k.tells
+
+pub kept_same : (m n : ℕ → Option ℕ) (ps new : List (TermId × Ratio)) → ((q : ℕ) → n q ≡ m q) → new ≡ ps → IsKept m ps → IsKept n new
+kept_same m n ps new same e k = subst (IsKept n) (sym e) (record { index = k.index; tells = k.tells; same = λ many q. same q ∙ k.same many q })
+
+pub kept_empty : (m : ℕ → Option ℕ) (ps : List (TermId × Ratio)) → ps ≡ [] → IsKept m ps
+kept_empty m ps e = kept_few (λ q. None) m ps (omega (arith, ap length e)) (index_empty (λ q. None) ps (λ q. refl) e)
+
+pub kept_push : (m : ℕ → Option ℕ) (ps new : List (TermId × Ratio)) (id : TermId) (k : Ratio) → length ps < 8 → LacksNumber id.0 (live ps) → is_zero (fraction k) ≡ false → new ≡ ps ++ (id, k) ∷ [] → IsKept m ps → IsKept m new
+kept_push m ps new id k few lacks not_zero e i =
+    kept_few (put_for id.0 (Some (length ps)) i.index) m new (omega (arith, few, ap length e, length-append ps ((id, k) ∷ [])))
+    (index_push i.index (put_for id.0 (Some (length ps)) i.index) ps id k i.tells lacks not_zero (put_here id.0 (Some (length ps)) i.index) (put_other id.0 (Some (length ps)) i.index) new e)
+
+pub kept_put : (m : ℕ → Option ℕ) (ps : List (TermId × Ratio)) (id : TermId) (at : ℕ) (s : Ratio) → IsKept m ps → IsLiveAt id.0 ps at → is_zero (fraction s) ≡ false → IsKept m (set ps at (id, s))
+kept_put m ps id at s i here n = record {
+  index = i.index;
+  tells = index_put i.index ps id at s i.tells here n;
+  same = λ many q. i.same (omega (arith, many, length-set ps at (id, s))) q;
+}
+
+pub kept_drop : (m : ℕ → Option ℕ) (ps : List (TermId × Ratio)) (id : TermId) (at : ℕ) (s : Ratio) → length ps ≤ 8 → IsKept m ps → IsLiveAt id.0 ps at → is_zero (fraction s) ≡ true → IsKept m (set ps at (id, s))
+kept_drop m ps id at s few i here z =
+    kept_few (put_for id.0 None i.index) m (set ps at (id, s)) (omega (arith, few, length-set ps at (id, s)))
+    (index_drop i.index ps id at s i.tells here (put_for id.0 None i.index) z (put_here id.0 None i.index) (put_other id.0 None i.index))
+
+-- ---- entries up to a place
+
+pub live_found : (q : ℕ) (ps : List (TermId × Ratio)) (at : ℕ) (p : TermId × Ratio) → at < length ps → p ≡ get_or ps at p → p.0.0 ≡ q → is_zero (fraction p.1) ≡ false → IsLiveAt q ps at
+live_found q ps at p lt e is z = record {
+  within = lt;
+  same = λ d. ap (λ (r : TermId × Ratio). r.0.0) (get_or_default ps at d p lt ∙ sym e) ∙ is;
+  not_zero = λ d. subst (λ (r : TermId × Ratio). is_zero (fraction r.1) ≡ false) (sym (get_or_default ps at d p lt ∙ sym e)) z;
+}
+
+-- an entry after those before it
+taken_next : (ps : List (TermId × Ratio)) (at : ℕ) (p : TermId × Ratio) → at < length ps → p ≡ get_or ps at p → take (at + 1) ps ≡ take at ps ++ p ∷ []
+taken_next ps at p lt e = take_more ps at p lt ∙ ap (λ (r : TermId × Ratio). take at ps ++ r ∷ []) (sym e)
+
+pub lacks_next : (q : ℕ) (ps : List (TermId × Ratio)) (at : ℕ) (p : TermId × Ratio) → at < length ps → p ≡ get_or ps at p → LacksNumber q (live (take at ps)) → LacksNumber q (live (p ∷ [])) → LacksNumber q (live (take (at + 1) ps))
+lacks_next q ps at p lt e h k = subst (LacksNumber q) (sym (ap live (taken_next ps at p lt e) ∙ live-append (take at ps) (p ∷ []))) (lacks-append q (live (take at ps)) (live (p ∷ [])) h k)
+
+pub lacks_all : (q : ℕ) (ps : List (TermId × Ratio)) (at : ℕ) → length ps ≤ at → LacksNumber q (live (take at ps)) → LacksNumber q (live ps)
+lacks_all q ps at le h = subst (λ l. LacksNumber q (live l)) (take_all at ps le) h
+
+pub lacks_other : (q : ℕ) (p : TermId × Ratio) → (p.0.0 ≡ q → ⊥) → LacksNumber q (live (p ∷ []))
+lacks_other q p n = by (is_zero (fraction p.1))
+  where
+    by : (b : Bool) → LacksNumber q (unless_dead b p.0 (fraction p.1) [])
+    by true = tt
+    by false = (n, tt)
+
+pub filled_dead : (g : ℕ → Option ℕ) (ps : List (TermId × Ratio)) (at : ℕ) (p : TermId × Ratio) → at < length ps → p ≡ get_or ps at p → is_zero (fraction p.1) ≡ true → IsIndex g (take at ps) → IsIndex g (take (at + 1) ps)
+filled_dead g ps at p lt e z i = subst (IsIndex g) (sym (taken_next ps at p lt e)) (index_dead g (take at ps) p.0 p.1 z i)
+
+pub filled_next : (f g h : ℕ → Option ℕ) (ps : List (TermId × Ratio)) (at : ℕ) (p : TermId × Ratio) → IsIndex f ps → at < length ps → p ≡ get_or ps at p → is_zero (fraction p.1) ≡ false → IsIndex g (take at ps)
+    → h p.0.0 ≡ Some at → ((q : ℕ) → nat_eq p.0.0 q ≡ false → h q ≡ g q) → IsIndex h (take (at + 1) ps)
+filled_next f g h ps at p one lt e z i here other =
+    index_push g h (take at ps) p.0 p.1 i (before_lacks f ps p.0.0 at one (live_found p.0.0 ps at p lt e refl z)) z (here ∙ ap Some (sym (length-take-le at ps (omega (arith, lt))))) other
+    (take (at + 1) ps) (taken_next ps at p lt e)

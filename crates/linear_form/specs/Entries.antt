@@ -52,3 +52,11 @@ pub record IsIndex (places : ℕ → Option ℕ) (ps : List (TermId × Ratio)) :
   pub tells : (q at : ℕ) → places q ≡ Some at → IsLiveAt q ps at
   -- it tells all that are live
   pub tells_all : (q at : ℕ) → IsLiveAt q ps at → places q ≡ Some at
+
+-- Entries of which each variable has one that is live at most, with an index where there are more than eight.
+pub record IsKept (places : ℕ → Option ℕ) (ps : List (TermId × Ratio)) : Type 0 where
+  -- an index of them, which the code may have or not
+  pub index : ℕ → Option ℕ
+  pub tells : IsIndex index ps
+  -- where there are more than eight, it has this one
+  pub same : 8 < length ps → (q : ℕ) → places q ≡ index q

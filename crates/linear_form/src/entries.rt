@@ -1,22 +1,26 @@
 //! The entries of a form: a variable with its coefficient each, and their index.
 //!
-//! An entry is dead where its coefficient became 0. A variable that comes again has a new entry, at the end. The index has
-//! the places of the entries that are not dead, by the numbers of their variables.
+//! An entry is dead where its coefficient became 0. A variable that comes again has a new entry, at the end. Among few
+//! entries a variable is looked for one by one. Where there are more, the index has the places of those that are
+//! not dead, by the numbers of their variables.
 
-ghost use Rattle.std.specs.Prelude.{◌≡◌, ◌∷◌, ◌++◌, [], ℕ, Option, false, nat_eq, IfErr, OnOk, OnErr};
+ghost use Rattle.std.specs.Prelude.{◌≡◌, ◌+◌, ◌<◌, ◌∷◌, ◌++◌, [], ℕ, Option, false, length, take, get_or, nat_eq, IfErr, OnOk, OnErr, MatchBool, MatchOption};
 ghost use Rattle.std.specs.HashMap.{get};
 ghost use Rattle.spec_arithmetic.specs.Forms.{joined, all_joined, each_number};
 ghost use Rattle.spec_arithmetic.specs.Signs.{is_zero};
 ghost use Rattle.ratio128.specs.Meant.{fraction, outcome};
 ghost use Rattle.term_core.specs.Tables.{TableView, IsIn, AreDifferent, term_at};
 ghost use Rattle.term_core.specs.declared.ids.TermId.{TermId as Number};
-ghost use Rattle.linear_form.specs.Entries.{live, variables_meant, HasVariables, LacksNumber, IsLiveAt, IsIndex};
+ghost use Rattle.linear_form.specs.Entries.{live, variables_meant, HasVariables, LacksNumber, IsLiveAt, IsIndex, IsKept};
 ghost use Rattle.linear_form.specs.Making.{way_meant, change_meant, CanChange, Comes, with_front};
 
 use crate::stop::FormStop;
 use ratio128::{Ratio, Wide};
 use std::collections::HashMap;
 use term_core::TermId;
+
+/// How many entries have no index.
+const FEW: usize = 8;
 
 /// Says how two forms are joined.
 #[derive(Clone, Copy, Debug, PartialEq, Eq)]
@@ -88,18 +92,108 @@ pub fn push_entry(
     id: TermId,
     k: Ratio,
 ) -> Result<(), FormStop>
-    requires index { IsIndex (get nat_eq places.old) entries.old.items }
+    requires index { IsKept (get nat_eq places.old) entries.old.items }
     requires not_zero { is_zero (fraction k) ≡ false }
     requires new { LacksNumber id.0 (live entries.old.items) }
-    ensures index { IsIndex (get nat_eq places.new) entries.new.items }
+    ensures index { IsKept (get nat_eq places.new) entries.new.items }
     ensures pushed { OnOk result (entries.new.items ≡ entries.old.items ++ (id, k) ∷ []) }
     ensures memory { OnErr result (entries.new.items ≡ entries.old.items) }
     ensures stop { IfErr result (λ e. e ≡ FormStop.Memory) }
 {
     entries.reserve(1)?;
+    if entries.len() < FEW {
+        entries.push_reserved((id, k));
+        return Ok(());
+    }
+    index_all(places, entries.as_slice())?;
     places.insert(id.0, entries.len())?;
     entries.push_reserved((id, k));
     Ok(())
+}
+
+/// Makes the index of entries, unless it is there because they are many.
+fn index_all(places: &mut HashMap<u64, usize>, entries: &[(TermId, Ratio)]) -> Result<(), FormStop>
+    requires index { IsKept (get nat_eq places.old) entries.now }
+    ensures kept { IsKept (get nat_eq places.new) entries.now }
+    ensures made { OnOk result (IsIndex (get nat_eq places.new) entries.now) }
+    ensures stop { IfErr result (λ e. e ≡ FormStop.Memory) }
+{
+    if entries.len() > FEW {
+        return Ok(());
+    }
+    fill(places, entries)
+}
+
+/// Makes the index of entries anew.
+fn fill(places: &mut HashMap<u64, usize>, entries: &[(TermId, Ratio)]) -> Result<(), FormStop>
+    requires index { (g : ℕ → Option ℕ) × IsIndex g entries.now }
+    ensures filled { OnOk result (IsIndex (get nat_eq places.new) entries.now) }
+    ensures stop { IfErr result (λ e. e ≡ FormStop.Memory) }
+{
+    places.clear();
+    'entries: for at in 0..entries.len() {
+        fill_entry(places, entries, at, entries[at])?;
+    }
+    Ok(())
+}
+
+/// Puts an entry into the index of those before it, unless it is dead.
+fn fill_entry(
+    places: &mut HashMap<u64, usize>,
+    entries: &[(TermId, Ratio)],
+    at: usize,
+    entry: (TermId, Ratio),
+) -> Result<(), FormStop>
+    requires low { at < length entries.now }
+    requires here { entry ≡ get_or entries.now at entry }
+    requires index { (g : ℕ → Option ℕ) × IsIndex g entries.now }
+    requires before { IsIndex (get nat_eq places.old) (take at entries.now) }
+    ensures filled { OnOk result (IsIndex (get nat_eq places.new) (take (at + 1) entries.now)) }
+    ensures stop { IfErr result (λ e. e ≡ FormStop.Memory) }
+{
+    let (id, k) = entry;
+    if is_zero(k) {
+        return Ok(());
+    }
+    places.insert(id.0, at)?;
+    Ok(())
+}
+
+/// Gives the place of a variable's live entry, if there is one.
+fn place_of(entries: &[(TermId, Ratio)], places: &HashMap<u64, usize>, id: TermId) -> Option<usize>
+    requires index { IsKept (get nat_eq places.now) entries.now }
+    ensures { MatchOption result (LacksNumber id.0 (live entries.now)) (IsLiveAt id.0 entries.now) }
+{
+    if entries.len() <= FEW {
+        return live_place(entries, id);
+    }
+    match places.get(&id.0) {
+        Some(place) => Some(*place),
+        None => None,
+    }
+}
+
+/// Looks for a variable's live entry, one by one.
+fn live_place(entries: &[(TermId, Ratio)], id: TermId) -> Option<usize>
+    ensures { MatchOption result (LacksNumber id.0 (live entries.now)) (IsLiveAt id.0 entries.now) }
+{
+    'entries: for at in 0..entries.len() {
+        if is_live_of(entries[at], id) {
+            return Some(at);
+        }
+    }
+    None
+}
+
+/// Tells whether an entry is a variable's, and not dead.
+fn is_live_of(entry: (TermId, Ratio), id: TermId) -> bool
+    ensures { MatchBool result ((entry.0.0 ≡ id.0) × (is_zero (fraction entry.1) ≡ false))
+        (LacksNumber id.0 (live (entry ∷ []))) }
+{
+    if entry.0.0 != id.0 {
+        return false;
+    }
+    !is_zero(entry.1)
 }
 
 /// Joins a variable with its coefficient to those that are there.
@@ -110,20 +204,17 @@ pub fn join(
     id: TermId,
     k: Ratio,
 ) -> Result<(), FormStop>
-    requires index { IsIndex (get nat_eq places.old) entries.old.items }
+    requires index { IsKept (get nat_eq places.old) entries.old.items }
     requires not_zero { is_zero (fraction k) ≡ false }
-    ensures index { IsIndex (get nat_eq places.new) entries.new.items }
+    ensures index { IsKept (get nat_eq places.new) entries.new.items }
     ensures comes { (t : TableView) → AreDifferent t.terms → IsIn t id → HasVariables t (live entries.old.items)
         → Comes (joined (way_meant way) (term_at t id) (fraction k) (variables_meant t (live entries.old.items)))
         result (variables_meant t (live entries.new.items)) }
     ensures there { OnOk result ((t : TableView) → IsIn t id → HasVariables t (live entries.old.items)
         → HasVariables t (live entries.new.items)) }
 {
-    match places.get(&id.0) {
-        Some(place) => {
-            let at = *place;
-            join_at(entries, places, way, at, k)
-        }
+    match place_of(entries.as_slice(), places, id) {
+        Some(at) => join_at(entries, places, way, at, k),
         None => push_entry(entries, places, id, alone(way, k)),
     }
 }
@@ -136,9 +227,9 @@ fn join_at(
     at: usize,
     k: Ratio,
 ) -> Result<(), FormStop>
-    requires index { IsIndex (get nat_eq places.old) entries.old.items }
+    requires index { IsKept (get nat_eq places.old) entries.old.items }
     requires live { (q : ℕ) × IsLiveAt q entries.old.items at }
-    ensures index { IsIndex (get nat_eq places.new) entries.new.items }
+    ensures index { IsKept (get nat_eq places.new) entries.new.items }
     ensures comes { (t : TableView) (id : Number) → IsLiveAt id.0 entries.old.items at
         → AreDifferent t.terms → IsIn t id → HasVariables t (live entries.old.items)
         → Comes (joined (way_meant way) (term_at t id) (fraction k) (variables_meant t (live entries.old.items)))
@@ -152,6 +243,9 @@ fn join_at(
     if !is_zero(sum) {
         return Ok(());
     }
+    if entries.len() <= FEW {
+        return Ok(());
+    }
     places.remove(&id.0);
     Ok(())
 }
@@ -163,8 +257,8 @@ fn join_entry(
     way: FormJoin,
     entry: (TermId, Ratio),
 ) -> Result<(), FormStop>
-    requires index { IsIndex (get nat_eq places.old) entries.old.items }
-    ensures index { IsIndex (get nat_eq places.new) entries.new.items }
+    requires index { IsKept (get nat_eq places.old) entries.old.items }
+    ensures index { IsKept (get nat_eq places.new) entries.new.items }
     ensures comes { (t : TableView) → AreDifferent t.terms → HasVariables t (live entries.old.items)
         → HasVariables t (live (entry ∷ []))
         → Comes (all_joined (way_meant way) (variables_meant t (live entries.old.items))
@@ -186,8 +280,8 @@ pub fn join_all(
     way: FormJoin,
     others: &[(TermId, Ratio)],
 ) -> Result<(), FormStop>
-    requires index { IsIndex (get nat_eq places.old) entries.old.items }
-    ensures index { IsIndex (get nat_eq places.new) entries.new.items }
+    requires index { IsKept (get nat_eq places.old) entries.old.items }
+    ensures index { IsKept (get nat_eq places.new) entries.new.items }
     ensures comes { (t : TableView) → AreDifferent t.terms → HasVariables t (live entries.old.items)
         → HasVariables t (live others.now)
         → Comes (all_joined (way_meant way) (variables_meant t (live entries.old.items))
@@ -208,10 +302,10 @@ fn change_entry(
     change: FormChange,
     entry: (TermId, Ratio),
 ) -> Result<(), FormStop>
-    requires index { IsIndex (get nat_eq places.old) entries.old.items }
+    requires index { IsKept (get nat_eq places.old) entries.old.items }
     requires change { CanChange change }
     requires new { is_zero (fraction entry.1) ≡ false → LacksNumber entry.0.0 (live entries.old.items) }
-    ensures index { IsIndex (get nat_eq places.new) entries.new.items }
+    ensures index { IsKept (get nat_eq places.new) entries.new.items }
     ensures comes { (t : TableView) → Comes (with_front (variables_meant t (live entries.old.items))
         (each_number (change_meant change) (variables_meant t (live (entry ∷ [])))))
         result (variables_meant t (live entries.new.items)) }
@@ -239,10 +333,10 @@ pub fn change_all(
     others: &[(TermId, Ratio)],
 ) -> Result<(), FormStop>
     requires empty { entries.old.items ≡ [] }
-    requires index { IsIndex (get nat_eq places.old) entries.old.items }
+    requires index { IsKept (get nat_eq places.old) entries.old.items }
     requires change { CanChange change }
     requires others { (g : ℕ → Option ℕ) × IsIndex g others.now }
-    ensures index { IsIndex (get nat_eq places.new) entries.new.items }
+    ensures index { IsKept (get nat_eq places.new) entries.new.items }
     ensures comes { (t : TableView) → Comes (each_number (change_meant change) (variables_meant t (live others.now)))
         result (variables_meant t (live entries.new.items)) }
     ensures there { OnOk result ((t : TableView) → HasVariables t (live others.now)

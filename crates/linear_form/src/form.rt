@@ -21,7 +21,7 @@ use term_core::TermId;
 
 /// Holds a constant, and variables with coefficients other than 0, in their order.
 ///
-/// A variable is looked up by a hash of its number.
+/// A variable is looked up by a hash of its number where there are many, and one by one else.
 #[derive(Drop)]
 pub struct Form {
     constant: Ratio,
@@ -34,13 +34,13 @@ impl Model for Form {
     ghost use Rattle.std.specs.HashMap.{get};
     ghost use Rattle.ratio128.specs.Meant.{fraction};
     ghost use Rattle.linear_form.specs.Meant.{FormView};
-    ghost use Rattle.linear_form.specs.Entries.{live, IsIndex};
+    ghost use Rattle.linear_form.specs.Entries.{live, IsKept};
 
     ghost Value = { FormView };
 
     ghost view = { λ f. record { constant = fraction f.constant; variables = live f.entries.items } };
 
-    ghost invariant = { λ f. IsIndex (get nat_eq f.places) f.entries.items };
+    ghost invariant = { λ f. IsKept (get nat_eq f.places) f.entries.items };
 }
 
 impl Form {

@@ -1,10 +1,14 @@
 -- There is one entry, whose coefficient is 1.
-use Rattle.std.proofs.Common.{◌≡◌, ◌∷◌, ◌++◌, [], false, refl, sym, ap, ◌∙◌, subst}
+use Rattle.std.proofs.Common.{◌≡◌, ◌∷◌, ◌++◌, [], false, nat_eq, refl, sym, ap, ◌∙◌, subst}
+use Rattle.std.specs.HashMap.{get}
 use Rattle.spec_numbers.specs.Fractions.{one_fraction}
 use Rattle.spec_arithmetic.specs.Signs.{is_zero}
 use Rattle.linear_form.specs.Entries.{live, variables_meant}
-use Rattle.linear_form.proofs.Indexes.{live_one}
+use Rattle.linear_form.proofs.Indexes.{live_one, kept_empty}
 use Rattle.linear_form.proofs.form.variable_alone.Goals as goal
+
+pub push_entry-requires-clause-index : goal.push_entry-requires-clause-index
+push_entry-requires-clause-index c = kept_empty (get nat_eq c.new-places.result) c.new-entries.result.items c.new-entries.ensures.items
 
 pub push_entry-requires-clause-not_zero : goal.push_entry-requires-clause-not_zero
 unfolding is_zero
