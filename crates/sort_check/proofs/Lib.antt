@@ -23,3 +23,6 @@ pub mod Definitions
 pub mod FreeNames
 pub mod Looking
 pub mod Scoping
+pub mod Pairs
+pub mod Refused
+pub mod Counting

@@ -8,3 +8,4 @@ pub mod Steps
 pub mod Rows
 pub mod Defining
 pub mod Mentions
+pub mod TooMany

@@ -7,6 +7,7 @@
 mod applied;
 mod bindings;
 mod defining;
+mod distinct;
 mod frames;
 mod mentions;
 mod naming;

@@ -11,7 +11,8 @@ ghost use Rattle.sort_check.specs.Reads.{room_meant, parts_meant, roomy_reading,
 
 use crate::bindings::Bindings;
 use crate::defining::read_definition;
-use crate::sorted::{read_term, read_terms};
+use crate::distinct::read_fitting;
+use crate::sorted::read_terms;
 use crate::walk::read;
 use smt_sexpr::{Trees, Word};
 use std::alloc::Global;
@@ -50,7 +51,8 @@ pub struct FunctionParts<'a> {
 ///   then comes the body. In `!` the term comes before the attributes, and for `:named` its name (`Reserved`, `Twice`),
 ///   then `BadShape` at the list where the term may get none. `NumberWide` comes at a literal.
 /// - `Fault` with `WrongSort` at the tree comes then where the term has another sort; `Full` at the room's offset where
-///   there are more names or different subterms than the limit says.
+///   there are more names or different subterms than the limit says. A tree that is one `distinct` has too many where it
+///   has n different arguments and n * n - n is over the limit. Then its pairs are not made.
 /// - `Memory` may come at any allocation, and says nothing of the text.
 ///
 /// After each of these table and scope are as they were. Time goes with the text and the terms that it is read as, and
@@ -77,7 +79,7 @@ pub fn term(
     let count = table.len();
     let sorts = scope.sorts_len();
     let names = scope.len();
-    match read_term(alloc, table, scope, setting, sort, tree, room) {
+    match read_fitting(alloc, table, scope, setting, sort, tree, room) {
         Ok(id) => Ok(id),
         Err(stop) => {
             table.cut(count);
