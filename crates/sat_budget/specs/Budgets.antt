@@ -4,24 +4,22 @@ use Rattle.std.specs.declared.alloc.Global.{Global}
 use Rattle.term_core.specs.declared.ids.Lit.{Lit}
 use Rattle.sat_budget.specs.declared.limits.Strain.{Strain}
 use Rattle.sat_budget.specs.declared.limits.Stop.{Stop}
-use Rattle.sat_budget.specs.declared.limits.Stop.TheVariants.{Strained, Pivots}
+use Rattle.sat_budget.specs.declared.limits.Stop.TheVariants.{Strained}
 use Rattle.sat_budget.specs.declared.limits.Stop.TheVariants as stops
 use Rattle.sat_budget.specs.declared.limits.BudgetStop.{BudgetStop}
 use Rattle.sat_budget.specs.declared.limits.BudgetStop.TheVariants.{Spent, Memory}
+use Rattle.no_memory.specs.declared.NoMemory.{NoMemory}
 
 -- each vector's list
 abbrev pub lists : {T : Type 0} → List (Vec T Global) → List (List T)
 lists vs = map (λ v. v.items) vs
 
--- The limits of a search on conflicts and on exchanges, the clauses that it has learned, and the exchanges that it has
--- made.
+-- The limit of a search on conflicts, the clauses that it has learned, and the exchanges that it has made.
 pub record BudgetView : Type 0 where
   -- how many clauses may be learned
   pub limit : ℕ
   -- the learned clauses, oldest first
   pub learned : List (List Lit)
-  -- how many exchanges may be made
-  pub pivots : ℕ
   -- the exchanges, oldest first: the variable that left the basis, and the one that entered it
   pub exchanges : List (ℕ × ℕ)
 
@@ -37,26 +35,16 @@ Learns old clause (Ok _) new = (length old.learned < old.limit)
 Learns old clause (Err (Spent n)) new = (length old.learned ≡ old.limit) × (n ≡ old.limit) × (new ≡ old)
 Learns old clause (Err Memory) new = (length old.learned < old.limit) × (new ≡ old)
 
--- an exchange is made last where there is room for it; it is refused where there is none, with the limit; where memory
--- runs out, nothing changes
-abbrev pub Exchanges : BudgetView → ℕ × ℕ → Result (Unit {0}) BudgetStop → BudgetView → Type 0
-Exchanges old pair (Ok _) new =
-    (length old.exchanges < old.pivots) × (new ≡ record old { exchanges = old.exchanges ++ pair ∷ [] })
-Exchanges old pair (Err (Spent n)) new = (length old.exchanges ≡ old.pivots) × (n ≡ old.pivots) × (new ≡ old)
-Exchanges old pair (Err Memory) new = (length old.exchanges < old.pivots) × (new ≡ old)
+-- an exchange is kept last; where memory runs out, nothing changes
+abbrev pub Exchanges : BudgetView → ℕ × ℕ → Result (Unit {0}) NoMemory → BudgetView → Type 0
+Exchanges old pair (Ok _) new = new ≡ record old { exchanges = old.exchanges ++ pair ∷ [] }
+Exchanges old pair (Err e) new = new ≡ old
 
 -- exchanges may have come after those that there were; nothing else changes
 abbrev pub Spends : BudgetView → BudgetView → Type 0
 Spends old new = (more : List (ℕ × ℕ)) × (new ≡ record old { exchanges = old.exchanges ++ more })
 
--- what shows a stop of a theory's call: what is to be shown of an overflow, and of the number of exchanges that is
--- their limit; memory may run
--- out anywhere
-abbrev pub StopsBy : (may_overflow : Strain → Type 0) → (spent : ℕ → Type 0) → Stop → Type 0
-StopsBy may_overflow spent (Strained s) = may_overflow s
-StopsBy may_overflow spent (Pivots n) = spent n
-StopsBy may_overflow spent stops.Memory = ⊤
-
--- so many exchanges are made, which is their limit, and a further one is needed
-abbrev pub AreSpent : (needs_more : Type 0) → BudgetView → ℕ → Type 0
-AreSpent needs_more budget n = needs_more × (n ≡ budget.pivots) × (length budget.exchanges ≡ n)
+-- what shows a stop of a theory's call: what is to be shown of an overflow; memory may run out anywhere
+abbrev pub StopsBy : (may_overflow : Strain → Type 0) → Stop → Type 0
+StopsBy may_overflow (Strained s) = may_overflow s
+StopsBy may_overflow stops.Memory = ⊤

@@ -1,4 +1,4 @@
-//! The budget of one search: of conflicts, and of exchanges.
+//! The budget of conflicts of one search, and the exchanges that it makes.
 
 ghost use Rattle.std.specs.Prelude.{◌≡◌, ◌<◌, ◌≤◌, [], length, get_or, slice_index_or, IfOk, MatchOption, MatchResult};
 ghost use Rattle.sat_budget.specs.Budgets.{Learns, Exchanges, no_exchange};
@@ -9,17 +9,15 @@ use std::alloc::Global;
 use std::marker::Model;
 use term_core::Lit;
 
-/// Holds the limits of one search on conflicts and on exchanges, the clauses that it has learned, and the exchanges that it has
-/// made, oldest first.
+/// Holds the limit of one search on conflicts, the clauses that it has learned, and the exchanges that it has made, oldest first.
 ///
-/// Each conflict that is learned from is a clause here, and each pivot of arithmetic an pivot of two variables by their
-/// numbers, so that what is spent can be seen.
+/// Each conflict that is learned from is a clause here, so that what is spent can be seen. Each pivot of arithmetic is an exchange of
+/// two variables by their numbers, so that an overflow can be followed. Exchanges have no limit, as each feasibility check ends.
 #[derive(Drop)]
 pub struct Budget {
     alloc: Global,
     limit: u64,
     learned: Vec<Vec<Lit>>,
-    pivots: u64,
     exchanges: Vec<(u64, u64)>,
 }
 
@@ -32,11 +30,10 @@ impl Model for Budget {
     ghost view = { λ b. record {
       limit = b.limit;
       learned = lists b.learned.items;
-      pivots = b.pivots;
       exchanges = b.exchanges.items;
     } };
 
-    ghost invariant = { λ b. (length b.learned.items ≤ b.limit) × (length b.exchanges.items ≤ b.pivots) };
+    ghost invariant = { λ b. length b.learned.items ≤ b.limit };
 }
 
 impl Budget {
@@ -47,7 +44,6 @@ impl Budget {
         ensures { MatchResult result (λ b. b ≡ record {
           limit = limits.now.conflicts;
           learned = [];
-          pivots = limits.now.pivots;
           exchanges = [];
         }) (λ _. ⊥) }
     {
@@ -55,7 +51,6 @@ impl Budget {
             alloc,
             limit: limits.conflicts,
             learned: Vec::new(alloc),
-            pivots: limits.pivots,
             exchanges: Vec::new(alloc),
         })
     }
@@ -104,14 +99,10 @@ impl Budget {
 
     /// Puts an exchange last: the variable that leaves the basis and the one that enters it, by their numbers.
     ///
-    /// `Spent` comes exactly where as many exchanges were made as the limit allows, and says that number; `Memory` where its place
-    /// finds no memory before that. After both the budget is as it was.
-    pub fn exchanged(&mut self, leaving: u64, entering: u64) -> Result<(), BudgetStop>
+    /// `NoMemory` comes where its place finds no memory; then the budget is as it was.
+    pub fn exchanged(&mut self, leaving: u64, entering: u64) -> Result<(), NoMemory>
         ensures { Exchanges self.old (leaving, entering) result self.new }
     {
-        if self.exchanges.len() as u64 >= self.pivots {
-            return Err(BudgetStop::Spent(self.pivots));
-        }
         self.exchanges.push((leaving, entering))?;
         Ok(())
     }
@@ -147,15 +138,13 @@ impl Budget {
             alloc: self.alloc,
             limit: self.limit,
             learned,
-            pivots: self.pivots,
             exchanges,
         })
     }
 
-    /// States that no more clauses are learned, and no more pivots made, than the limits allow.
+    /// States that no more clauses are learned than the limit allows.
     pub fn is_within(&self)
         ensures learned { length self.now.learned ≤ self.now.limit }
-        ensures exchanges { length self.now.exchanges ≤ self.now.pivots }
     {
         let _ = &self.limit;
     }

@@ -1,4 +1,4 @@
-//! What a search may spend, and the learned clauses and the exchanges that it has spent it on.
+//! What a search may spend, the learned clauses that it has spent it on, and the exchanges that it has made.
 #![tactic(auto)]
 
 mod budget;

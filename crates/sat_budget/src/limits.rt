@@ -1,4 +1,4 @@
-//! Limits of a search, and what is answered where one of them is reached.
+//! Limits of a search and of a script, and why a check comes to no answer.
 
 ghost use Rattle.std.specs.Prelude.{◌≡◌};
 
@@ -10,16 +10,13 @@ use thiserror::Error;
 
 /// Limits what a search may spend, and how much a script may ask to be held.
 ///
-/// Each search may spend `conflicts` and `pivots` anew; one that would pass either ends, and its check is answered `unknown`. A check may
-/// have several searches, called rounds. `terms` is not spent: a command that would pass it is refused with the fault `Full`, and no
-/// check ends by it.
+/// Each search may spend `conflicts` anew; one that would pass it ends, and its check is answered `unknown`. A check may have several
+/// searches, called rounds. `terms` is not spent: a command that would pass it is refused with the fault `Full`, and no check ends by it.
 /// Source: SMT-LIB 2.6, section 4.1.7, for the option of a limit on what is spent.
 #[derive(Clone, Copy, Debug, PartialEq, Eq)]
 pub struct Limits {
     /// How many conflicts may be learned from, each as a clause, from 0.
     pub conflicts: u64,
-    /// How many pivots arithmetic may make, each of which exchanges two variables, from 0.
-    pub pivots: u64,
     /// How many different subterms the terms of one command may have, all together; and how many names of a script may be live at once.
     /// Each from 0.
     pub terms: u64,
@@ -52,8 +49,6 @@ pub enum Reason {
     Overflow(Strain),
     /// So many conflicts were learned from, which is their limit.
     Conflicts(u64),
-    /// So many pivots were made, which is their limit.
-    Pivots(u64),
 }
 
 /// Says why a theory's call came to no end.
@@ -62,9 +57,6 @@ pub enum Stop {
     /// An operation on fractions leaves 128 bits.
     #[error("a number leaves 128 bits")]
     Strained(Strain),
-    /// The limit on exchanges, which is this number, is reached, and a further one is needed.
-    #[error("the budget of {0} pivots is spent")]
-    Pivots(u64),
     /// Memory ran out.
     #[error("out of memory")]
     Memory,
@@ -80,10 +72,10 @@ impl From<NoMemory> for Stop {
     }
 }
 
-/// Says why a clause is not learned, or an exchange not made.
+/// Says why a clause is not learned.
 #[derive(Clone, Copy, Debug, PartialEq, Eq, Error)]
 pub enum BudgetStop {
-    /// The limit, this number of conflicts or of exchanges, is reached.
+    /// The limit, this number of conflicts, is reached.
     #[error("the budget of {0} is spent")]
     Spent(u64),
     /// Memory ran out.
