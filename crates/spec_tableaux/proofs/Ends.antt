@@ -11,7 +11,7 @@ use Rattle.spec_tableaux.proofs.Steps.{basic_after, entering_basic}
 use Rattle.spec_tableaux.proofs.Returns.{says_pivot, one_step, no_return, reached, Reached}
 
 -- one exchange more at the end
-makes_more : {A V : Type 0} (s : Space A V) (ranges : ℕ → Range V) (t u w : State A V) (es : List (ℕ × ℕ)) (b x : ℕ) → MakesPivots s ranges t es u → RuleSays s ranges u (exchange b x) → Exchanges s ranges u b x w → MakesPivots s ranges t (es ++ (b, x) ∷ []) w
+pub makes_more : {A V : Type 0} (s : Space A V) (ranges : ℕ → Range V) (t u w : State A V) (es : List (ℕ × ℕ)) (b x : ℕ) → MakesPivots s ranges t es u → RuleSays s ranges u (exchange b x) → Exchanges s ranges u b x w → MakesPivots s ranges t (es ++ (b, x) ∷ []) w
 makes_more s ranges t u w [] b x m says e = (subst (λ z. RuleSays s ranges z (exchange b x)) (sym m) says, (w, subst (λ z. Exchanges s ranges z b x w) (sym m) e, refl))
 makes_more s ranges t u w (f ∷ es) b x m says e = (m.0, (m.1.0, m.1.1, makes_more s ranges m.1.0 u w es b x m.1.2 says e))
 

@@ -15,3 +15,6 @@ pub mod PairSolutions
 pub mod UpdatingNonbasic
 pub mod Returns
 pub mod Ends
+pub mod Cycles
+pub mod RowVariables
+pub mod Repeats

@@ -26,6 +26,10 @@ one_tells_apart f l = record { same = λ a b e. sym (times_one a) ∙ e ∙ time
     times_one : (a : _) → f.times a f.one ≡ a
     times_one a = l.product_commutative a f.one ∙ l.product_one a
 
+-- so does the pair of one and nothing
+pub pair_tells_apart : {A : Type 0} (f : Field A) → IsOrderedField f → TellsApart (pairs f) (record { base = f.one; tilt = f.zero })
+pair_tells_apart f l = record { same = λ a b e. (one_tells_apart f l).same a b (ap (λ (p : Pair _). p.base) e) }
+
 -- k that is neither 0 nor above it is below
 negative_of : {A : Type 0} (f : Field A) → IsOrderedField f → (k : A) → f.is_zero k ≡ false → f.is_negative (f.opposite k) ≡ false → f.is_negative k ≡ true
 negative_of f l k z p = by (f.is_negative k) refl

@@ -21,7 +21,7 @@ nonzero_of s range x up c h = by (s.numbers.is_zero c) h
     by true h = absurd (cc)
     by false h = refl
 
-over_entry : {A V : Type 0} (s : Space A V) → IsSpace s → (p : ℕ → Type 0) (x : ℕ) (es : List (Entry A)) → AllVariables p es → s.numbers.is_zero (coefficient_of s.numbers x es) ≡ false → p x
+pub over_entry : {A V : Type 0} (s : Space A V) → IsSpace s → (p : ℕ → Type 0) (x : ℕ) (es : List (Entry A)) → AllVariables p es → s.numbers.is_zero (coefficient_of s.numbers x es) ≡ false → p x
 over_entry s l p x [] o z = absurd (let k = l.numbers.zero_is_zero in cc)
 over_entry s l p x (e ∷ es) o z = by (e.variable == x) refl (over_entry s l p x es o.1) z
   where

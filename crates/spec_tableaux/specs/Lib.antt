@@ -6,6 +6,7 @@ pub mod Rows
 pub mod SolvedForms
 pub mod Ranges
 pub mod LeastVariable
+pub mod States
 pub mod Numbers
 pub mod CheckOverflows
 pub mod Examples

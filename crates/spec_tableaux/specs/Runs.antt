@@ -5,6 +5,7 @@ use Rattle.spec_tableaux.specs.Rows.{Solves}
 use Rattle.spec_tableaux.specs.SolvedForms.{IsNonbasic}
 use Rattle.spec_tableaux.specs.Ranges.{value_in_range}
 use Rattle.spec_tableaux.specs.LeastVariable.{RuleSays, MakesPivots, UpdatesNonbasic, exchange}
+use Rattle.spec_tableaux.specs.States.{RepeatsNoState}
 use Rattle.spec_tableaux.specs.Points.{deltas, Ranges, AssignmentState}
 
 -- Of the nonbasic variables those below n that violated a bound went to it, and the others are as they were.
@@ -42,8 +43,8 @@ pub data Stopped (ranges : Ranges) (t u : AssignmentState) (old new : List (ℕ 
   -- in an exchange
   exchanging : RanShort ranges t u old new → Stopped ranges t u old new
 
--- The rule says a further exchange.
-pub record WantsMore (ranges : Ranges) (u : AssignmentState) : Type 0 where
-  pub leaving : ℕ
-  pub entering : ℕ
-  pub says : RuleSays deltas ranges u (exchange leaving entering)
+-- a check from t on, which kept exchanges after the old ones, comes to no state twice by them
+abbrev pub CheckRepeatsNoState : Ranges → AssignmentState → (old new : List (ℕ × ℕ)) → Type 0
+CheckRepeatsNoState ranges t old new =
+    (start : AssignmentState) (made : List (ℕ × ℕ)) → UpdatesNonbasic deltas ranges t start → new ≡ old ++ made
+    → RepeatsNoState deltas ranges start made

@@ -1,15 +1,16 @@
 //! Laws of rows and of the least-variable rule: functions with empty bodies, whose clauses are proved of the
 //! definitions. `A` are the numbers of an ordered field, and `V` values that they scale.
 
-ghost use Rattle.std.specs.Prelude.{◌≡◌, ◌↔◌, ℕ, ◌<◌, ◌^◌, ◌==◌, true, false, List, length};
+ghost use Rattle.std.specs.Prelude.{◌≡◌, ◌↔◌, ℕ, ◌<◌, ◌^◌, ◌==◌, true, false, List, [], length};
 ghost use Rattle.spec_tableaux.specs.Fields.{Field, IsOrderedField};
 ghost use Rattle.spec_tableaux.specs.Spaces.{Space, Pair, IsSpace, IsOrdered, TellsApart, space_difference, as_space, pairs};
 ghost use Rattle.spec_tableaux.specs.Rows.{Entry, Row, sum_of, coefficient_of, row_of, is_basic, exchanged};
 ghost use Rattle.spec_tableaux.specs.Rows.{with_row, Holds, Solves};
 ghost use Rattle.spec_tableaux.specs.SolvedForms.{AllVariables, AllRowVariables, IsNonbasic, IsSolved, IsPivot, extended};
 ghost use Rattle.spec_tableaux.specs.Ranges.{Range, AreStopped, Meets, is_crossed, value_in_range};
-ghost use Rattle.spec_tableaux.specs.LeastVariable.{State, done, crossed, stuck, exchange, goes_up, distance, moved};
+ghost use Rattle.spec_tableaux.specs.LeastVariable.{State, Move, done, crossed, stuck, exchange, goes_up, distance, moved};
 ghost use Rattle.spec_tableaux.specs.LeastVariable.{RuleSays, Exchanges, MakesPivots, Moves, UpdatesNonbasic, IsNonbasicFeasible, AreUnder};
+ghost use Rattle.spec_tableaux.specs.States.{AreSameState, AreBelow, RepeatsNoState, NeverReturns};
 ghost use Rattle.spec_tableaux.specs.Numbers.{numbers};
 
 /// States that an ordered field is an ordered space over itself, and that such a field can compare its numbers.
@@ -19,10 +20,11 @@ pub fn fields_are_ordered_spaces<A>()
     ensures one { (f : Field A) → IsOrderedField f → TellsApart (as_space f) f.one }
 {}
 
-/// States that pairs of a base and a tilt are an ordered space over the field.
+/// States that pairs of a base and a tilt are an ordered space over the field, and that it can compare its numbers.
 pub fn pairs_are_an_ordered_space<A>()
     ensures space { (f : Field A) → IsOrderedField f → IsSpace (pairs f) }
     ensures ordered { (f : Field A) → IsOrderedField f → IsOrdered (pairs f) }
+    ensures one { (f : Field A) → IsOrderedField f → TellsApart (pairs f) (record { base = f.one; tilt = f.zero }) }
 {}
 
 /// States that fractions in lowest terms are an ordered field.
@@ -132,7 +134,24 @@ pub fn exchanges_are_made<A, V>()
 
 /// States that the least-variable rule ends: over n variables it makes fewer than 3^n exchanges. Source: Bland 1977.
 pub fn the_rule_ends<A, V>()
-    ensures { (s : Space A V) → IsSpace s → IsOrdered s → (ranges : ℕ → Range V) (n : ℕ) (t u : State A V)
+    ensures under { (s : Space A V) → IsSpace s → IsOrdered s → (ranges : ℕ → Range V) (n : ℕ) (t u : State A V)
         → (es : List (ℕ × ℕ)) → IsSolved s.numbers t.rows → IsNonbasicFeasible s ranges t → MakesPivots s ranges t es u
         → AreUnder n es → length es < 3 ^ n }
+    ensures below { (s : Space A V) → IsSpace s → IsOrdered s → (ranges : ℕ → Range V) (n : ℕ) (t u : State A V)
+        → (es : List (ℕ × ℕ)) → IsSolved s.numbers t.rows → IsNonbasicFeasible s ranges t → AreBelow n t.rows
+        → MakesPivots s ranges t es u → length es < 3 ^ n }
+{}
+
+/// States that the least-variable rule comes to no state twice: where exchanges that it says lead to the same basic
+/// variables with the same values of the nonbasic ones, there are none. The same holds of each part of such exchanges,
+/// and what it says next leads to no state from which it came. Source: Bland 1977.
+pub fn no_state_comes_twice<A, V>()
+    ensures ends { (s : Space A V) → IsSpace s → IsOrdered s → (one : V) → TellsApart s one → (ranges : ℕ → Range V)
+        → (t u : State A V) (es : List (ℕ × ℕ)) → IsSolved s.numbers t.rows → IsNonbasicFeasible s ranges t
+        → MakesPivots s ranges t es u → AreSameState t u → es ≡ [] }
+    ensures parts { (s : Space A V) → IsSpace s → IsOrdered s → (one : V) → TellsApart s one → (ranges : ℕ → Range V)
+        → (t u : State A V) (es : List (ℕ × ℕ)) → IsSolved s.numbers t.rows → IsNonbasicFeasible s ranges t
+        → MakesPivots s ranges t es u → RepeatsNoState s ranges t es }
+    ensures moves { (s : Space A V) → IsSpace s → IsOrdered s → (one : V) → TellsApart s one → (ranges : ℕ → Range V)
+        → (u : State A V) (m : Move) → RuleSays s ranges u m → NeverReturns s ranges u m }
 {}
