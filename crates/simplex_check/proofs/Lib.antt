@@ -10,3 +10,4 @@ pub mod Suspecting
 pub mod KeptFirst
 pub mod UpdatingNonbasic
 pub mod Runs
+pub mod Repeats

@@ -3,12 +3,12 @@ use Rattle.std.proofs.Common.{◌≡◌, ℕ, zero, suc, ◌<◌, Bool, false, L
 use Rattle.std.proofs.lemmas.List.{get_or-map}
 use Rattle.std.proofs.lemmas.Bool.Decides.{nat_tests}
 use Rattle.delta_num.specs.declared.delta.Delta.{Delta}
-use Rattle.spec_tableaux.specs.Spaces.{Pair, IsSpace, IsOrdered}
+use Rattle.spec_tableaux.specs.Spaces.{Pair, IsSpace, IsOrdered, TellsApart}
 use Rattle.spec_tableaux.specs.Fields.{is_positive}
 use Rattle.spec_tableaux.specs.Ranges.{Range, can_rise, can_fall, moves_by}
 use Rattle.spec_tableaux.specs.Numbers.{Number, numbers}
 use Rattle.spec_tableaux.proofs.Numbers.{numbers_are_ordered_field}
-use Rattle.spec_tableaux.proofs.OrderedSpaces.{pairs_are_space, pairs_are_ordered}
+use Rattle.spec_tableaux.proofs.OrderedSpaces.{pairs_are_space, pairs_are_ordered, pair_tells_apart}
 use Rattle.simplex_bounds.specs.Deltas.{pair_of}
 use Rattle.spec_tableaux.specs.Points.{deltas, point_in}
 
@@ -17,6 +17,13 @@ deltas_are_space = pairs_are_space numbers numbers_are_ordered_field
 
 pub deltas_are_ordered : IsOrdered deltas
 deltas_are_ordered = pairs_are_ordered numbers numbers_are_ordered_field
+
+-- one, without an infinitesimal part
+abbrev pub delta_one : Pair Number
+delta_one = record { base = numbers.one; tilt = numbers.zero }
+
+pub one_tells_apart : TellsApart deltas delta_one
+one_tells_apart = pair_tells_apart numbers numbers_are_ordered_field
 
 -- points that agree everywhere are one
 pub same_point : {V : Type 0} (u v : ℕ → V) → ((y : ℕ) → u y ≡ v y) → u ≡ v

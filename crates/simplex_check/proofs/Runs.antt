@@ -1,11 +1,11 @@
 -- Exchanges one after the other, and how a check ends.
-use Rattle.std.proofs.Common.{◌≡◌, ℕ, ◌+◌, ◌<◌, ◌≤◌, List, [], ◌∷◌, ◌++◌, length, Err, inr, refl, sym, ◌∙◌, ap, arith, subst, append_assoc}
+use Rattle.std.proofs.Common.{◌≡◌, ℕ, List, [], ◌∷◌, ◌++◌, Err, inr, refl, sym, ◌∙◌, ap, subst, append_assoc}
 use Rattle.ratio128.specs.Meant.{overflow}
 use Rattle.ratio128.specs.declared.wide.Wide.{Wide as WideType}
 use Rattle.spec_tableaux.specs.LeastVariable.{RuleSays, Exchanges, MakesPivots, UpdatesNonbasic, exchange}
 use Rattle.sat_budget.specs.Budgets.{BudgetView}
 use Rattle.sat_budget.specs.declared.limits.Stop.{Stop}
-use Rattle.sat_budget.specs.declared.limits.Stop.TheVariants.{Strained, Pivots}
+use Rattle.sat_budget.specs.declared.limits.Stop.TheVariants.{Strained}
 use Rattle.sat_budget.specs.declared.limits.Stop.TheVariants as stops
 use Rattle.tableau.specs.Views.{OnRowOverflow}
 use Rattle.tableau.specs.declared.stops.RowStop.{RowStop}
@@ -16,7 +16,7 @@ use Rattle.spec_tableaux.specs.BoundsOverflows.{CheckOverflows}
 use Rattle.simplex_check.specs.Ends.{StopsStep, StopsUpdating, IsStopOf, EndsCheck}
 use Rattle.spec_tableaux.specs.Runs.{Ran, RanShort, updating_nonbasic, exchanging}
 
-append_nil : (xs : List (ℕ × ℕ)) → xs ++ [] ≡ xs
+pub append_nil : (xs : List (ℕ × ℕ)) → xs ++ [] ≡ xs
 append_nil [] = refl
 append_nil (x ∷ xs) = ap (λ z. x ∷ z) (append_nil xs)
 
@@ -55,34 +55,20 @@ ran_short ranges t b c old now new e r k says s = record {
 -- the stop of a step, with the basis
 pub stops_step : (ranges : Ranges) (b : AssignmentView) (e : RowStop) (s : Stop) → OnRowOverflow (CheckOverflows ranges (state_of b)) e → IsStopOf b e s → StopsStep ranges b s
 stops_step ranges b (row_stops.Wide w) (Strained s) h i = (subst (λ (w : WideType). CheckOverflows ranges (state_of b) (overflow w)) (sym i.0) h, i.1)
-stops_step ranges b (row_stops.Wide w) (Pivots n) h i = i
 stops_step ranges b (row_stops.Wide w) stops.Memory h i = tt
 stops_step ranges b row_stops.Memory (Strained s) h i = absurd i
-stops_step ranges b row_stops.Memory (Pivots n) h i = i
 stops_step ranges b row_stops.Memory stops.Memory h i = tt
 
 -- a stop on the way to the bounds
 pub ends_updating : (ranges : Ranges) (b c : AssignmentView) (old : BudgetView) (s : Stop) → StopsUpdating ranges b c s → EndsCheck ranges b c old old (Err s)
 ends_updating ranges b c old (Strained s) h = (updating_nonbasic h.0.0 h.0.1 refl, h.1)
-ends_updating ranges b c old (Pivots n) h = absurd h.1
 ends_updating ranges b c old stops.Memory h = inr (updating_nonbasic h.0.0 h.0.1 refl)
 
 -- a stop in an exchange
 pub ends_exchanging : (ranges : Ranges) (b c : AssignmentView) (old new : BudgetView) (s : Stop) → RanShort ranges (state_of b) (state_of c) old.exchanges new.exchanges → StopsStep ranges c s → EndsCheck ranges b c old new (Err s)
 ends_exchanging ranges b c old new (Strained s) r h = (exchanging r, h)
-ends_exchanging ranges b c old new (Pivots n) r h = absurd h
 ends_exchanging ranges b c old new stops.Memory r h = inr (exchanging r)
 
 -- a budget in which exchanges alone came
 pub budget_more : (f n m : BudgetView) (es : List (ℕ × ℕ)) → n ≡ record f { exchanges = n.exchanges } → m ≡ record n { exchanges = es } → m ≡ record f { exchanges = m.exchanges }
 budget_more f n m es a e = e ∙ ap (λ (b : BudgetView). record b { exchanges = es }) a ∙ ap (λ xs. record f { exchanges = xs }) (sym (ap (λ (b : BudgetView). b.exchanges) e))
-
-pub budget_within : (n m : BudgetView) (e : ℕ × ℕ) → length n.exchanges < n.pivots → m ≡ record n { exchanges = n.exchanges ++ e ∷ [] } → length m.exchanges ≤ m.pivots
-budget_within n m e h k =
-    let a : length m.exchanges ≡ length n.exchanges + 1 = ap (λ (b : BudgetView). length b.exchanges) k ∙ length_push n.exchanges in
-    let b : m.pivots ≡ n.pivots = ap (λ (b : BudgetView). b.pivots) k in
-    omega arith
-  where
-    length_push : (xs : List (ℕ × ℕ)) → length (xs ++ e ∷ []) ≡ length xs + 1
-    length_push [] = refl
-    length_push (x ∷ xs) = let h : length (xs ++ e ∷ []) ≡ length xs + 1 = length_push xs in omega arith

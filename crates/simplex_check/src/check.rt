@@ -1,8 +1,9 @@
 //! The feasibility check.
 
-ghost use Rattle.std.specs.Prelude.{◌≡◌, ◌≤◌, ◌<◌, ℕ, true, OnOk, OnErr, IfOk, IfErr};
+ghost use Rattle.std.specs.Prelude.{◌≡◌, ◌≤◌, ◌<◌, ◌+◌, ◌^◌, ℕ, true, length, OnOk, OnErr, IfOk, IfErr};
 ghost use Rattle.spec_tableaux.specs.LeastVariable.{RuleSays, Exchanges, UpdatesNonbasic, exchange};
 ghost use Rattle.spec_tableaux.specs.Points.{deltas};
+ghost use Rattle.spec_tableaux.specs.Runs.{CheckRepeatsNoState};
 ghost use Rattle.simplex_bounds.specs.Held.{ranges_in};
 ghost use Rattle.simplex_check.specs.Assignments.{IsRealAssignment, state_of};
 ghost use Rattle.simplex_check.specs.Ends.{EndsCheck, StopsStep, StopsUpdating};
@@ -12,7 +13,7 @@ use crate::assignment::RealAssignment;
 use crate::rule::Move;
 use crate::suspects::Suspects;
 use no_memory::NoMemory;
-use sat_budget::{Budget, BudgetStop, Stop};
+use sat_budget::{Budget, Stop};
 use simplex_bounds::Bounds;
 
 /// Says what a check found.
@@ -120,18 +121,66 @@ impl RealAssignment {
     /// goes to it, and variables are exchanged as `next_move` says, until it says none. Each exchange is kept in the
     /// budget, and made then. The values keep each bound after `Fine`; after `Conflict` and `Crossed` none do.
     ///
-    /// `Pivots` comes exactly where a further exchange is needed and the budget has no room for it. `Strained` comes
-    /// where a number leaves the bound on fractions, with the basic variables and the values at which it did; the
-    /// exchange that is kept last may not have been made then. `Memory` comes where there is no memory.
-    /// Source: Dutertre and de Moura, A Fast Linear-Arithmetic Solver for DPLL(T), CAV 2006.
+    /// The exchanges lead to no state twice, that is to the same basic variables with the same values of the nonbasic
+    /// ones, and over n variables they are fewer than 3^n. So each check comes to an end.
+    ///
+    /// `Strained` comes where a number leaves the bound on fractions, with the basic variables and the values at which
+    /// it did; the exchange that is kept last may not have been made then. `Memory` comes where there is no memory.
+    /// Source: Dutertre and de Moura, A Fast Linear-Arithmetic Solver for DPLL(T), CAV 2006; Bland, New finite pivoting
+    /// rules for the simplex method, 1977.
     pub fn check(&mut self, bounds: &Bounds, budget: &mut Budget) -> Result<CheckOutcome, Stop>
         requires { bounds.now.variables ≤ self.old.tableau.variables }
         ensures ends { EndsCheck (ranges_in bounds.now.held) self.old self.new budget.old budget.new result }
         ensures variables { self.new.tableau.variables ≡ self.old.tableau.variables }
         ensures listed { self.new.tableau.listed ≡ self.old.tableau.listed }
         ensures budget { budget.new ≡ record budget.old { exchanges = budget.new.exchanges } }
+        ensures no_state_twice { CheckRepeatsNoState (ranges_in bounds.now.held) (state_of self.old)
+            budget.old.exchanges budget.new.exchanges }
+        ensures few { length budget.new.exchanges
+            < length budget.old.exchanges + 3 ^ self.old.tableau.variables }
     {
         self.check_after(bounds, 0, budget)
+    }
+
+    /// Makes the steps of `check_after`.
+    fn run_after(
+        &mut self,
+        bounds: &Bounds,
+        kept: u64,
+        budget: &mut Budget,
+    ) -> Result<CheckOutcome, Stop>
+        requires known { bounds.now.variables ≤ self.old.tableau.variables }
+        requires kept { KeepsFirst kept bounds.now.held self.old.values }
+        ensures ends { EndsCheck (ranges_in bounds.now.held) self.old self.new budget.old budget.new result }
+        ensures variables { self.new.tableau.variables ≡ self.old.tableau.variables }
+        ensures listed { self.new.tableau.listed ≡ self.old.tableau.listed }
+        ensures budget { budget.new ≡ record budget.old { exchanges = budget.new.exchanges } }
+    {
+        self.tableau().rows_are_in_solved_form();
+        if let Some(y) = bounds.crossed() {
+            return Ok(CheckOutcome::Crossed(y));
+        }
+        let mut suspects = match self.update_nonbasic(bounds, kept) {
+            Ok(suspects) => suspects,
+            Err(stop) => return Err(stop),
+        };
+        'steps: loop {
+            match self.next_among(bounds, &mut suspects) {
+                Move::Done => return Ok(CheckOutcome::Fine),
+                Move::Crossed(y) => return Ok(CheckOutcome::Crossed(y)),
+                Move::Conflict(b) => return Ok(CheckOutcome::Conflict(b)),
+                Move::Exchange(leaving, entering) => {
+                    match budget.exchanged(leaving, entering) {
+                        Ok(()) => {}
+                        Err(_) => return Err(Stop::Memory),
+                    }
+                    match self.exchange_or_stop(bounds, leaving, entering, &mut suspects) {
+                        Ok(()) => {}
+                        Err(stop) => return Err(stop),
+                    }
+                }
+            }
+        }
     }
 
     /// Does what `check` does, where the values keep the first bounds, as many as `kept` says. It looks at no others than
@@ -148,32 +197,12 @@ impl RealAssignment {
         ensures variables { self.new.tableau.variables ≡ self.old.tableau.variables }
         ensures listed { self.new.tableau.listed ≡ self.old.tableau.listed }
         ensures budget { budget.new ≡ record budget.old { exchanges = budget.new.exchanges } }
+        ensures no_state_twice { CheckRepeatsNoState (ranges_in bounds.now.held) (state_of self.old)
+            budget.old.exchanges budget.new.exchanges }
+        ensures few { length budget.new.exchanges
+            < length budget.old.exchanges + 3 ^ self.old.tableau.variables }
     {
-        if let Some(y) = bounds.crossed() {
-            return Ok(CheckOutcome::Crossed(y));
-        }
-        let mut suspects = match self.update_nonbasic(bounds, kept) {
-            Ok(suspects) => suspects,
-            Err(stop) => return Err(stop),
-        };
-        budget.is_within();
-        'steps: loop {
-            match self.next_among(bounds, &mut suspects) {
-                Move::Done => return Ok(CheckOutcome::Fine),
-                Move::Crossed(y) => return Ok(CheckOutcome::Crossed(y)),
-                Move::Conflict(b) => return Ok(CheckOutcome::Conflict(b)),
-                Move::Exchange(leaving, entering) => {
-                    match budget.exchanged(leaving, entering) {
-                        Ok(()) => {}
-                        Err(BudgetStop::Spent(n)) => return Err(Stop::Pivots(n)),
-                        Err(BudgetStop::Memory) => return Err(Stop::Memory),
-                    }
-                    match self.exchange_or_stop(bounds, leaving, entering, &mut suspects) {
-                        Ok(()) => {}
-                        Err(stop) => return Err(stop),
-                    }
-                }
-            }
-        }
+        self.tableau().rows_are_in_solved_form();
+        self.run_after(bounds, kept, budget)
     }
 }

@@ -3,6 +3,7 @@
 ghost use Rattle.std.specs.Prelude.{◌≡◌, ℕ, List, false, MatchOption};
 ghost use Rattle.spec_tableaux.specs.Ranges.{is_crossed};
 ghost use Rattle.spec_tableaux.specs.LeastVariable as rule;
+ghost use Rattle.spec_tableaux.specs.States.{NeverReturns};
 ghost use Rattle.spec_tableaux.specs.Points.{deltas};
 ghost use Rattle.simplex_bounds.specs.Held.{ranges_in};
 ghost use Rattle.simplex_check.specs.Assignments.{state_of};
@@ -74,10 +75,12 @@ impl RealAssignment {
     /// Gives what the least-variable rule says. It takes no memory.
     ///
     /// Where bounds cross, it is the least variable whose bounds do. Else the least basic variable that violates a
-    /// bound leaves, and the least variable of its row that can move enters.
+    /// bound leaves, and the least variable of its row that can move enters. So an exchange leads to no state from which
+    /// the rule came here.
     /// Source: Bland, New finite pivoting rules for the simplex method, 1977.
     pub fn next_move(&self, bounds: &Bounds) -> Move
-        ensures { rule.RuleSays deltas (ranges_in bounds.now.held) (state_of self.now) (rule_move result) }
+        ensures says { rule.RuleSays deltas (ranges_in bounds.now.held) (state_of self.now) (rule_move result) }
+        ensures never_returns { NeverReturns deltas (ranges_in bounds.now.held) (state_of self.now) (rule_move result) }
     {
         if let Some(y) = bounds.crossed() {
             return Move::Crossed(y);

@@ -1,42 +1,16 @@
-use Rattle.std.proofs.Common.{◌∷◌, ◌++◌, [], ap, ◌∙◌, refl}
-use Rattle.tableau.specs.Views.{TableauView}
-use Rattle.sat_budget.specs.Budgets.{BudgetView}
+use Rattle.std.proofs.Common.{subst}
+use Rattle.tableau.specs.Views.{IsTableau}
 use Rattle.simplex_bounds.specs.Held.{ranges_in}
-use Rattle.simplex_check.specs.Assignments.{state_of}
-use Rattle.simplex_check.proofs.Runs.{ran_none, ran_more, ran_short, ends_updating, ends_exchanging, budget_more, budget_within}
+use Rattle.simplex_check.proofs.Repeats.{repeats_no_state, few_exchanges}
 use Rattle.simplex_check.proofs.assignment.RealAssignment.check_after.Goals as goal
 
-pub returns-in-Err-clause-ends : goal.returns-in-Err-clause-ends
-returns-in-Err-clause-ends c = ends_updating (ranges_in c.args.bounds.now.held) c.args.self.now c.update_nonbasic.new.self c.args.budget.now c.in-Err.stop c.in-Err.ensures.stops
+pub returns-clause-no_state_twice : goal.returns-clause-no_state_twice
+returns-clause-no_state_twice c =
+    let t = subst IsTableau c.tableau.ensures c.rows_are_in_solved_form.ensures in
+    repeats_no_state (ranges_in c.args.bounds.now.held) c.args.self.now c.run_after.new.self c.args.budget.now c.run_after.new.budget c.run_after.result t.solved c.run_after.ensures.ends
 
-pub steps-init : goal.steps-init
-steps-init c = record {
-  ran = ran_none (ranges_in c.args.bounds.now.held) (state_of c.args.self.now) (state_of c.update_nonbasic.new.self) c.args.budget.now.exchanges c.in-Ok.ensures.updates_nonbasic.0;
-  variables = ap (λ (t : TableauView). t.variables) c.update_nonbasic.ensures.tableau;
-  listed = ap (λ (t : TableauView). t.listed) c.update_nonbasic.ensures.tableau;
-  budget = refl;
-  suspect = c.in-Ok.ensures.updates_nonbasic.1;
-  uncrossed = c.in_default.ensures;
-  within = c.is_within.ensures.exchanges;
-}
-
-pub steps-preserved : goal.steps-preserved
-steps-preserved c =
-    let i = c.steps.invariant in
-    record {
-      ran = ran_more (ranges_in c.args.bounds.now.held) (state_of c.args.self.now) (state_of c.steps.self) (state_of c.exchange_or_stop.new.self) c.args.budget.now.exchanges c.steps.budget.exchanges c.exchanged.new.self.exchanges
-          (c.in-Exchange.leaving, c.in-Exchange.entering) i.ran (ap (λ (b : BudgetView). b.exchanges) c.in-Ok-exchanged.ensures.1) c.in-Exchange.ensures.says c.in-Ok-exchange_or_stop.ensures.made;
-      variables = c.in-Ok-exchange_or_stop.ensures.variables ∙ i.variables;
-      listed = c.in-Ok-exchange_or_stop.ensures.listed ∙ i.listed;
-      budget = budget_more c.args.budget.now c.steps.budget c.exchanged.new.self (c.steps.budget.exchanges ++ (c.in-Exchange.leaving, c.in-Exchange.entering) ∷ []) i.budget c.in-Ok-exchanged.ensures.1;
-      suspect = c.in-Ok-exchange_or_stop.ensures.suspect;
-      uncrossed = i.uncrossed;
-      within = budget_within c.steps.budget c.exchanged.new.self (c.in-Exchange.leaving, c.in-Exchange.entering) c.in-Ok-exchanged.ensures.0 c.in-Ok-exchanged.ensures.1;
-    }
-
-pub returns-in-Err-exchange_or_stop-clause-ends : goal.returns-in-Err-exchange_or_stop-clause-ends
-returns-in-Err-exchange_or_stop-clause-ends c =
-    ends_exchanging (ranges_in c.args.bounds.now.held) c.args.self.now c.exchange_or_stop.new.self c.args.budget.now c.exchanged.new.self c.in-Err-exchange_or_stop.stop
-    (ran_short (ranges_in c.args.bounds.now.held) (state_of c.args.self.now) c.steps.self c.exchange_or_stop.new.self c.args.budget.now.exchanges c.steps.budget.exchanges c.exchanged.new.self.exchanges
-    (c.in-Exchange.leaving, c.in-Exchange.entering) c.steps.invariant.ran (ap (λ (b : BudgetView). b.exchanges) c.in-Ok-exchanged.ensures.1) c.in-Exchange.ensures.says c.in-Err-exchange_or_stop.ensures.same)
-    c.in-Err-exchange_or_stop.ensures.stops
+pub returns-clause-few : goal.returns-clause-few
+returns-clause-few c =
+    let t = subst IsTableau c.tableau.ensures c.rows_are_in_solved_form.ensures in
+    few_exchanges (ranges_in c.args.bounds.now.held) c.args.self.now.tableau.variables c.args.self.now c.run_after.new.self c.args.budget.now c.run_after.new.budget c.run_after.result t.solved
+    (record { basics = t.basics_below; entries = t.entries_below }) c.run_after.ensures.ends
