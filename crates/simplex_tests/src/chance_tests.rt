@@ -1,17 +1,12 @@
-//! Rows and bounds by chance, with marks and going back, checked on two assignments and by an elimination of variables.
+//! Rows and bounds by chance, with marks and going back, checked by simplex and by an elimination of variables.
 
-ghost use Rattle.std.specs.Prelude.{◌≡◌, ◌<◌, true};
-ghost use Rattle.spec_tableaux.specs.SolvedForms.{AllVariables};
-ghost use Rattle.tableau.specs.Entries.{entries_of};
-
-use crate::checked::{Tally, check_both};
+use crate::checked::{Tally, add_to, check_counted, hold};
 use crate::elimination::Form;
 use crate::known::{Known, Limit, Part, Sum, bound_of, entry_of};
-use simplex_bounds::{Bound, Bounds};
+use simplex_bounds::Bounds;
 use simplex_check::RealAssignment;
 use std::alloc::Global;
 use std::test::Fail;
-use tableau::Entry;
 
 /// How many cases there are.
 const CASES: u64 = 2_000;
@@ -19,11 +14,10 @@ const CASES: u64 = 2_000;
 /// How many rows a case has at most.
 const ROWS: u64 = 3;
 
-/// Holds a case: its two assignments, the bounds, and what it has stated.
+/// Holds a case: its assignment, the bounds, and what it has stated.
 #[derive(Drop)]
 struct Case {
     assignment: RealAssignment,
-    pieces: RealAssignment,
     bounds: Bounds,
     known: Known,
 }
@@ -94,38 +88,6 @@ fn unit(n: u64) -> Form {
     }
 }
 
-/// Says whether each variable is below a number.
-fn are_below(entries: &[Entry], number: u64) -> bool
-    ensures { result ≡ true → AllVariables (λ y. y < number) (entries_of entries.now) }
-{
-    let mut rest = entries;
-    while let Some((e, more)) = rest.split_first() {
-        if e.variable >= number {
-            return false;
-        }
-        rest = more;
-    }
-    true
-}
-
-/// Adds a row to an assignment, if its variables are there; gives its variable.
-fn add_to(assignment: &mut RealAssignment, entries: &[Entry]) -> Option<u64> {
-    if are_below(entries, assignment.tableau().variables_len()) {
-        return assignment.add_row(entries).ok();
-    }
-    None
-}
-
-/// Holds a bound, if its variable is there.
-fn hold(bounds: &mut Bounds, bound: Bound) -> Option<()> {
-    if bound.variable < bounds.variables() {
-        bounds.reserve(1).ok()?;
-        bounds.hold(bound);
-        return Some(());
-    }
-    None
-}
-
 /// Goes back to the first bounds, if there are as many.
 fn go_back(bounds: &mut Bounds, len: u64) -> Option<()> {
     if len <= bounds.held_len() {
@@ -140,7 +102,6 @@ impl Case {
     fn new(alloc: Global) -> Case {
         Case {
             assignment: RealAssignment::new(alloc),
-            pieces: RealAssignment::new(alloc),
             bounds: Bounds::new(alloc),
             known: Known::new(alloc),
         }
@@ -149,20 +110,18 @@ impl Case {
     /// Adds a variable.
     fn add(&mut self, n: u64) -> Option<()> {
         self.assignment.add_var().ok()?;
-        self.pieces.add_var().ok()?;
         self.bounds.add_var().ok()?;
         self.known.add(unit(n))
     }
 
-    /// Adds a row; tells whether both assignments gave it the same variable.
+    /// Adds a row; tells whether the assignment gave it its variable.
     fn add_sum(&mut self, sum: Sum) -> Option<bool> {
         let [a, b, c] = sum.parts;
         let entries = [entry_of(a), entry_of(b), entry_of(c)];
-        let one = add_to(&mut self.assignment, &entries)?;
-        let other = add_to(&mut self.pieces, &entries)?;
+        let variable = add_to(&mut self.assignment, &entries)?;
         self.bounds.add_var().ok()?;
         self.known.add_sum(sum)?;
-        Some(one == sum.variable && other == sum.variable)
+        Some(variable == sum.variable)
     }
 
     /// Adds a row by chance, if there are not too many.
@@ -196,15 +155,9 @@ impl Case {
         Some(true)
     }
 
-    /// Checks both assignments; tells whether they answer as the elimination does, and whether the values are right.
+    /// Checks the assignment; tells whether it answers as the elimination does, and whether the values are right.
     fn check(&mut self, alloc: Global, tally: &mut Tally) -> Option<bool> {
-        let fine = check_both(
-            alloc,
-            &mut self.assignment,
-            &mut self.pieces,
-            &self.bounds,
-            tally,
-        )?;
+        let fine = check_counted(alloc, &mut self.assignment, &self.bounds, tally)?;
         if self.known.is_feasible(alloc)? != fine || !self.known.is_solved(&self.assignment)? {
             return Some(false);
         }

@@ -1,9 +1,10 @@
 //! Checks of small systems by hand. The variables are x0, x1 and x2, which is the sum of multiples of the others.
 
+use crate::checked::{ended, new_budget, run};
 use delta_num::Delta;
 use no_memory::NoMemory;
 use ratio128::Op;
-use sat_budget::{Budget, Limits, Stop};
+use sat_budget::{Budget, Stop};
 use simplex_bounds::{Bound, Bounds, Lit, Side};
 use simplex_check::{CheckOutcome, RealAssignment};
 use std::alloc::Global;
@@ -58,18 +59,6 @@ fn bounds_of(alloc: Global, list: &[(u64, Side, i64)]) -> Result<Bounds, NoMemor
     Ok(bounds)
 }
 
-/// Checks an assignment whose variables the bounds are of.
-fn run(
-    assignment: &mut RealAssignment,
-    bounds: &Bounds,
-    budget: &mut Budget,
-) -> Option<Result<CheckOutcome, Stop>> {
-    if bounds.variables() > assignment.tableau().variables_len() {
-        return None;
-    }
-    Some(assignment.check(bounds, budget))
-}
-
 /// Tells whether these are the exchanges of a budget.
 fn exchanges_are(budget: &Budget, want: &[(u64, u64)]) -> bool {
     let n = budget.exchanged_len();
@@ -98,12 +87,7 @@ fn comes_to(
 ) -> Option<bool> {
     let mut assignment = assignment_by(alloc, Ratio::of(1, 1), Ratio::of(1, 1)).ok()?;
     let bounds = bounds_of(alloc, list).ok()?;
-    let limits = Limits {
-        conflicts: 0,
-        pivots: 9,
-        terms: 0,
-    };
-    let mut budget = Budget::new(alloc, &limits).ok()?;
+    let mut budget = new_budget(alloc)?;
     let outcome = run(&mut assignment, &bounds, &mut budget)?;
     Some(
         outcome == Ok(want) && exchanges_are(&budget, exchanges) && values_are(&assignment, values),
@@ -162,17 +146,12 @@ fn nonbasic_variables_go_to_their_bounds(rt: HostRuntime) -> Result<(), Fail> {
     Ok(())
 }
 
-/// Gives the stop of a check of x2 = left * x0 + x1 with a limit on exchanges.
-fn stop_of(alloc: Global, left: Ratio, list: &[(u64, Side, i64)], pivots: u64) -> Option<Stop> {
+/// Gives the stop of a check of x2 = left * x0 + x1.
+fn stop_of(alloc: Global, left: Ratio, list: &[(u64, Side, i64)]) -> Option<Stop> {
     let mut assignment = assignment_by(alloc, left, Ratio::of(1, 1)).ok()?;
     let bounds = bounds_of(alloc, list).ok()?;
-    let limits = Limits {
-        conflicts: 0,
-        pivots,
-        terms: 0,
-    };
-    let mut budget = Budget::new(alloc, &limits).ok()?;
-    run(&mut assignment, &bounds, &mut budget)?.err()
+    let (result, _) = ended(alloc, &mut assignment, &bounds)?;
+    result.err()
 }
 
 /// Tells whether the stop is an overflow of a product at the values 0, with x2 basic.
@@ -188,20 +167,8 @@ fn is_product(stop: &Stop) -> bool {
 }
 
 #[test]
-fn checks_stop_at_their_limits(rt: HostRuntime) -> Result<(), Fail> {
-    let upper = [
-        (0, Side::Upper, 1),
-        (1, Side::Upper, 3),
-        (2, Side::Lower, 2),
-    ];
-    let spent = stop_of(rt.alloc(), Ratio::of(1, 1), &upper, 1);
-    assert!(rt; matches!(spent, Some(Stop::Pivots(1))));
-    let wide = stop_of(
-        rt.alloc(),
-        Ratio::of(i128::MAX, 1),
-        &[(0, Side::Lower, 2)],
-        1,
-    );
+fn checks_stop_where_numbers_leave_128_bits(rt: HostRuntime) -> Result<(), Fail> {
+    let wide = stop_of(rt.alloc(), Ratio::of(i128::MAX, 1), &[(0, Side::Lower, 2)]);
     assert!(rt; wide.is_some_and(|stop| is_product(&stop)));
     Ok(())
 }

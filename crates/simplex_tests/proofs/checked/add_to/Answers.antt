@@ -1,7 +1,7 @@
 use Rattle.std.proofs.Common.{◌<◌, subst}
 use Rattle.spec_tableaux.specs.SolvedForms.{AllVariables}
 use Rattle.tableau.specs.Entries.{entries_of}
-use Rattle.simplex_tests.proofs.chance_tests.add_to.Goals as goal
+use Rattle.simplex_tests.proofs.checked.add_to.Goals as goal
 
 pub add_row-requires : goal.add_row-requires
 add_row-requires c =
