@@ -8,9 +8,6 @@ use simplex_check::CheckOutcome;
 use spec_numbers::Op;
 use std::alloc::Global;
 
-/// How many exchanges a check may make.
-const PIVOTS: u64 = 1_000_000;
-
 /// Gives the sign of an operation.
 fn sign_of(op: Op) -> char {
     match op {
@@ -33,7 +30,6 @@ fn overflow_text(alloc: Global, wide: Wide) -> Result<String, Fault> {
 fn stop_text(alloc: Global, stop: &Stop) -> Result<String, Fault> {
     match stop {
         Stop::Strained(strain) => overflow_text(alloc, strain.wide),
-        Stop::Pivots(n) => Ok(format!(in alloc; "pivots {n}")?),
         Stop::Memory => Err(Fault::Memory),
     }
 }
@@ -58,11 +54,10 @@ fn check(system: &mut System, budget: &mut Budget) -> Result<String, Fault> {
     Ok(format!(in system.alloc; "{entries} entries after {exchanges} exchanges, {answer}")?)
 }
 
-/// Checks a system within the limit on exchanges.
-fn check_within(system: &mut System) -> Result<String, Fault> {
+/// Checks a system with a new budget.
+fn check_anew(system: &mut System) -> Result<String, Fault> {
     let limits = Limits {
         conflicts: 0,
-        pivots: PIVOTS,
         terms: 0,
     };
     let mut budget = Budget::new(system.alloc, &limits)?;
@@ -82,7 +77,7 @@ fn line_with(system: &mut System, family: Family, n: u32, checked: bool) -> Resu
     if !checked {
         return Ok(format!(in system.alloc; "{size}\n")?);
     }
-    let end = check_within(system)?;
+    let end = check_anew(system)?;
     Ok(format!(in system.alloc; "{size}, {end}\n")?)
 }
 

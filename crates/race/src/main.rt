@@ -5,8 +5,8 @@
 //!
 //! `race FAMILY N [build]` checks a system of one of `chain`, `cycle`, `transport`, `square`, `dense`, `loose` and `sparse`, with N from
 //! 2 to 100,000. The line has rows, variables and entries, the entries after so many exchanges, and the answer. That is `fine`,
-//! `conflict`, `crossed`, `pivots` with the limit, or `overflow` with the operation that left 128 bits and its operands. With `build`
-//! nothing is checked, and the line has the first three numbers alone.
+//! `conflict`, `crossed`, or `overflow` with the operation that left 128 bits and its operands. With `build` nothing is checked, and
+//! the line has the first three numbers alone.
 //!
 //! The exit status is 0, or 2 for wrong arguments, with the usage text. It is 3 where memory ran out, 5 where standard output failed,
 //! and 1 where a term, a row or a bound was refused, which no family brings about.
