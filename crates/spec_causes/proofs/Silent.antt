@@ -27,7 +27,7 @@ use Rattle.spec_causes.specs.Shared.{AreSharedValues, ShareNothing}
 use Rattle.spec_causes.specs.Bounds.{Side, lower, upper, bound_on, AreBounds}
 use Rattle.spec_causes.specs.Reached.{IsFormAmong, IsReached, beginning, naming, summing, idling, checking, IsStoppedAt, between, updating_nonbasic, exchanging}
 use Rattle.spec_causes.specs.Reasons.{Conflicts, crossing, sticking}
-use Rattle.spec_causes.specs.Causes.{IsHalfAbove, IsHalfBelow, IsEpsilon, OverflowsAt, forming, bounding, adding_row, explaining, valuing, finding, evaluating, evaluating_shared, NeedsMore, AreSilent}
+use Rattle.spec_causes.specs.Causes.{IsHalfAbove, IsHalfBelow, IsEpsilon, OverflowsAt, forming, bounding, adding_row, explaining, valuing, finding, evaluating, evaluating_shared, AreSilent}
 use Rattle.spec_causes.specs.Causes as causes
 
 -- a test fails for one constraint and holds for another
@@ -221,6 +221,3 @@ module _ (ts : List Term) (silent : AreSilent ts) where
       zero_at_one o (ap (λ (x : Pair Number). delta_evaluated (delta_in x) (numbers.one).fraction) (sym (is.values w.variable))
       ∙ ap (λ (k : Number). delta_evaluated (delta_in (point_in s.values w.variable)) k.fraction) (sym one) ∙ w.leaves)
   nothing_overflows unshared s is o (evaluating_shared ranges bounds within apart kept e half p shared w) = unshared shared.term shared.shared
-
-  pub nothing_is_needed : (s : TermTableau) → IsEmpty s → NeedsMore ts s → ⊥
-  nothing_is_needed s is more = no_exchange more.ranges (state_in s) is.rows more.wants.leaving more.wants.entering more.wants.says

@@ -13,7 +13,7 @@ use Rattle.spec_causes.specs.TermTableau.{TermTableau}
 use Rattle.spec_causes.specs.Shared.{IsSharedAmong, argument, value, IsSharedValue, AreSharedValues}
 use Rattle.spec_causes.specs.Bounds.{AreBounds}
 use Rattle.spec_causes.specs.Reached.{IsFormAmong, IsReached, beginning, naming, summing, idling, checking}
-use Rattle.spec_causes.specs.Causes.{OverflowsAt, forming, bounding, adding_row, explaining, valuing, finding, evaluating, evaluating_shared, NeedsMore}
+use Rattle.spec_causes.specs.Causes.{OverflowsAt, forming, bounding, adding_row, explaining, valuing, finding, evaluating, evaluating_shared}
 use Rattle.spec_causes.specs.Causes as causes
 
 module _ (ts us : List Term) (more : AreAmong ts us) where
@@ -69,6 +69,3 @@ module _ (ts us : List Term) (more : AreAmong ts us) where
       evaluating ranges (bounds_among_more s ranges bounds) within apart (values_over_more s apart values) e is w
   overflows_over_more s o (evaluating_shared ranges bounds within apart values e is p shared w) =
       evaluating_shared ranges (bounds_among_more s ranges bounds) within apart (values_over_more s apart values) e is p (value_over_more s p shared) w
-
-  pub needs_over_more : (s : TermTableau) → NeedsMore ts s → NeedsMore us s
-  needs_over_more s h = record { ranges = h.ranges; bounds = bounds_among_more s h.ranges h.bounds; wants = h.wants }

@@ -1,4 +1,4 @@
--- By which operations simplex leaves the bound on fractions in its state, and where it needs a further exchange.
+-- By which operations simplex leaves the bound on fractions in its state.
 -- Source: Dutertre and de Moura, A Fast Linear-Arithmetic Solver for DPLL(T), CAV 2006.
 use Rattle.std.specs.Prelude.{◌≡◌, ◌⊎◌, ℕ, Bool, true, false, List, [], ◌∷◌, Option, Some, None, Err, Contains}
 use Rattle.spec_numbers.specs.Fractions.{Fraction, opposite}
@@ -12,7 +12,6 @@ use Rattle.spec_tableaux.specs.Numbers.{Number, numbers}
 use Rattle.spec_tableaux.specs.Deltas.{delta_evaluated}
 use Rattle.spec_tableaux.specs.Points.{deltas, Ranges, point_in, delta_in}
 use Rattle.spec_tableaux.specs.BoundsOverflows.{CheckOverflows, OverflowsNew}
-use Rattle.spec_tableaux.specs.Runs.{WantsMore}
 use Rattle.spec_tableaux.specs.Halves.{is_less, IsSteeper, halfway, OverflowsNumber}
 use Rattle.spec_simplex.specs.Constraints.{Constraint, constraint_of, form_of}
 use Rattle.spec_causes.specs.TermTableau.{TermTableau, owner_in, state_in, AreEntriesOf}
@@ -108,14 +107,6 @@ pub data OverflowsAt (ts : List Term) (s : TermTableau) (o : Overflow) : Type 0 
       → (apart : List (Pair Number)) → AreSharedValues ts s apart
       → (e : Number) → IsEpsilon ranges (point_in s.values) apart e
       → (p : Pair Number) → IsSharedValue ts s p → delta_evaluated (delta_in p) e.fraction ≡ Err o → OverflowsAt ts s o
-
--- Under some bounds that literals state simplex needs a further exchange over terms in its state.
-pub record NeedsMore (ts : List Term) (s : TermTableau) : Type 0 where
-  -- the bounds
-  pub ranges : Ranges
-  pub bounds : AreBounds ts s ranges
-  -- the rule says an exchange
-  pub wants : WantsMore ranges (state_in s)
 
 -- no atom among terms says anything of numbers
 abbrev pub AreSilent : List Term → Type 0

@@ -1,5 +1,5 @@
--- Why a check is not decided: an operation on fractions that leaves the bound, or a budget of exchanges that is spent.
-use Rattle.std.specs.Prelude.{◌≡◌, ◌⊎◌, ℕ, List, [], ◌∷◌, length, Err, Contains}
+-- Why a check is not decided: an operation on fractions that leaves the bound.
+use Rattle.std.specs.Prelude.{◌≡◌, ◌⊎◌, ℕ, List, [], ◌∷◌, Err, Contains}
 use Rattle.spec_numbers.specs.Fractions.{Fraction, one_fraction, opposite}
 use Rattle.spec_numbers.specs.Bounds.{Overflow}
 use Rattle.spec_sorts.specs.Terms.{Equal, AtMost, Term, pair, negated}
@@ -8,9 +8,9 @@ use Rattle.spec_arithmetic.specs.Contradictions.{given, wide, la_generic}
 use Rattle.spec_derivations.specs.Problems.{Problem, subterms_in}
 use Rattle.spec_derivations.specs.Orders.{whole_terms}
 use Rattle.spec_causes.specs.TermTableau.{TermTableau}
-use Rattle.spec_causes.specs.Reached.{IsReached, IsStoppedAt}
+use Rattle.spec_causes.specs.Reached.{IsStoppedAt}
 use Rattle.spec_causes.specs.Counts.{AreFewRuns}
-use Rattle.spec_causes.specs.Causes.{OverflowsForm, OverflowsAt, NeedsMore}
+use Rattle.spec_causes.specs.Causes.{OverflowsForm, OverflowsAt}
 
 -- that s and t are equal, and s is not at most t, is not judged by the rule `la_generic` within the bound on numbers,
 -- with these weights
@@ -38,17 +38,3 @@ pub data IsOverflowed (p : Problem) (l : ℕ) (es : List (ℕ × ℕ)) (o : Over
   -- an operation of simplex over these terms, where it is stopped after these exchanges, in few runs
   reckoning : (s : TermTableau) (runs : ℕ) → IsStoppedAt (whole_terms p) runs es s → AreFewRuns (whole_terms p) l runs
       → OverflowsAt (whole_terms p) s o → IsOverflowed p l es o
-
--- The budget of n exchanges is spent on these, and a further one is needed where they lead, under some bounds that
--- literals state. So many
--- clauses are learned.
-pub record ArePivotsSpent (p : Problem) (n l : ℕ) (es : List (ℕ × ℕ)) : Type 0 where
-  -- so many were made
-  pub count : length es ≡ n
-  -- they lead here, in few runs
-  pub arrived : TermTableau
-  pub runs : ℕ
-  pub reached : IsReached (whole_terms p) runs es arrived
-  pub few : AreFewRuns (whole_terms p) l runs
-  -- and a further one is needed
-  pub more : NeedsMore (whole_terms p) arrived

@@ -23,7 +23,7 @@ ghost use Rattle.spec_simplex.specs.Overflows.{IsOverflow};
 ghost use Rattle.spec_causes.specs.TermTableau.{TermTableau, owner_in, AreOwned};
 ghost use Rattle.spec_causes.specs.Shared.{IsValueOf, ShareNothing};
 ghost use Rattle.spec_causes.specs.Reached.{IsReached, IsStoppedAt};
-ghost use Rattle.spec_causes.specs.Causes.{OverflowsAt, NeedsMore, AreSilent};
+ghost use Rattle.spec_causes.specs.Causes.{OverflowsAt, AreSilent};
 ghost use Rattle.spec_causes.specs.Checks.{IsOverflowed};
 
 /// States that where a search comes to an overflow, an operation on fractions leaves the bound on its operands.
@@ -38,10 +38,9 @@ pub fn more_terms_keep_causes()
         → IsReached ts n es s → IsReached us n es s }
     ensures may_overflow { (ts us : List Term) → AreAmong ts us → (s : TermTableau) (o : Overflow)
         → OverflowsAt ts s o → OverflowsAt us s o }
-    ensures needs { (ts us : List Term) → AreAmong ts us → (s : TermTableau) → NeedsMore ts s → NeedsMore us s }
 {}
 
-/// States that a check of bounds which the values keep makes no exchange, and that it asks for no further one. The rows are in solved
+/// States that a check of bounds which the values keep makes no exchange, and keeps none that is not made. The rows are in solved
 /// form. So a run comes only where a bound came since a check that found nothing wrong, or the last one found something.
 pub fn kept_bounds_make_no_run()
     ensures none { (ranges : Ranges) (t u : AssignmentState) (old new : List (ℕ × ℕ)) → IsSolved numbers t.rows
@@ -55,8 +54,8 @@ pub fn exchanges_are_counted()
     ensures { (ts : List Term) (es : List (ℕ × ℕ)) (s : TermTableau) → IsReached ts 0 es s → es ≡ [] }
 {}
 
-/// States that where no atom among terms says anything of numbers, simplex comes to no exchange over them, and needs none. No
-/// operation of it leaves the bound where it is stopped, if no term of sort Real is shared among the terms.
+/// States that where no atom among terms says anything of numbers, simplex comes to no exchange over them. No operation of it
+/// leaves the bound where it is stopped, if no term of sort Real is shared among the terms.
 pub fn nothing_comes_of_no_numbers()
     ensures reached { (ts : List Term) → AreSilent ts → (n : ℕ) (es : List (ℕ × ℕ)) (s : TermTableau)
         → IsReached ts n es s → es ≡ [] }
@@ -65,8 +64,6 @@ pub fn nothing_comes_of_no_numbers()
         → IsReached ts n es s → (o : Overflow) → OverflowsAt ts s o → ⊥ }
     ensures stopped { (ts : List Term) → AreSilent ts → (n : ℕ) (es : List (ℕ × ℕ)) (s : TermTableau)
         → IsStoppedAt ts n es s → (es ≡ []) × (ShareNothing ts → (o : Overflow) → OverflowsAt ts s o → ⊥) }
-    ensures needs { (ts : List Term) → AreSilent ts → (n : ℕ) (es : List (ℕ × ℕ)) (s : TermTableau)
-        → IsReached ts n es s → NeedsMore ts s → ⊥ }
 {}
 
 /// States that a term of sort Real whose form stays within the bound has a value in the state of simplex, and one alone where no two

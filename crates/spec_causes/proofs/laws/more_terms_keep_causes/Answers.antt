@@ -1,5 +1,5 @@
 -- Each atom is among the other terms too.
-use Rattle.spec_causes.proofs.Wider.{reached_over_more, overflows_over_more, needs_over_more}
+use Rattle.spec_causes.proofs.Wider.{reached_over_more, overflows_over_more}
 use Rattle.spec_causes.proofs.laws.more_terms_keep_causes.Goals as goal
 
 pub returns-clause-reached : goal.returns-clause-reached
@@ -7,6 +7,3 @@ returns-clause-reached c = λ ts us more n es s h. reached_over_more ts us more 
 
 pub returns-clause-may_overflow : goal.returns-clause-may_overflow
 returns-clause-may_overflow c = λ ts us more s o h. overflows_over_more ts us more s o h
-
-pub returns-clause-needs : goal.returns-clause-needs
-returns-clause-needs c = λ ts us more s h. needs_over_more ts us more s h

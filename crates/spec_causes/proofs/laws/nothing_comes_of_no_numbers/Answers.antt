@@ -1,5 +1,5 @@
 -- Without atoms nothing comes.
-use Rattle.spec_causes.proofs.Silent.{reaches_nothing, nothing_overflows, stopped_on_nothing, nothing_is_needed}
+use Rattle.spec_causes.proofs.Silent.{reaches_nothing, nothing_overflows, stopped_on_nothing}
 use Rattle.spec_causes.proofs.laws.nothing_comes_of_no_numbers.Goals as goal
 
 pub returns-clause-reached : goal.returns-clause-reached
@@ -12,6 +12,3 @@ pub returns-clause-stopped : goal.returns-clause-stopped
 returns-clause-stopped c = λ ts silent n es s h.
     let at = stopped_on_nothing ts silent n es s h in
     (at.1, λ unshared o w. nothing_overflows ts silent unshared s at.0 o w)
-
-pub returns-clause-needs : goal.returns-clause-needs
-returns-clause-needs c = λ ts silent n es s h more. nothing_is_needed ts silent s (reaches_nothing ts silent n es s h).0 more
