@@ -11,7 +11,7 @@ use Rattle.term_core.specs.declared.ids.Lit.{Lit}
 use Rattle.term_core.specs.Tables.{TableView, term_at, IsIn, clause_at, literal_at, positive_literal, declared_in}
 use Rattle.term_core.specs.Tables.{Extends}
 use Rattle.sat_budget.specs.declared.limits.Stop.{Stop}
-use Rattle.sat_budget.specs.declared.limits.Stop.TheVariants.{Strained, Pivots}
+use Rattle.sat_budget.specs.declared.limits.Stop.TheVariants.{Strained}
 use Rattle.sat_budget.specs.declared.limits.Stop.TheVariants as stops
 use Rattle.proof_log.specs.declared.theory.Verdict.{Verdict}
 use Rattle.proof_log.specs.declared.theory.Verdict.TheVariants.{Fine, Clash}
@@ -124,15 +124,12 @@ Checks agrees refuses v old (Ok (Clash step)) new = refuses × DerivesLemmas (te
     × IsClash new.table new.log v.held step
 Checks agrees refuses v old (Err stop) new = new ≡ old
 
--- what a call of a theory came to: by what it gives; where an overflow stopped it; and where the budget of exchanges
--- did; where memory
--- runs out nothing is stated
-abbrev pub CameTo : {A : Type 0} → Result A Stop → (came : A → Type 0) → (overflowed : Type 0) → (spent : Type 0)
-    → Type 0
-CameTo (Ok x) came overflowed spent = came x
-CameTo (Err (Strained s)) came overflowed spent = overflowed
-CameTo (Err (Pivots n)) came overflowed spent = spent
-CameTo (Err stops.Memory) came overflowed spent = Unit {0}
+-- what a call of a theory came to: by what it gives, and where an overflow stopped it; where memory runs out nothing is
+-- stated
+abbrev pub CameTo : {A : Type 0} → Result A Stop → (came : A → Type 0) → (overflowed : Type 0) → Type 0
+CameTo (Ok x) came overflowed = came x
+CameTo (Err (Strained s)) came overflowed = overflowed
+CameTo (Err stops.Memory) came overflowed = Unit {0}
 
 -- how many runs are paid for after a check: one more where it found something wrong
 abbrev pub paid_after : Verdict → ℕ → ℕ

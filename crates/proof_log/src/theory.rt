@@ -1,12 +1,12 @@
 //! What the search asks of a theory.
 
-ghost use Rattle.std.specs.Prelude.{◌≡◌, ◌≤◌, ℕ, suc, List, length, Contains, IfErr, MatchResult};
+ghost use Rattle.std.specs.Prelude.{◌≡◌, ◌≤◌, ℕ, List, length, Contains, IfErr, MatchResult};
 ghost use Rattle.spec_sorts.specs.Terms.{Term};
 ghost use Rattle.spec_sorts.specs.Literals.{Literal};
 ghost use Rattle.spec_causes.specs.Counts.{counted};
 ghost use Rattle.term_core.specs.Tables.{TableView, Extends, term_at};
 ghost use Rattle.sat_budget.specs.declared.limits.Strain.{Strain};
-ghost use Rattle.sat_budget.specs.Budgets.{Spends, StopsBy, AreSpent};
+ghost use Rattle.sat_budget.specs.Budgets.{Spends, StopsBy};
 ghost use Rattle.proof_log.specs.Logs.{IsLogOf};
 ghost use Rattle.proof_log.specs.Theories.{TheoryView, with_held, with_watched, with_mark, gone_back, IsTermIn, IsTheoryOver, terms_watched, literals_held, Checks, CameTo, paid_after};
 
@@ -55,13 +55,10 @@ pub trait Theory {
     /// What shows that a stop by an overflow is one, over a table and the watched terms.
     ghost may_overflow: { Self → TableView → List Term → Strain → Type 0 };
 
-    /// What shows that a further exchange is needed, over a table and the watched terms.
-    ghost needs_more: { Self → TableView → List Term → Type 0 };
-
     /// Watches a term that it does not watch yet, which must be one over the table's symbols. It takes the memory for literals of it, too.
     ///
-    /// `Memory` comes where memory ran out, and `Strained` where a number of the term, or one made of it, leaves 128 bits; `Pivots` never
-    /// comes. After a stop it watches what it did.
+    /// `Memory` comes where memory ran out, and `Strained` where a number of the term, or one made of it, leaves 128 bits. After a
+    /// stop it watches what it did.
     fn watch_term(&mut self, table: &TermTable, id: TermId) -> Result<(), Stop>
         requires term { IsTermIn table.now id }
         requires new { Contains (view self.old).watched id → ⊥ }
@@ -72,9 +69,9 @@ pub trait Theory {
         ensures came { (ts : List Term) (n : ℕ) (es : List (ℕ × ℕ)) → Contains ts (term_at table.now id)
             → came_by self.old table.now ts n es → CameTo result
             (λ _. came_by self.new table.now ts (counted (term_at table.now id) n) es)
-            (stopped_by self.new table.now ts n es) (Unit {0}) }
+            (stopped_by self.new table.now ts n es) }
         ensures stops { IfErr result (StopsBy
-            (may_overflow self.new table.now (terms_watched table.now (with_watched (view self.old) id))) (λ _. ⊥)) };
+            (may_overflow self.new table.now (terms_watched table.now (with_watched (view self.old) id)))) };
 
     /// Holds a literal more, of a term that it watches. It takes no memory.
     fn assume_lit(&mut self, lit: Lit)
@@ -88,10 +85,9 @@ pub trait Theory {
     /// Checks whether something is wrong with the literals that it holds.
     ///
     /// It may put terms into the table and steps into the log. These steps depend on each other alone, and their clauses are of terms
-    /// made of the watched ones. `Clash` names one of them, whose clause is false under the held literals. Of the budget it may spend
-    /// exchanges. `Memory` comes where memory ran out, `Strained` where a number leaves 128 bits, and `Pivots` where as many exchanges
-    /// are made as the budget's limit, which it says, and a further one is needed. After a stop table and log are as they were, and the
-    /// budget keeps the pivots that were made.
+    /// made of the watched ones. `Clash` names one of them, whose clause is false under the held literals. The budget may keep further
+    /// exchanges. `Memory` comes where memory ran out, and `Strained` where a number leaves 128 bits. After a stop table and log are as
+    /// they were, and the budget keeps the exchanges up to there.
     ///
     /// Conditions: with each watched term its arguments are watched.
     fn check(
@@ -113,11 +109,9 @@ pub trait Theory {
             (record { table = table.new; log = log.new }) }
         ensures came { (ts : List Term) (n : ℕ) → came_by self.old table.old ts n budget.old.exchanges → CameTo result
             (λ verdict. came_by self.new table.new ts (paid_after verdict n) budget.new.exchanges)
-            (stopped_by self.new table.new ts n budget.new.exchanges)
-            (came_by self.new table.new ts (suc n) budget.new.exchanges) }
+            (stopped_by self.new table.new ts n budget.new.exchanges) }
         ensures stops { IfErr result (StopsBy
-            (may_overflow self.new table.new (terms_watched table.old (view self.old)))
-            (AreSpent (needs_more self.new table.new (terms_watched table.old (view self.old))) budget.new)) };
+            (may_overflow self.new table.new (terms_watched table.old (view self.old)))) };
 
     /// Marks what it holds and watches.
     ///
