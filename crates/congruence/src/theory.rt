@@ -4,7 +4,7 @@ ghost use Rattle.std.specs.Prelude.{◌≡◌, ◌-◌, ◌≤◌, ◌++◌, ◌
 ghost use Rattle.spec_equality.specs.Congruence.{IsFine, IsRefuted};
 ghost use Rattle.term_core.specs.Tables.{TableView};
 ghost use Rattle.sat_budget.specs.declared.limits.Stop.TheVariants as stops;
-ghost use Rattle.sat_budget.specs.Budgets.{Spends, StopsBy, AreSpent};
+ghost use Rattle.sat_budget.specs.Budgets.{Spends, StopsBy};
 ghost use Rattle.proof_log.specs.declared.theory.Verdict.TheVariants.{Fine};
 ghost use Rattle.proof_log.specs.Logs.{IsLogOf};
 ghost use Rattle.proof_log.specs.Clashes.{IsClash};
@@ -75,8 +75,6 @@ impl Theory for Congruence {
 
     ghost may_overflow = { λ _ _ _ _. ⊥ };
 
-    ghost needs_more = { λ _ _ _. ⊥ };
-
     /// Watches a term that it does not watch yet, which must be one over the table's symbols. `Memory` comes where memory ran out, the one
     /// stop, as it computes with no numbers; then it watches what it did.
     fn watch_term(&mut self, table: &TermTable, id: TermId) -> Result<(), Stop>
@@ -86,8 +84,8 @@ impl Theory for Congruence {
         ensures with { AreFactsOf table.now self.new.now.facts }
         ensures watches { MatchResult result (λ _. theory_of self.new ≡ with_watched (theory_of self.old) id)
             (λ _. theory_of self.new ≡ theory_of self.old) }
-        ensures came { CameTo result (λ _. Unit {0}) (Unit {0}) (Unit {0}) }
-        ensures stops { IfErr result (StopsBy (λ _. ⊥) (λ _. ⊥)) }
+        ensures came { CameTo result (λ _. Unit {0}) (Unit {0}) }
+        ensures stops { IfErr result (StopsBy (λ _. ⊥)) }
         ensures memory { IfErr result (λ stop. stop ≡ stops.Memory) }
     {
         let part = takes_part(table, id);
@@ -124,8 +122,8 @@ impl Theory for Congruence {
             (IsRefuted (terms_watched table.old (theory_of self.old)) (literals_held table.old (theory_of self.old)))
             (theory_of self.old) (record { table = table.old; log = log.old }) result
             (record { table = table.new; log = log.new }) }
-        ensures came { CameTo result (λ _. Unit {0}) (Unit {0}) (Unit {0}) }
-        ensures stops { IfErr result (StopsBy (λ _. ⊥) (AreSpent ⊥ budget.new)) }
+        ensures came { CameTo result (λ _. Unit {0}) (Unit {0}) }
+        ensures stops { IfErr result (StopsBy (λ _. ⊥)) }
         ensures memory { IfErr result (λ stop. stop ≡ stops.Memory) }
     {
         let _ = budget;

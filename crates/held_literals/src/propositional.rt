@@ -52,8 +52,6 @@ impl Theory for PropositionalTheory {
 
     ghost may_overflow = { λ _ _ _ _. ⊥ };
 
-    ghost needs_more = { λ _ _ _. ⊥ };
-
     /// Watches a term that it does not watch yet. `Memory` comes where memory ran out, the one stop; then it watches what it did.
     fn watch_term(&mut self, table: &TermTable, id: TermId) -> Result<(), Stop> {
         let _ = table;
