@@ -25,7 +25,7 @@ use Rattle.term_core.specs.declared.ids.Lit.{Lit}
 use Rattle.term_core.specs.Tables.{TableView, term_at, clause_at, positive_literal, IsIn, Extends}
 use Rattle.sat_budget.specs.Budgets.{BudgetView}
 use Rattle.sat_budget.specs.declared.limits.Stop.{Stop}
-use Rattle.sat_budget.specs.declared.limits.Stop.TheVariants.{Strained, Pivots}
+use Rattle.sat_budget.specs.declared.limits.Stop.TheVariants.{Strained}
 use Rattle.sat_budget.specs.declared.limits.Stop.TheVariants as stops
 use Rattle.proof_log.specs.Theories.{TheoryView, with_watched, with_held, with_mark, gone_back, IsTermIn, IsTheoryOver, terms_watched, CameTo}
 use Rattle.simplex_bounds.specs.declared.bounds.Bound.{Bound}
@@ -338,20 +338,17 @@ module _ (t : TableView) (ts : List Term) (v : SimplexView) (c : AssignmentView)
 
     -- or in it
     pub came_stopped : {A : Type 0} (stop : Stop) (P : A → Type 0) → EndsCheck ranges v.assignment c old new (Err stop)
-        → (let r : Result A Stop = Err stop in CameTo r P (StoppedBy t ts n new.exchanges after) (CameBy t ts (suc n) new.exchanges after))
-    came_stopped (Pivots k) P e = onward_came n old.exchanges came new.exchanges (ran_on n old.exchanges came new.exchanges e.0)
+        → (let r : Result A Stop = Err stop in CameTo r P (StoppedBy t ts n new.exchanges after))
     came_stopped (Strained s) P e = stopped_on n old.exchanges came new.exchanges e.0
     came_stopped stops.Memory P e = tt
 
--- a stop where this is so of both kinds
-pub stops_there : {A : Type 0} (P : A → Type 0) (S E : Type 0) (stop : Stop) → S → E → (let r : Result A Stop = Err stop in CameTo r P S E)
-stops_there P S E (Strained x) s e = s
-stops_there P S E (Pivots n) s e = e
-stops_there P S E stops.Memory s e = tt
+-- a stop where this is so of an overflow
+pub stops_there : {A : Type 0} (P : A → Type 0) (S : Type 0) (stop : Stop) → S → (let r : Result A Stop = Err stop in CameTo r P S)
+stops_there P S (Strained x) s = s
+stops_there P S stops.Memory s = tt
 
 -- what each of these leads to is so of what leads there
-pub came_onward : {A : Type 0} (r : Result A Stop) (P Q : A → Type 0) (S S' E E' : Type 0) → ((x : A) → P x → Q x) → (S → S') → (E → E') → CameTo r P S E → CameTo r Q S' E'
-came_onward (Ok x) P Q S S' E E' p s e h = p x h
-came_onward (Err (Strained x)) P Q S S' E E' p s e h = s h
-came_onward (Err (Pivots n)) P Q S S' E E' p s e h = e h
-came_onward (Err stops.Memory) P Q S S' E E' p s e h = tt
+pub came_onward : {A : Type 0} (r : Result A Stop) (P Q : A → Type 0) (S S' : Type 0) → ((x : A) → P x → Q x) → (S → S') → CameTo r P S → CameTo r Q S'
+came_onward (Ok x) P Q S S' p s h = p x h
+came_onward (Err (Strained x)) P Q S S' p s h = s h
+came_onward (Err stops.Memory) P Q S S' p s h = tt

@@ -7,15 +7,14 @@ use Rattle.spec_simplex.specs.Constraints.{constraint_of, HaveForms}
 use Rattle.spec_simplex.specs.Points.{IsFeasible}
 use Rattle.spec_derivations.specs.Lemmas.{IsLemma}
 use Rattle.spec_causes.specs.Bounds.{AreBounds}
-use Rattle.spec_causes.specs.Causes.{OverflowsAt, checking, NeedsMore}
+use Rattle.spec_causes.specs.Causes.{OverflowsAt, checking}
 use Rattle.ratio128.specs.Meant.{overflow}
 use Rattle.ratio128.specs.declared.wide.Wide.{Wide}
 use Rattle.term_core.specs.declared.ids.Lit.{Lit}
 use Rattle.term_core.specs.Tables.{TableView, positive_literal, IsIn, AreDifferent, Extends}
-use Rattle.sat_budget.specs.Budgets.{BudgetView, StopsBy, AreSpent}
-use Rattle.sat_budget.specs.declared.limits.Strain.{Strain}
+use Rattle.sat_budget.specs.Budgets.{BudgetView, StopsBy}
 use Rattle.sat_budget.specs.declared.limits.Stop.{Stop}
-use Rattle.sat_budget.specs.declared.limits.Stop.TheVariants.{Strained, Pivots}
+use Rattle.sat_budget.specs.declared.limits.Stop.TheVariants.{Strained}
 use Rattle.sat_budget.specs.declared.limits.Stop.TheVariants as stops
 use Rattle.proof_log.specs.Theories.{IsTheoryOver, terms_watched, literals_held, DerivesLemmas}
 use Rattle.proof_log.specs.Logs.{Logged, inference_of, IsLogOf}
@@ -65,35 +64,26 @@ pub spent : (ranges : Ranges) (b c : AssignmentView) (old new : BudgetView) (r :
 spent ranges b c old new (Ok Fine) e = (e.0.made, e.0.kept)
 spent ranges b c old new (Ok (Crossed y)) e = ([], ap (λ (x : BudgetView). x.exchanges) e.1 ∙ sym (append-nil old.exchanges))
 spent ranges b c old new (Ok (Conflict y)) e = (e.0.made, e.0.kept)
-spent ranges b c old new (Err (Pivots n)) e = (e.0.made, e.0.kept)
 spent ranges b c old new (Err (Strained s)) e = stopped_more ranges (state_of b) (state_of c) old.exchanges new.exchanges e.0
 spent ranges b c old new (Err stops.Memory) (inl ran) = (ran.made, ran.kept)
 spent ranges b c old new (Err stops.Memory) (inr s) = stopped_more ranges (state_of b) (state_of c) old.exchanges new.exchanges s
 
 -- its stop is one of simplex in its state
 pub stopped : (t : TableView) (ts : List Term) (v : SimplexView) (b : AssignmentView) (old new : BudgetView) (stop : Stop) → AreBounds ts (term_tableau_of t v) (ranges_in v.bounds.held)
-    → EndsCheck (ranges_in v.bounds.held) b v.assignment old new (Err stop) → StopsBy (λ s. IsOverflowAt t ts s v) (AreSpent (NeedsMore ts (term_tableau_of t v)) new) stop
+    → EndsCheck (ranges_in v.bounds.held) b v.assignment old new (Err stop) → StopsBy (λ s. IsOverflowAt t ts s v) stop
 stopped t ts v b old new (Strained s) bounds e = (checking (ranges_in v.bounds.held) bounds e.1.0, e.1.1)
-stopped t ts v b old new (Pivots n) bounds e = (record { ranges = ranges_in v.bounds.held; bounds = bounds; wants = e.1.0 }, e.1.1, e.1.2)
 stopped t ts v b old new stops.Memory bounds e = tt
 
 -- the stop of an overflow, of which P holds
-pub overflowed_by : (P : Overflow → Type 0) (v : SimplexView) (w : Wide) (stop : Stop) → P (overflow w) → StopsBy (λ s. (s.wide ≡ w) × IsBasisOf v.assignment s.basis) (λ _. ⊥) stop
-    → StopsBy (λ s. P (overflow s.wide) × IsBasisOf v.assignment s.basis) (λ _. ⊥) stop
+pub overflowed_by : (P : Overflow → Type 0) (v : SimplexView) (w : Wide) (stop : Stop) → P (overflow w) → StopsBy (λ s. (s.wide ≡ w) × IsBasisOf v.assignment s.basis) stop
+    → StopsBy (λ s. P (overflow s.wide) × IsBasisOf v.assignment s.basis) stop
 overflowed_by P v w (Strained s) h p = (subst (λ (x : Wide). P (overflow x)) (sym p.0) h, p.1)
-overflowed_by P v w (Pivots n) h p = p
 overflowed_by P v w stops.Memory h p = tt
 
 -- it is one of simplex in its state
-pub overflowed : (t : TableView) (ts : List Term) (v : SimplexView) (w : Wide) (stop : Stop) → OverflowsAt ts (term_tableau_of t v) (overflow w) → StopsBy (λ s. (s.wide ≡ w) × IsBasisOf v.assignment s.basis) (λ _. ⊥) stop
-    → StopsBy (λ s. IsOverflowAt t ts s v) (λ _. ⊥) stop
+pub overflowed : (t : TableView) (ts : List Term) (v : SimplexView) (w : Wide) (stop : Stop) → OverflowsAt ts (term_tableau_of t v) (overflow w) → StopsBy (λ s. (s.wide ≡ w) × IsBasisOf v.assignment s.basis) stop
+    → StopsBy (λ s. IsOverflowAt t ts s v) stop
 overflowed t ts v w stop h p = overflowed_by (OverflowsAt ts (term_tableau_of t v)) v w stop h p
-
--- a stop that is no number of exchanges
-pub no_pivots : (P : Strain → Type 0) (Q : ℕ → Type 0) (stop : Stop) → StopsBy P (λ _. ⊥) stop → StopsBy P Q stop
-no_pivots P Q (Strained s) p = p
-no_pivots P Q (Pivots n) p = absurd p
-no_pivots P Q stops.Memory p = tt
 
 -- Literals of watched terms are held that cannot all hold by their weights, over a table.
 pub record AreRefuted (ts : List Term) (v : SimplexView) (t : TableView) (rs : List Weighted) : Type 0 where

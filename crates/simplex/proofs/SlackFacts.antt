@@ -22,7 +22,7 @@ use Rattle.simplex_atoms.specs.Watching.{OverflowsForm, bound, row, OverflowsAto
 use Rattle.ratio128.specs.declared.wide.Wide.{Wide}
 use Rattle.ratio128.specs.Meant.{overflow}
 use Rattle.sat_budget.specs.declared.limits.Stop.{Stop}
-use Rattle.sat_budget.specs.declared.limits.Stop.TheVariants.{Strained, Pivots}
+use Rattle.sat_budget.specs.declared.limits.Stop.TheVariants.{Strained}
 use Rattle.sat_budget.specs.declared.limits.Stop.TheVariants as stops
 use Rattle.sat_budget.specs.Budgets.{StopsBy}
 use Rattle.simplex_explain.specs.Stated.{all_stated, IsKnownIn}
@@ -117,19 +117,17 @@ atom_overflows t v id ts there o (in_place c says f has w) = by (record { atom =
 
 -- its stop, with the assignment's basis
 pub stop_of : (t : TableView) (v : SimplexView) (id : TermId) (w : Wide) → OverflowsAtom t v.atoms.owners v.assignment id (overflow w) → (stop : Stop)
-    → StopsBy (λ s. (s.wide ≡ w) × IsBasisOf v.assignment s.basis) (λ _. ⊥) stop → StopsBy (λ s. (ts : List Term) → Contains ts (term_at t id) → IsOverflowAt t ts s v) (λ _. ⊥) stop
+    → StopsBy (λ s. (s.wide ≡ w) × IsBasisOf v.assignment s.basis) stop → StopsBy (λ s. (ts : List Term) → Contains ts (term_at t id) → IsOverflowAt t ts s v) stop
 stop_of t v id w cause (Strained s) h = λ ts there. (atom_overflows t v id ts there (overflow s.wide) (subst (λ x. OverflowsAtom t v.atoms.owners v.assignment id (overflow x)) (sym h.0) cause), h.1)
-stop_of t v id w cause (Pivots n) h = h
 stop_of t v id w cause stops.Memory h = h
 
 -- it is one over the watched terms with the new one
-stop_watching : (t : TableView) (v : SimplexView) (old : TheoryView) (id : TermId) (stop : Stop) → StopsBy (λ s. (ts : List Term) → Contains ts (term_at t id) → IsOverflowAt t ts s v) (λ _. ⊥) stop
-    → StopsBy (λ s. IsOverflowAt t (terms_watched t (with_watched old id)) s v) (λ _. ⊥) stop
+stop_watching : (t : TableView) (v : SimplexView) (old : TheoryView) (id : TermId) (stop : Stop) → StopsBy (λ s. (ts : List Term) → Contains ts (term_at t id) → IsOverflowAt t ts s v) stop
+    → StopsBy (λ s. IsOverflowAt t (terms_watched t (with_watched old id)) s v) stop
 stop_watching t v old id (Strained s) h = h (terms_watched t (with_watched old id)) (to_image (term_at t) (old.watched ++ id ∷ []) id (Contains-push old.watched id))
-stop_watching t v old id (Pivots n) h = h
 stop_watching t v old id stops.Memory h = h
 
 pub stops_watching : (t : TableView) (v : SimplexView) (old : TheoryView) (id : TermId) (r : Result (Unit {0}) Stop) (stop : Stop) → IsErrAnd r (λ e. e ≡ stop)
-    → StopsBy (λ s. (ts : List Term) → Contains ts (term_at t id) → IsOverflowAt t ts s v) (λ _. ⊥) stop → IfErr r (StopsBy (λ s. IsOverflowAt t (terms_watched t (with_watched old id)) s v) (λ _. ⊥))
+    → StopsBy (λ s. (ts : List Term) → Contains ts (term_at t id) → IsOverflowAt t ts s v) stop → IfErr r (StopsBy (λ s. IsOverflowAt t (terms_watched t (with_watched old id)) s v))
 stops_watching t v old id (Ok x) stop is h = tt
-stops_watching t v old id (Err e) stop is h = stop_watching t v old id e (subst (StopsBy (λ s. (ts : List Term) → Contains ts (term_at t id) → IsOverflowAt t ts s v) (λ _. ⊥)) (sym is) h)
+stops_watching t v old id (Err e) stop is h = stop_watching t v old id e (subst (StopsBy (λ s. (ts : List Term) → Contains ts (term_at t id) → IsOverflowAt t ts s v)) (sym is) h)

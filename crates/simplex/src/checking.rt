@@ -1,12 +1,11 @@
 //! The check of simplex: literals that it holds, and a step of the log where they cannot all hold.
 
-ghost use Rattle.std.specs.Prelude.{◌≡◌, ℕ, suc, List, Result, IfOk, IfErr, OnOk, OnErr};
+ghost use Rattle.std.specs.Prelude.{◌≡◌, ℕ, List, Result, IfOk, IfErr, OnOk, OnErr};
 ghost use Rattle.spec_sorts.specs.Terms.{Term};
 ghost use Rattle.spec_simplex.specs.Constraints.{HaveForms};
 ghost use Rattle.spec_simplex.specs.Points.{IsFeasible, IsInfeasible};
-ghost use Rattle.spec_causes.specs.Causes.{NeedsMore};
 ghost use Rattle.ratio128.specs.declared.wide.Wide.{Wide};
-ghost use Rattle.sat_budget.specs.Budgets.{Spends, StopsBy, AreSpent};
+ghost use Rattle.sat_budget.specs.Budgets.{Spends, StopsBy};
 ghost use Rattle.sat_budget.specs.declared.limits.Stop.{Stop};
 ghost use Rattle.proof_log.specs.Logs.{IsLogOf};
 ghost use Rattle.proof_log.specs.Clashes.{IsClash};
@@ -20,7 +19,7 @@ ghost use Rattle.simplex_explain.specs.Steps.{derived};
 ghost use Rattle.simplex_explain.specs.BoundReasons.{AreOfHeld, OnReasonOverflow};
 ghost use Rattle.simplex.specs.Views.{IsOf};
 ghost use Rattle.simplex.specs.Checks.{Case, KeepsBounds, Found, OverflowsFound, AreReasonsOf, AnswersOutcome};
-ghost use Rattle.simplex.specs.Coming.{term_tableau_of, CameBy, StoppedBy, IsOverflowAt};
+ghost use Rattle.simplex.specs.Coming.{CameBy, StoppedBy, IsOverflowAt};
 
 use crate::simplex::Simplex;
 use proof_log::{ProofLog, StepId, Verdict};
@@ -34,7 +33,7 @@ impl Simplex {
     /// Makes the stop of an overflow, with the basic variables and the values. It is out of memory where their lists find
     /// none.
     pub(crate) fn stop_of(&self, wide: Wide) -> Stop
-        ensures { StopsBy (λ s. (s.wide ≡ wide) × IsBasisOf self.now.assignment s.basis) (λ _. ⊥) result }
+        ensures { StopsBy (λ s. (s.wide ≡ wide) × IsBasisOf self.now.assignment s.basis) result }
     {
         match self.assignment.basis() {
             Ok(basis) => Stop::Strained(Strain { wide, basis }),
@@ -68,8 +67,7 @@ impl Simplex {
     /// under them.
     ///
     /// `Strained` comes where a weight, or a sum of the literals' forms by their weights, leaves 128 bits, with the basic
-    /// variables and the values; `Memory` comes where there is no memory, and `Pivots` never. After each, table and log are
-    /// as they were.
+    /// variables and the values; `Memory` comes where there is no memory. After each, table and log are as they were.
     fn clash(
         &self,
         table: &mut TermTable,
@@ -89,7 +87,7 @@ impl Simplex {
         ensures infeasible { OnOk result (IsInfeasible (literals_held table.old self.now.theory)) }
         ensures same { OnErr result ((table.new ≡ table.old) × (log.new ≡ log.old)) }
         ensures stops { IfErr result (StopsBy (λ s. IsOverflowAt table.old (terms_watched table.old self.now.theory) s
-            self.now) (λ _. ⊥)) }
+            self.now)) }
     {
         self.literals.are_of_watched_terms();
         let reasons = match self.reasons(outcome) {
@@ -107,10 +105,9 @@ impl Simplex {
     /// Checks the literals that it holds: `Fine` comes where they have forms and a point keeps them all, and `Clash` where none
     /// does, with a step whose clause is false under them. After `Fine` the values keep the bounds that are held.
     ///
-    /// Each exchange is kept in the budget. `Pivots` comes exactly where a further exchange is needed and the budget has no room
-    /// for it; `Strained` where a number leaves 128 bits, with the basic variables and the values at which it did; `Memory`
-    /// where there is no memory. After each, table and log are as they were. After `Fine` the next check looks at the variables of
-    /// bounds alone that came since, and at those whose values change.
+    /// Each exchange is kept in the budget. `Strained` comes where a number leaves 128 bits, with the basic variables and the values
+    /// at which it did; `Memory` where there is no memory. After each, table and log are as they were. After `Fine` the next check
+    /// looks at the variables of bounds alone that came since, and at those whose values change.
     /// Source: Dutertre and de Moura, A Fast Linear-Arithmetic Solver for DPLL(T), CAV 2006.
     pub fn check(
         &mut self,
@@ -133,12 +130,9 @@ impl Simplex {
             self.old.theory (derived table.old log.old) result (derived table.new log.new) }
         ensures came { (ts : List Term) (n : ℕ) → CameBy table.old ts n budget.old.exchanges self.old → CameTo result
             (λ verdict. CameBy table.new ts (paid_after verdict n) budget.new.exchanges self.new)
-            (StoppedBy table.new ts n budget.new.exchanges self.new)
-            (CameBy table.new ts (suc n) budget.new.exchanges self.new) }
+            (StoppedBy table.new ts n budget.new.exchanges self.new) }
         ensures stops { IfErr result (StopsBy
-            (λ s. IsOverflowAt table.new (terms_watched table.old self.old.theory) s self.new)
-            (AreSpent (NeedsMore (terms_watched table.old self.old.theory) (term_tableau_of table.new self.new))
-            budget.new)) }
+            (λ s. IsOverflowAt table.new (terms_watched table.old self.old.theory) s self.new)) }
     {
         self.literals.are_of_watched_terms();
         self.assignment.values_solve_the_rows();

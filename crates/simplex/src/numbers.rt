@@ -84,7 +84,7 @@ impl Simplex {
     /// has the number of its head at its arguments' numbers. It is asked for after a check that found nothing wrong.
     ///
     /// `Strained` comes where an operation on a shared term's form or value leaves 128 bits, or one that finds the small number, or
-    /// computes a value with it, with the basic variables and the values; `Memory` comes where there is no memory, and `Pivots` never.
+    /// computes a value with it, with the basic variables and the values; `Memory` comes where there is no memory.
     /// Source: Dutertre and de Moura, A Fast Linear-Arithmetic Solver for DPLL(T), CAV 2006; Nelson and Oppen, Simplification by
     /// Cooperating Decision Procedures, TOPLAS 1979.
     pub fn numbers(
@@ -104,7 +104,7 @@ impl Simplex {
         ensures ok { IfOk result (λ xs. HoldApart table.now self.now (clause_at table.now terms.now)
             (clause_at table.now shared.now) (map fraction xs.items)) }
         ensures stops { IfErr result (StopsBy
-            (λ s. IsOverflowAt table.now (terms_watched table.now self.now.theory) s self.now) (λ _. ⊥)) }
+            (λ s. IsOverflowAt table.now (terms_watched table.now self.now.theory) s self.now)) }
     {
         self.literals.are_of_watched_terms();
         self.assignment.tableau().rows_are_in_solved_form();

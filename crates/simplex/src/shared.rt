@@ -86,7 +86,7 @@ impl Simplex {
     /// where a variable that no variable of simplex stands for counts as 0.
     ///
     /// `Strained` comes where an operation of a term's form leaves 128 bits, or one of its value, with the basic variables and the
-    /// values; `Memory` comes where there is no memory, and `Pivots` never.
+    /// values; `Memory` comes where there is no memory.
     /// Source: Nelson and Oppen, Simplification by Cooperating Decision Procedures, TOPLAS 1979.
     pub fn shared_values(&self, table: &TermTable, shared: &[TermId]) -> Result<Vec<Delta>, Stop>
         requires with { IsOf self.now table.now }
@@ -96,7 +96,7 @@ impl Simplex {
         ensures ok { IfOk result (λ values. AreValuesOf (term_tableau_of table.now self.now)
             (clause_at table.now shared.now) (map pair_of values.items)) }
         ensures stops { IfErr result (StopsBy
-            (λ s. IsOverflowAt table.now (terms_watched table.now self.now.theory) s self.now) (λ _. ⊥)) }
+            (λ s. IsOverflowAt table.now (terms_watched table.now self.now.theory) s self.now)) }
     {
         let mut values = Vec::new(self.alloc);
         'terms: for id in shared.iter() {

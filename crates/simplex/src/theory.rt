@@ -11,7 +11,6 @@ impl Theory for Simplex {
     ghost use Rattle.std.proofs.lemmas.List.Elements.{All-weaker, All-contains};
     ghost use Rattle.spec_sorts.specs.Terms.{Term};
     ghost use Rattle.spec_causes.specs.Reached.{IsReached};
-    ghost use Rattle.spec_causes.specs.Causes.{NeedsMore};
     ghost use Rattle.spec_simplex.specs.Constraints.{constraint_of, HaveForms};
     ghost use Rattle.spec_simplex.specs.Points.{IsFeasible, IsInfeasible};
     ghost use Rattle.term_core.specs.declared.ids.Lit.{Lit};
@@ -24,7 +23,7 @@ impl Theory for Simplex {
     ghost use Rattle.simplex_explain.proofs.StatedBounds.{all_from};
     ghost use Rattle.simplex_explain.proofs.TermTableauViews.{term_tableau_kept, among_kept, atoms_kept};
     ghost use Rattle.simplex.specs.Checks.{Suits, KeepsBounds};
-    ghost use Rattle.simplex.specs.Coming.{term_tableau_of, CameBy, StoppedBy, IsOverflowAt};
+    ghost use Rattle.simplex.specs.Coming.{CameBy, StoppedBy, IsOverflowAt};
 
     ghost view = { λ s. s.theory };
 
@@ -39,8 +38,6 @@ impl Theory for Simplex {
     ghost stopped_by = { λ s t ts n es. StoppedBy t ts n es s };
 
     ghost may_overflow = { λ s t ts x. IsOverflowAt t ts x s };
-
-    ghost needs_more = { λ s t ts. NeedsMore ts (term_tableau_of t s) };
 
     fn watch_term(&mut self, table: &TermTable, id: TermId) -> Result<(), Stop> {
         Simplex::watch_term(self, table, id)

@@ -23,7 +23,7 @@ use term_core::{TermId, TermTable};
 /// Makes the stop of an overflow, with the basic variables and the values of the assignment. It is out of memory where their lists
 /// find none.
 fn overflowed(assignment: &RealAssignment, wide: Wide) -> Stop
-    ensures { StopsBy (λ s. (s.wide ≡ wide) × IsBasisOf assignment.now s.basis) (λ _. ⊥) result }
+    ensures { StopsBy (λ s. (s.wide ≡ wide) × IsBasisOf assignment.now s.basis) result }
 {
     match assignment.basis() {
         Ok(basis) => Stop::Strained(Strain { wide, basis }),
@@ -43,9 +43,9 @@ impl Simplex {
         ensures came { (ts : List Term) (n : ℕ) (es : List (ℕ × ℕ)) → Contains ts (term_at table.now id)
             → CameBy table.now ts n es self.old → CameTo result
             (λ _. CameBy table.now ts (counted (term_at table.now id) n) es self.new)
-            (StoppedBy table.now ts n es self.new) (Unit {0}) }
+            (StoppedBy table.now ts n es self.new) }
         ensures stops { IfErr result (StopsBy (λ s. (ts : List Term) → Contains ts (term_at table.now id)
-            → IsOverflowAt table.now ts s self.new) (λ _. ⊥)) }
+            → IsOverflowAt table.now ts s self.new)) }
     {
         self.literals.are_of_watched_terms();
         self.literals.marks_are_prefixes();
@@ -79,7 +79,7 @@ impl Simplex {
     /// its place, and the room for the bounds of its two literals.
     ///
     /// `Memory` comes where memory ran out, and `Strained` where an operation on the atom's form or its row leaves 128 bits, with
-    /// the basic variables and the values there; `Pivots` never comes. After a stop it watches what it did.
+    /// the basic variables and the values there. After a stop it watches what it did.
     pub fn watch_term(&mut self, table: &TermTable, id: TermId) -> Result<(), Stop>
         requires term { IsTermIn table.now id }
         requires new { Contains self.old.theory.watched id → ⊥ }
@@ -90,9 +90,9 @@ impl Simplex {
         ensures came { (ts : List Term) (n : ℕ) (es : List (ℕ × ℕ)) → Contains ts (term_at table.now id)
             → CameBy table.now ts n es self.old → CameTo result
             (λ _. CameBy table.now ts (counted (term_at table.now id) n) es self.new)
-            (StoppedBy table.now ts n es self.new) (Unit {0}) }
+            (StoppedBy table.now ts n es self.new) }
         ensures stops { IfErr result (StopsBy (λ s. IsOverflowAt table.now
-            (terms_watched table.now (with_watched self.old.theory id)) s self.new) (λ _. ⊥)) }
+            (terms_watched table.now (with_watched self.old.theory id)) s self.new)) }
     {
         self.slack_term(table, id)?;
         let slack_list = self.slacked_with(id)?;

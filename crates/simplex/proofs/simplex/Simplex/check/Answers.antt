@@ -24,7 +24,7 @@ use Rattle.simplex_check.specs.Suspects.{KeepsFirst}
 use Rattle.simplex_check.proofs.KeptFirst.{keeps_all}
 use Rattle.simplex_explain.proofs.Checked.{checked_meets}
 use Rattle.simplex.specs.Views.{SimplexView, IsOf}
-use Rattle.simplex.proofs.Judging.{spent, stopped, assignment_fits, table_grows, fine, found, no_pivots, nothing_came, answers, clash_differs, stop_differs}
+use Rattle.simplex.proofs.Judging.{spent, stopped, assignment_fits, table_grows, fine, found, nothing_came, answers, clash_differs, stop_differs}
 use Rattle.simplex.proofs.simplex.Simplex.check.Goals as goal
 
 pub invariant_of-self-in-Fine : goal.invariant_of-self-in-Fine
@@ -51,7 +51,7 @@ returns-in-Err-clause-budget c =
     let s = c.self.inside in
     let old = c.args.budget.now in
     let more = spent (ranges_in s.bounds.held) s.assignment c.check_after.new.self old c.check_after.new.budget (Err c.in-Err.stop) c.in-Err.ensures.ends in
-    (more.0, c.check_after.ensures.budget ∙ ap (λ (es : List (ℕ × ℕ)). (let b : BudgetView = record { limit = old.limit; learned = old.learned; pivots = old.pivots; exchanges = es } in b)) more.1)
+    (more.0, c.check_after.ensures.budget ∙ ap (λ (es : List (ℕ × ℕ)). (let b : BudgetView = record { limit = old.limit; learned = old.learned; exchanges = es } in b)) more.1)
 
 pub returns-in-Err-clause-came : goal.returns-in-Err-clause-came
 returns-in-Err-clause-came c ts n came =
@@ -139,7 +139,7 @@ returns-in-Ok-clash-clause-budget c =
     let s = c.self.inside in
     let old = c.args.budget.now in
     let more = spent (ranges_in s.bounds.held) s.assignment c.check_after.new.self old c.check_after.new.budget (Ok c.in-Ok.outcome) c.in-Ok.ensures.ends in
-    (more.0, c.check_after.ensures.budget ∙ ap (λ (es : List (ℕ × ℕ)). (let b : BudgetView = record { limit = old.limit; learned = old.learned; pivots = old.pivots; exchanges = es } in b)) more.1)
+    (more.0, c.check_after.ensures.budget ∙ ap (λ (es : List (ℕ × ℕ)). (let b : BudgetView = record { limit = old.limit; learned = old.learned; exchanges = es } in b)) more.1)
 
 pub returns-in-Ok-clash-clause-ends : goal.returns-in-Ok-clash-clause-ends
 returns-in-Ok-clash-clause-ends c = (Ok c.in-Ok.outcome, answers c.in-Ok.outcome _ c.in_default.not-Fine (clash_differs c.in-Ok-clash.step), subst (λ (v : SimplexView). EndsCheck (ranges_in v.bounds.held) v.assignment c.check_after.new.self c.args.budget.now c.check_after.new.budget (Ok c.in-Ok.outcome)) c.self.view_is c.in-Ok.ensures.ends)
@@ -180,7 +180,7 @@ returns-in-Err-clash-clause-budget c =
     let s = c.self.inside in
     let old = c.args.budget.now in
     let more = spent (ranges_in s.bounds.held) s.assignment c.check_after.new.self old c.check_after.new.budget (Ok c.in-Ok.outcome) c.in-Ok.ensures.ends in
-    (more.0, c.check_after.ensures.budget ∙ ap (λ (es : List (ℕ × ℕ)). (let b : BudgetView = record { limit = old.limit; learned = old.learned; pivots = old.pivots; exchanges = es } in b)) more.1)
+    (more.0, c.check_after.ensures.budget ∙ ap (λ (es : List (ℕ × ℕ)). (let b : BudgetView = record { limit = old.limit; learned = old.learned; exchanges = es } in b)) more.1)
 
 pub returns-in-Err-clash-clause-ends : goal.returns-in-Err-clash-clause-ends
 returns-in-Err-clash-clause-ends c = (Ok c.in-Ok.outcome, answers c.in-Ok.outcome _ c.in_default.not-Fine (stop_differs c.in-Err-clash.stop), subst (λ (v : SimplexView). EndsCheck (ranges_in v.bounds.held) v.assignment c.check_after.new.self c.args.budget.now c.check_after.new.budget (Ok c.in-Ok.outcome)) c.self.view_is c.in-Ok.ensures.ends)
@@ -196,17 +196,15 @@ returns-in-Err-clash-clause-came c ts n came =
     let solved = (subst IsTableau c.tableau.ensures c.rows_are_in_solved_form.ensures).solved in
     let lengths = (c.values_solve_the_rows-2.ensures.lengths ∙ c.check_after.ensures.variables ∙ sym c.values_solve_the_rows.ensures.lengths) in
     let es = c.check_after.new.budget.exchanges in
-    subst (λ (u : TableView). CameTo (let r : Result Verdict Stop = Err c.in-Err-clash.stop in r) (λ verdict. CameBy u ts (paid_after verdict n) es v) (StoppedBy u ts n es v) (CameBy u ts (suc n) es v))
+    subst (λ (u : TableView). CameTo (let r : Result Verdict Stop = Err c.in-Err-clash.stop in r) (λ verdict. CameBy u ts (paid_after verdict n) es v) (StoppedBy u ts n es v))
     (sym c.in-Err-clash.ensures.same.0)
-    (stops_there (λ verdict. CameBy t ts (paid_after verdict n) es v) (StoppedBy t ts n es v) (CameBy t ts (suc n) es v) c.in-Err-clash.stop
-    (stopped_found t ts old c.check_after.new.self is c.self.invariant.0 solved c.check_after.ensures.listed lengths n c.args.budget.now c.check_after.new.budget came c.in-Ok.outcome c.in-Ok.ensures.ends)
-    (came_found t ts old c.check_after.new.self is c.self.invariant.0 solved c.check_after.ensures.listed lengths n c.args.budget.now c.check_after.new.budget came c.in-Ok.outcome c.in-Ok.ensures.ends))
+    (stops_there (λ verdict. CameBy t ts (paid_after verdict n) es v) (StoppedBy t ts n es v) c.in-Err-clash.stop
+    (stopped_found t ts old c.check_after.new.self is c.self.invariant.0 solved c.check_after.ensures.listed lengths n c.args.budget.now c.check_after.new.budget came c.in-Ok.outcome c.in-Ok.ensures.ends))
 
 pub returns-in-Err-clash-clause-stops : goal.returns-in-Err-clash-clause-stops
 returns-in-Err-clash-clause-stops c =
     let s = c.self.inside in
     let t = c.args.table.now in
     let v : SimplexView = record { theory = s.literals; atoms = s.atoms; assignment = c.check_after.new.self; bounds = s.bounds; starts = s.starts.items } in
-    let stops = subst (λ (w : SimplexView). StopsBy (λ x. IsOverflowAt t (terms_watched t w.theory) x v) (λ _. ⊥) c.in-Err-clash.stop) c.self.view_is c.in-Err-clash.ensures.stops in
-    no_pivots _ _ c.in-Err-clash.stop
-    (subst (λ (u : TableView). StopsBy (λ x. IsOverflowAt u (terms_watched t c.args.self.now.theory) x v) (λ _. ⊥) c.in-Err-clash.stop) (sym c.in-Err-clash.ensures.same.0) stops)
+    let stops = subst (λ (w : SimplexView). StopsBy (λ x. IsOverflowAt t (terms_watched t w.theory) x v) c.in-Err-clash.stop) c.self.view_is c.in-Err-clash.ensures.stops in
+    subst (λ (u : TableView). StopsBy (λ x. IsOverflowAt u (terms_watched t c.args.self.now.theory) x v) c.in-Err-clash.stop) (sym c.in-Err-clash.ensures.same.0) stops

@@ -28,7 +28,7 @@ returns-in-Err-Wide-clause-stops g c =
     let over = subst (λ (w : SimplexView). AreOverWatched w.theory.held w.theory.watched) c.self.view_is c.are_of_watched_terms.ensures.over in
     overflowed t (terms_watched t v.theory) v c.in-Err-Wide.wide c.stop_of.result
     (found_weighs t v is fits (terms_watched t v.theory) (watched_atoms t v over) c.args.outcome (overflow c.in-Err-Wide.wide) c.requires.1.1.1.1 (subst (OnReasonOverflow (OverflowsFound v c.args.outcome)) c.in-Err-Wide.field-0-is c.in-Err-Wide.ensures.wide))
-    (subst (λ (w : Wide). StopsBy (λ s. (s.wide ≡ w) × IsBasisOf v.assignment s.basis) (λ _. ⊥) c.stop_of.result) c.in-Err-Wide.wide-is c.stop_of.ensures)
+    (subst (λ (w : Wide). StopsBy (λ s. (s.wide ≡ w) × IsBasisOf v.assignment s.basis) c.stop_of.result) c.in-Err-Wide.wide-is c.stop_of.ensures)
 
 pub explain-requires : goal.explain-requires
 explain-requires g c =
@@ -77,4 +77,4 @@ returns-in-Err-Wide-explain-clause-stops g c =
     let over = subst (λ (w : SimplexView). AreOverWatched w.theory.held w.theory.watched) c.self.view_is c.are_of_watched_terms.ensures.over in
     overflowed t (terms_watched t v.theory) v c.in-Err-Wide-explain.wide c.stop_of-in-Err-Wide-explain.result
     (found_adds t v own fits (terms_watched t v.theory) (watched_atoms t v over) c.args.outcome rs (overflow c.in-Err-Wide-explain.wide) c.requires.1.1.1.1 c.in-Ok.ensures.reasons (subst (λ (ws : List Weighted). judged t ws ≡ Err (wide (overflow c.in-Err-Wide-explain.wide))) c.deref.ensures.value cause))
-    (subst (λ (w : Wide). StopsBy (λ s. (s.wide ≡ w) × IsBasisOf v.assignment s.basis) (λ _. ⊥) c.stop_of-in-Err-Wide-explain.result) c.in-Err-Wide-explain.wide-is c.stop_of-in-Err-Wide-explain.ensures)
+    (subst (λ (w : Wide). StopsBy (λ s. (s.wide ≡ w) × IsBasisOf v.assignment s.basis) c.stop_of-in-Err-Wide-explain.result) c.in-Err-Wide-explain.wide-is c.stop_of-in-Err-Wide-explain.ensures)

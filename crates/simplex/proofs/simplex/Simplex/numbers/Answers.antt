@@ -38,7 +38,7 @@ pub returns-in_err-values-clause-stops : goal.returns-in_err-values-clause-stops
 returns-in_err-values-clause-stops c =
     let v = c.args.self.now in
     let t = c.args.table.now in
-    told (StopsBy (λ s. IsOverflowAt t (terms_watched t v.theory) s v) (λ _. ⊥)) c.from_residual.result c.in_err-values.field-0.0 c.from_residual.ensures.1 c.in_err-values.ensures.stops
+    told (StopsBy (λ s. IsOverflowAt t (terms_watched t v.theory) s v)) c.from_residual.result c.in_err-values.field-0.0 c.from_residual.ensures.1 c.in_err-values.ensures.stops
 
 pub returns-in-Err-clause-stops : goal.returns-in-Err-clause-stops
 returns-in-Err-clause-stops c =

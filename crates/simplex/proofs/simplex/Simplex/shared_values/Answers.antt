@@ -24,7 +24,7 @@ returns-in-Err-Wide-clause-stops c =
     overflowed t ts v c.in-Err-Wide.wide c.stop_of.result
     (valuing u (term_among (IsSharedAmong ts) t c.args.shared.now c.terms.id-index none c.terms-test.true c.requires.shared)
     (subst (OnAtomOverflow (OverflowsTerm (term_tableau_of t v) u)) c.in-Err-Wide.field-0-is c.in-Err-Wide.ensures.wide))
-    (subst (λ (w : Wide). StopsBy (λ s. (s.wide ≡ w) × IsBasisOf v.assignment s.basis) (λ _. ⊥) c.stop_of.result) c.in-Err-Wide.wide-is c.stop_of.ensures)
+    (subst (λ (w : Wide). StopsBy (λ s. (s.wide ≡ w) × IsBasisOf v.assignment s.basis) c.stop_of.result) c.in-Err-Wide.wide-is c.stop_of.ensures)
 
 pub terms-preserved : goal.terms-preserved
 terms-preserved c =

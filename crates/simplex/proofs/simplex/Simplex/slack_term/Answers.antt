@@ -43,11 +43,11 @@ returns-clause-stops c =
     let id = c.args.id in
     let w : SimplexView = record { theory = s.literals; atoms = c.watch.new.self; assignment = c.watch.new.assignment; bounds = c.watch.new.bounds; starts = s.starts.items } in
     elim c.match-watch.branch [
-      | in-Ok a ↦ subst (λ r. IfErr r (StopsBy (λ s. (ts : List Term) → Contains ts (term_at t id) → IsOverflowAt t ts s w) (λ _. ⊥))) (sym a.result-is) tt
-      | in-Err-Wide a ↦ subst (λ r. IfErr r (StopsBy (λ s. (ts : List Term) → Contains ts (term_at t id) → IsOverflowAt t ts s w) (λ _. ⊥))) (sym a.result-is)
+      | in-Ok a ↦ subst (λ r. IfErr r (StopsBy (λ s. (ts : List Term) → Contains ts (term_at t id) → IsOverflowAt t ts s w))) (sym a.result-is) tt
+      | in-Err-Wide a ↦ subst (λ r. IfErr r (StopsBy (λ s. (ts : List Term) → Contains ts (term_at t id) → IsOverflowAt t ts s w))) (sym a.result-is)
           (stop_of t w id a.in-Err-Wide.wide
           (subst (OnAtomOverflow (OverflowsAtom t w.atoms.owners w.assignment id)) a.in-Err-Wide.field-0-is a.in-Err-Wide.ensures.wide) a.overflowed.result a.overflowed.ensures)
-      | in-Err-Memory a ↦ subst (λ r. IfErr r (StopsBy (λ s. (ts : List Term) → Contains ts (term_at t id) → IsOverflowAt t ts s w) (λ _. ⊥))) (sym a.result-is) tt
+      | in-Err-Memory a ↦ subst (λ r. IfErr r (StopsBy (λ s. (ts : List Term) → Contains ts (term_at t id) → IsOverflowAt t ts s w))) (sym a.result-is) tt
     ]
 
 pub returns-clause-came : goal.returns-clause-came
@@ -59,20 +59,20 @@ returns-clause-came c ts n es there came =
     let w : SimplexView = record { theory = s.literals; atoms = c.watch.new.self; assignment = c.watch.new.assignment; bounds = c.watch.new.bounds; starts = s.starts.items } in
     let old : CameBy t ts n es v = subst (CameBy t ts n es) (sym c.self.view_is) came in
     elim c.match-watch.branch [
-      | in-Ok a ↦ subst (λ r. CameTo r (λ _. CameBy t ts (counted u n) es w) (StoppedBy t ts n es w) (Unit {0})) (sym a.result-is) (record {
+      | in-Ok a ↦ subst (λ r. CameTo r (λ _. CameBy t ts (counted u n) es w) (StoppedBy t ts n es w)) (sym a.result-is) (record {
         watched = old.watched;
         held = old.held;
         runs = old.runs;
         reached = a.in-Ok.ensures.came ts old.runs es there old.reached;
         few = counted_few v w n old.runs u (λ plain. keeps_same v w (c.watch.ensures.plain plain) c.watch.ensures.bounds.held) old.few;
       })
-      | in-Err-Wide a ↦ subst (λ r. CameTo r (λ _. CameBy t ts (counted u n) es w) (StoppedBy t ts n es w) (Unit {0})) (sym a.result-is)
-          (stops_there (λ _. CameBy t ts (counted u n) es w) (StoppedBy t ts n es w) (Unit {0}) a.overflowed.result
+      | in-Err-Wide a ↦ subst (λ r. CameTo r (λ _. CameBy t ts (counted u n) es w) (StoppedBy t ts n es w)) (sym a.result-is)
+          (stops_there (λ _. CameBy t ts (counted u n) es w) (StoppedBy t ts n es w) a.overflowed.result
           (record {
             runs = old.runs;
             stopped = between old.runs es (term_tableau_of t w)
                 (subst (λ (x : AtomStop). ButForMemory (IsReached ts old.runs es (term_tableau_of t w)) (let r : Result (Unit {0}) AtomStop = Err x in r)) a.in-Err-Wide.field-0-is (a.in-Err-Wide.ensures.came ts old.runs es there old.reached));
             few = at_most v n old.runs old.few;
-          }) tt)
-      | in-Err-Memory a ↦ subst (λ r. CameTo r (λ _. CameBy t ts (counted u n) es w) (StoppedBy t ts n es w) (Unit {0})) (sym a.result-is) tt
+          }))
+      | in-Err-Memory a ↦ subst (λ r. CameTo r (λ _. CameBy t ts (counted u n) es w) (StoppedBy t ts n es w)) (sym a.result-is) tt
     ]
