@@ -17,10 +17,10 @@ use Rattle.simplex.specs.Coming.{CameBy, IsOverflowAt}
 use Rattle.simplex.proofs.Coming.{came_same}
 
 -- a stop is one where places and rows are the same
-pub same_stop : (t : TableView) (ts : List Term) (v w : SimplexView) (stop : Stop) → w.atoms ≡ v.atoms → w.assignment ≡ v.assignment → StopsBy (λ s. IsOverflowAt t ts s v) (λ _. ⊥) stop → StopsBy (λ s. IsOverflowAt t ts s w) (λ _. ⊥) stop
+pub same_stop : (t : TableView) (ts : List Term) (v w : SimplexView) (stop : Stop) → w.atoms ≡ v.atoms → w.assignment ≡ v.assignment → StopsBy (λ s. IsOverflowAt t ts s v) stop → StopsBy (λ s. IsOverflowAt t ts s w) stop
 same_stop t ts v w stop a b h =
-    subst (λ (x : AtomsView). StopsBy (λ s. OverflowsAt ts (term_tableau_in t x.owners w.assignment) (overflow s.wide) × IsBasisAt (term_tableau_in t x.owners w.assignment) s.basis) (λ _. ⊥) stop) (sym a)
-    (subst (λ (x : AssignmentView). StopsBy (λ s. OverflowsAt ts (term_tableau_in t v.atoms.owners x) (overflow s.wide) × IsBasisAt (term_tableau_in t v.atoms.owners x) s.basis) (λ _. ⊥) stop) (sym b) h)
+    subst (λ (x : AtomsView). StopsBy (λ s. OverflowsAt ts (term_tableau_in t x.owners w.assignment) (overflow s.wide) × IsBasisAt (term_tableau_in t x.owners w.assignment) s.basis) stop) (sym a)
+    (subst (λ (x : AssignmentView). StopsBy (λ s. OverflowsAt ts (term_tableau_in t v.atoms.owners x) (overflow s.wide) × IsBasisAt (term_tableau_in t v.atoms.owners x) s.basis) stop) (sym b) h)
 
 -- a mark that is taken away changes nothing of how it came to are there
 pub unmarked_came : (t : TableView) (ts : List Term) (n : ℕ) (es : List (ℕ × ℕ)) (v w : SimplexView) → CameBy t ts n es v → w.atoms ≡ v.atoms → w.assignment ≡ v.assignment → w.bounds ≡ v.bounds

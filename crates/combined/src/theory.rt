@@ -32,8 +32,6 @@ impl Theory for Combined {
 
     ghost may_overflow = { λ c t ts s. ⟦<Simplex as Theory>⟧.may_overflow c.simplex t ts s };
 
-    ghost needs_more = { λ c t ts. ⟦<Simplex as Theory>⟧.needs_more c.simplex t ts };
-
     fn watch_term(&mut self, table: &TermTable, id: TermId) -> Result<(), Stop> {
         // Nothing can be unwatched, but simplex can go back to a mark.
         self.simplex.mark()?;

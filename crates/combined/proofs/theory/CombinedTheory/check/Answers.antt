@@ -3,7 +3,7 @@ use Rattle.std.proofs.Common.{◌≡◌, suc, List, Ok, ap, sym, ◌∙◌, subs
 use Rattle.std.specs.Prelude.{IfErr}
 use Rattle.spec_sorts.specs.Terms.{Term}
 use Rattle.term_core.specs.Tables.{TableView}
-use Rattle.sat_budget.specs.Budgets.{BudgetView, StopsBy, AreSpent}
+use Rattle.sat_budget.specs.Budgets.{BudgetView, StopsBy}
 use Rattle.proof_log.specs.declared.theory.Verdict.{Verdict}
 use Rattle.proof_log.specs.Theories.{Derived, terms_watched, literals_held}
 use Rattle.congruence.specs.Views.{theory_of}
@@ -61,7 +61,7 @@ returns-in-Fine-clause-stops c =
     let nothing = c.in_ok-step.ensures.nothing_came (ap Ok c.in-Fine.is) in
     let view : s.theory ≡ theory_of c.args.self.now.congruence = sym c.self.invariant ∙ ap (λ (x : CombinedView). theory_of x.congruence) c.self.view_is in
     let w = c.check-in-Fine.new.table in
-    subst (λ (ts : List Term). IfErr c.check-in-Fine.result (StopsBy (of_simplex.ghosts.may_overflow u w ts) (AreSpent (of_simplex.ghosts.needs_more u w ts) c.check-in-Fine.new.budget)))
+    subst (λ (ts : List Term). IfErr c.check-in-Fine.result (StopsBy (of_simplex.ghosts.may_overflow u w ts)))
     (λ i. terms_watched (nothing.0 i) (view i)) c.check-in-Fine.ensures.stops
 
 pub returns-in-Clash-clause-came : goal.returns-in-Clash-clause-came

@@ -23,7 +23,7 @@ returns-in-Err-clause-stops c =
     let u = theory_of c.args.self.now.congruence in
     let view : c.mark.new.self.theory ≡ with_mark u = c.in_ok-mark.ensures.marks ∙ ap with_mark (sym c.self.invariant ∙ ap (λ (x : CombinedView). theory_of x.congruence) c.self.view_is) in
     same_stop t (terms_watched t (with_watched u c.args.id)) c.watch_term.new.self c.forget_mark.new.self c.in-Err.stop c.forget_mark.ensures.atoms c.forget_mark.ensures.assignment
-    (subst (λ (x : TheoryView). StopsBy (λ e. IsOverflowAt t (terms_watched t (with_watched x c.args.id)) e c.watch_term.new.self) (λ _. ⊥) c.in-Err.stop) view c.in-Err.ensures.stops)
+    (subst (λ (x : TheoryView). StopsBy (λ e. IsOverflowAt t (terms_watched t (with_watched x c.args.id)) e c.watch_term.new.self) c.in-Err.stop) view c.in-Err.ensures.stops)
 
 pub returns-in-Err-clause-came : goal.returns-in-Err-clause-came
 returns-in-Err-clause-came c ts n es there came =
@@ -34,16 +34,16 @@ returns-in-Err-clause-came c ts n es there came =
     let w = c.watch_term.new.self in
     let u = c.forget_mark.new.self in
     let m = counted (term_at t c.args.id) n in
-    came_onward (Err c.in-Err.stop) (λ _. CameBy t ts m es w) (λ _. CameBy t ts m es u) (StoppedBy t ts n es w) (StoppedBy t ts n es u) (Unit {0}) (Unit {0})
+    came_onward (Err c.in-Err.stop) (λ _. CameBy t ts m es w) (λ _. CameBy t ts m es u) (StoppedBy t ts n es w) (StoppedBy t ts n es u)
     (λ x on. unmarked_came t ts m es w u on c.forget_mark.ensures.atoms c.forget_mark.ensures.assignment c.forget_mark.ensures.bounds c.forget_mark.ensures.forgets)
-    (stopped_same t ts n es w u c.forget_mark.ensures.atoms c.forget_mark.ensures.assignment) (λ x. x)
+    (stopped_same t ts n es w u c.forget_mark.ensures.atoms c.forget_mark.ensures.assignment)
     (c.in-Err.ensures.came ts n es there marked)
 
 pub returns-in-Err-watch_term-clause-came : goal.returns-in-Err-watch_term-clause-came
 returns-in-Err-watch_term-clause-came c ts n es there came =
     let t = c.args.table.now in
     let v = c.back.new.self in
-    subst (λ stop. (let r : Result (Unit {0}) Stop = Err stop in CameTo r (λ _. CameBy t ts (counted (term_at t c.args.id) n) es v) (StoppedBy t ts n es v) (Unit {0})))
+    subst (λ stop. (let r : Result (Unit {0}) Stop = Err stop in CameTo r (λ _. CameBy t ts (counted (term_at t c.args.id) n) es v) (StoppedBy t ts n es v)))
     (sym c.in-Err-watch_term.ensures.memory) tt
 
 pub returns-clause-came : goal.returns-clause-came
