@@ -144,7 +144,7 @@ module _ (t u : TableView) (g : Extends t u) (declared : declared_in u ≡ decla
           }
 
     pub continues_grown : All (λ (l : Logged). IsLemma (clause_at t x.terms.items) (length x.log) (inference_of u l)) more → Continues t u x (record x { log = log; fed = n })
-    continues_grown lemmas = record { table = g; declared = declared; limits = (refl, refl); vars = refl; terms = refl; search = search_grown lemmas }
+    continues_grown lemmas = record { table = g; declared = declared; limit = refl; vars = refl; terms = refl; search = search_grown lemmas }
 
   -- with terms alone
   module _ (x : Search) (right : IsLogOf u x.log) (same : derivation_in u x.log ≡ derivation_in t x.log) (r : SearchFits t x) where
@@ -161,7 +161,7 @@ module _ (t u : TableView) (g : Extends t u) (declared : declared_in u ≡ decla
       level = b.level;
       fed = b.fed;
       search = continues_wider.search problem b.search;
-      limits_are = b.limits_are;
+      limit_is = b.limit_is;
       unspent = b.unspent;
     }
 
@@ -180,6 +180,6 @@ module _ (t u : TableView) (x : Search) (r : SearchFits t x) (log : List Logged)
     level = b.level;
     fed = b.fed;
     search = continues_derived.search problem b.search;
-    limits_are = b.limits_are;
+    limit_is = b.limit_is;
     unspent = b.unspent;
   }

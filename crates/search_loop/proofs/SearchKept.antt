@@ -83,7 +83,7 @@ module _ (t : TableView) (x : Search) (r : SearchFits t x) (step : StepId) (held
 
   -- it goes on
   pub continues_kept : Continues t t x (record x { store = s })
-  continues_kept = record { table = Extends-self t; declared = refl; limits = (refl, refl); vars = refl; terms = refl; search = search_kept }
+  continues_kept = record { table = Extends-self t; declared = refl; limit = refl; vars = refl; terms = refl; search = search_kept }
 
   -- and begins still
   pub begins_kept : HasSeen s x.trail → AreImplied s x.trail → (problem : Problem) (limits : Limits) → BeginsSearch t problem limits x → BeginsSearch t problem limits (record x { store = s })
@@ -93,6 +93,6 @@ module _ (t : TableView) (x : Search) (r : SearchFits t x) (step : StepId) (held
     level = b.level;
     fed = b.fed;
     search = search_kept problem b.search;
-    limits_are = b.limits_are;
+    limit_is = b.limit_is;
     unspent = b.unspent;
   }

@@ -26,7 +26,7 @@ pub continues_same : (t : TableView) (x y : Search) → y.log ≡ x.log → y.st
 continues_same t x y log clauses budget vars terms = record {
   table = Extends-self t;
   declared = refl;
-  limits = (ap (λ (b : BudgetView). b.limit) budget, ap (λ (b : BudgetView). b.pivots) budget);
+  limit = ap (λ (b : BudgetView). b.limit) budget;
   vars = vars;
   terms = terms;
   search = λ problem s. record {
@@ -48,7 +48,7 @@ pub continues_on : (s t u : TableView) (a b c : Search) → Continues s t a b �
 continues_on s t u a b c h k = record {
   table = Extends-trans s t u h.table k.table;
   declared = k.declared ∙ h.declared;
-  limits = (k.limits.0 ∙ h.limits.0, k.limits.1 ∙ h.limits.1);
+  limit = k.limit ∙ h.limit;
   vars = k.vars ∙ h.vars;
   terms = k.terms ∙ h.terms;
   search = λ problem x. k.search problem (h.search problem x);

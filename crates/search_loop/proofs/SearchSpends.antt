@@ -6,7 +6,7 @@ use Rattle.term_core.specs.declared.ids.Lit.{Lit}
 use Rattle.term_core.specs.Tables.{TableView}
 use Rattle.term_core.proofs.TermsExtend.{Extends-self}
 use Rattle.sat_budget.specs.declared.limits.Stop.{Stop}
-use Rattle.sat_budget.specs.declared.limits.Stop.TheVariants.{Strained, Pivots, Memory}
+use Rattle.sat_budget.specs.declared.limits.Stop.TheVariants.{Strained, Memory}
 use Rattle.search_loop.specs.Asking.{OnStop}
 use Rattle.sat_budget.specs.Budgets.{BudgetView, Spends}
 use Rattle.proof_log.specs.Logs.{derivation_in}
@@ -42,7 +42,7 @@ module _ (t : TableView) (x : Search) (b : BudgetView) (spends : Spends x.budget
   continues_spent = record {
     table = Extends-self t;
     declared = refl;
-    limits = (ap (λ (y : BudgetView). y.limit) spends.1, ap (λ (y : BudgetView). y.pivots) spends.1);
+    limit = ap (λ (y : BudgetView). y.limit) spends.1;
     vars = refl;
     terms = refl;
     search = λ problem s. record {
@@ -64,29 +64,26 @@ handed_on P (Ok x) e is h = absurd is
 handed_on P (Err s) e is h = subst P (sym is) h
 
 -- so is what follows of what it came to
-pub came_handed_on : {A B : Type 0} (P : A → Type 0) (Q : B → Type 0) (S T E F : Type 0) (r : Result B Stop) (e : Stop) → IsErrAnd r (λ s. s ≡ e) → (S → T) → (E → F)
-    → CameTo (let q : Result A Stop = Err e in q) P S E → CameTo r Q T F
-came_handed_on P Q S T E F (Ok x) e is f g h = absurd is
-came_handed_on P Q S T E F (Err s) e is f g h = subst (λ (stop : Stop). CameTo (let q : Result _ Stop = Err stop in q) Q T F) (sym is) (by e h)
+pub came_handed_on : {A B : Type 0} (P : A → Type 0) (Q : B → Type 0) (S T : Type 0) (r : Result B Stop) (e : Stop) → IsErrAnd r (λ s. s ≡ e) → (S → T)
+    → CameTo (let q : Result A Stop = Err e in q) P S → CameTo r Q T
+came_handed_on P Q S T (Ok x) e is f h = absurd is
+came_handed_on P Q S T (Err s) e is f h = subst (λ (stop : Stop). CameTo (let q : Result _ Stop = Err stop in q) Q T) (sym is) (by e h)
   where
-    by : (e : Stop) → CameTo (let q : Result _ Stop = Err e in q) P S E → CameTo (let q : Result _ Stop = Err e in q) Q T F
+    by : (e : Stop) → CameTo (let q : Result _ Stop = Err e in q) P S → CameTo (let q : Result _ Stop = Err e in q) Q T
     by (Strained s) h = f h
-    by (Pivots n) h = g h
     by Memory h = tt
 
 -- and where memory runs out nothing is stated of it
-pub came_at_memory : {A : Type 0} (P : A → Type 0) (S E : Type 0) (r : Result A Stop) → IsErrAnd r (λ s. s ≡ Memory) → CameTo r P S E
-came_at_memory P S E (Ok x) is = absurd is
-came_at_memory P S E (Err s) is = subst (λ (stop : Stop). CameTo (let q : Result _ Stop = Err stop in q) P S E) (sym is) tt
+pub came_at_memory : {A : Type 0} (P : A → Type 0) (S : Type 0) (r : Result A Stop) → IsErrAnd r (λ s. s ≡ Memory) → CameTo r P S
+came_at_memory P S (Ok x) is = absurd is
+came_at_memory P S (Err s) is = subst (λ (stop : Stop). CameTo (let q : Result _ Stop = Err stop in q) P S) (sym is) tt
 
 -- what is so is so where a theory stopped
 pub on_stop : (P : Type 0) → P → (stop : Stop) → OnStop P stop
 on_stop P h (Strained s) = h
-on_stop P h (Pivots n) = h
 on_stop P h Memory = tt
 
 -- what follows of it follows there
 pub on_stop_weaker : (P Q : Type 0) → (P → Q) → (stop : Stop) → OnStop P stop → OnStop Q stop
 on_stop_weaker P Q f (Strained s) h = f h
-on_stop_weaker P Q f (Pivots n) h = f h
 on_stop_weaker P Q f Memory h = tt

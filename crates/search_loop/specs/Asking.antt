@@ -116,7 +116,7 @@ pub record HasStopped (old new : SearchState) (v : TheoryView) : Type 0 where
 
 -- P is so where a theory stopped for another reason than memory
 abbrev pub OnStop : Type 0 → Stop → Type 0
-OnStop P stop = StopsBy (λ s. P) (λ n. P) stop
+OnStop P stop = StopsBy (λ s. P) stop
 
 -- how a search ends: it is saturated, and is one for the same terms; or it shows of them what an answer does
 abbrev pub EndsSearch : (old new : SearchState) → (search_saturated : Type 0) → End → Type 0

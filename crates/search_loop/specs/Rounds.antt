@@ -23,7 +23,7 @@ use Rattle.clausify.specs.SearchTerms.{AreSearchTerms}
 use Rattle.clause_store.specs.Stores.{IsAdded}
 use Rattle.sat_budget.specs.Budgets.{BudgetView}
 use Rattle.sat_budget.specs.declared.limits.Limits.{Limits}
-use Rattle.sat_budget.specs.declared.limits.Reason.TheVariants.{Overflow, Conflicts, Pivots}
+use Rattle.sat_budget.specs.declared.limits.Reason.TheVariants.{Overflow, Conflicts}
 use Rattle.conflict_learn.specs.Conflicts.{Conflict}
 use Rattle.conflict_learn.specs.Learned.{IsLogged, IsLearned}
 use Rattle.conflict_learn.specs.declared.learned.Learned.{Learned}
@@ -31,7 +31,7 @@ use Rattle.search_loop.specs.declared.search.Search.{Search}
 use Rattle.search_loop.specs.declared.cdcl.Answer.{Answer}
 use Rattle.search_loop.specs.declared.cdcl.Answer.TheVariants.{Sat, Unsat, Unknown}
 use Rattle.search_loop.specs.Search.{images, SearchFits}
-use Rattle.search_loop.specs.Stops.{IsOverflowed, ArePivotsSpent}
+use Rattle.search_loop.specs.Stops.{IsOverflowed}
 use Rattle.search_model.specs.Models.{IsModel}
 
 -- it follows from other clauses by resolution
@@ -123,13 +123,13 @@ pub record IsSearch (t : TableView) (p : Problem) (x : Search) : Type 0 where
   -- so much is derived of it
   pub derived : HasDerived p (derivation_in t x.log) (images t x.store.clauses) (images t x.budget.learned)
 
--- the budget has the limits of a search on conflicts and on pivots
-abbrev pub HasLimits : Limits → BudgetView → Type 0
-HasLimits l b = (b.limit ≡ l.conflicts) × (b.pivots ≡ l.pivots)
+-- the budget has the limit of a search on conflicts
+abbrev pub HasLimit : Limits → BudgetView → Type 0
+HasLimit l b = b.limit ≡ l.conflicts
 
--- the limits of a budget are as they were
-abbrev pub KeepsLimits : BudgetView → BudgetView → Type 0
-KeepsLimits old new = (new.limit ≡ old.limit) × (new.pivots ≡ old.pivots)
+-- the limit of a budget is as it was
+abbrev pub KeepsLimit : BudgetView → BudgetView → Type 0
+KeepsLimit old new = new.limit ≡ old.limit
 
 -- A search that is asked a problem begins, under these limits.
 pub record BeginsSearch (t : TableView) (p : Problem) (limits : Limits) (x : Search) : Type 0 where
@@ -141,8 +141,8 @@ pub record BeginsSearch (t : TableView) (p : Problem) (limits : Limits) (x : Sea
   pub fed : x.fed ≡ 0
   -- it is asked the problem
   pub search : IsSearch t p x
-  -- the budget has the limits
-  pub limits_are : HasLimits limits x.budget
+  -- the budget has the limit
+  pub limit_is : HasLimit limits x.budget
   -- no exchange was made
   pub unspent : x.budget.exchanges ≡ []
 
@@ -155,14 +155,12 @@ added_by (Unknown reason) learned = learned
 
 -- what an answer shows of a problem: tables under which its terms are true; a clause without literals that is derived
 -- from them; that an
--- operation leaves the bound on fractions; that the budget is spent at a further conflict, or where a further exchange
--- is needed
+-- operation leaves the bound on fractions; or that the budget is spent at a further conflict
 abbrev pub HasEvidence : TableView → Problem → List Logged → BudgetView → Answer → Type 0
 HasEvidence t p log budget (Sat interp) = IsModel t (terms_of_problem p) interp
 HasEvidence t p log budget (Unsat step) = (stated t log step ≡ [])
     × IsDerivedFrom (terms_of_problem p) (derivation_in t log) step.0
 HasEvidence t p log budget (Unknown (Overflow s)) = IsOverflowed p (length budget.learned) budget.exchanges s
-HasEvidence t p log budget (Unknown (Pivots n)) = ArePivotsSpent p budget n
 HasEvidence t p log budget (Unknown (Conflicts n)) =
     IsConflictBudgetSpent p (derivation_in t log) budget.limit n (map (map (literal_at t)) budget.learned)
     × IsConflict p (derivation_in t log) (map (map (literal_at t)) budget.learned)
@@ -203,8 +201,8 @@ pub record Continues (t u : TableView) (old new : Search) : Type 0 where
   pub table : Extends t u
   -- the sorts and symbols are the same
   pub declared : declared_in u ≡ declared_in t
-  -- the limits are the same
-  pub limits : KeepsLimits old.budget new.budget
+  -- the limit is the same
+  pub limit : KeepsLimit old.budget new.budget
   -- there are as many variables
   pub vars : new.trail.vars ≡ old.trail.vars
   -- it speaks of the same terms

@@ -1,5 +1,5 @@
--- What shows that a search stops: an operation on fractions that leaves the bound, or a budget that is spent.
-use Rattle.std.specs.Prelude.{◌≡◌, ℕ, List, [], length}
+-- What shows that a search stops: an operation on fractions that leaves the bound.
+use Rattle.std.specs.Prelude.{◌≡◌, ℕ, List, []}
 use Rattle.spec_derivations.specs.Problems.{Problem, subterms_in}
 use Rattle.spec_derivations.specs.Orders.{whole_terms}
 use Rattle.spec_causes.specs.TermTableau.{TermTableau}
@@ -7,11 +7,9 @@ use Rattle.spec_causes.specs.Reached.{IsStoppedAt}
 use Rattle.spec_causes.specs.Counts.{AreFewRuns}
 use Rattle.spec_causes.specs.Causes.{OverflowsForm, OverflowsAt}
 use Rattle.spec_causes.specs.Checks.{IsOverflowAmong}
-use Rattle.spec_causes.specs.Checks as causes
 use Rattle.ratio128.specs.Meant.{overflow}
 use Rattle.sat_budget.specs.declared.limits.Basis.{Basis}
 use Rattle.sat_budget.specs.declared.limits.Strain.{Strain}
-use Rattle.sat_budget.specs.Budgets.{BudgetView}
 use Rattle.simplex_atoms.specs.TermTableauViews.{IsBasisAt}
 
 -- no basis was there yet
@@ -31,10 +29,3 @@ pub data IsOverflowed (p : Problem) (l : ℕ) (es : List (ℕ × ℕ)) (s : Stra
   -- an operation of simplex, where it is stopped after these exchanges, in few runs
   reckoning : (x : TermTableau) (runs : ℕ) → IsStoppedAt (whole_terms p) runs es x → AreFewRuns (whole_terms p) l runs
       → OverflowsAt (whole_terms p) x (overflow s.wide) → IsBasisAt x s.basis → IsOverflowed p l es s
-
--- As many exchanges were made as the budget allows, which the reason says, and simplex needs a further one.
-pub record ArePivotsSpent (p : Problem) (budget : BudgetView) (n : ℕ) : Type 0 where
-  -- so many
-  pub limit : n ≡ budget.pivots
-  -- were made and do not suffice
-  pub spent : causes.ArePivotsSpent p n (length budget.learned) budget.exchanges

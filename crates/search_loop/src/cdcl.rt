@@ -4,11 +4,11 @@
 ghost use Rattle.std.specs.Prelude.{◌≡◌, List, IfOk, IfErr};
 ghost use Rattle.spec_sorts.specs.Terms.{Term};
 ghost use Rattle.term_core.specs.Tables.{declared_in, Extends};
-ghost use Rattle.sat_budget.specs.Budgets.{StopsBy, AreSpent};
+ghost use Rattle.sat_budget.specs.Budgets.{StopsBy};
 ghost use Rattle.proof_log.specs.Logs.{IsLogOf};
 ghost use Rattle.proof_log.specs.Theories.{terms_watched, literals_held, CameTo};
 ghost use Rattle.search_loop.specs.Search.{SearchFits};
-ghost use Rattle.search_loop.specs.Rounds.{KeepsLimits};
+ghost use Rattle.search_loop.specs.Rounds.{KeepsLimit};
 ghost use Rattle.search_loop.specs.Asking.{IsAsked, HasSaturated, HasStopped, OnStop, state, EndsSearch};
 ghost use Rattle.search_loop.specs.Paying.{atoms_of, most, IsPaid};
 ghost use Rattle.search_loop.specs.declared.cdcl.End.TheVariants.{Saturated};
@@ -48,7 +48,7 @@ impl Search {
     /// Each round assigns an atom more, or learns a clause and takes one from the budget. The theory is asked wherever propagation is
     /// quiet. A conflict that it finds is a step of the log, as one of the clauses is; its clause is not kept.
     ///
-    /// `Memory` comes where memory ran out, here or in the theory. The other stops are those of the theory's check.
+    /// `Memory` comes where memory ran out, here or in the theory, and `Strained` from the theory's check.
     pub fn run<T: Theory>(&mut self, table: &mut TermTable, theory: &mut T) -> Result<End, Stop>
         requires ready { SearchFits table.old self.old }
         requires asked { IsAsked (T.view theory.old) self.old }
@@ -56,7 +56,7 @@ impl Search {
         ensures grown { Extends table.old table.new }
         ensures declared { declared_in table.new ≡ declared_in table.old }
         ensures right { IfOk result (λ _. IsLogOf table.new self.new.log) }
-        ensures limits { IfOk result (λ _. KeepsLimits self.old.budget self.new.budget) }
+        ensures limit { IfOk result (λ _. KeepsLimit self.old.budget self.new.budget) }
         ensures with { IfOk result (λ _. T.goes_with theory.new table.new) }
         ensures ends { IfOk result (EndsSearch (state table.old self.old) (state table.new self.new)
             (HasSaturated table.new self.new (T.view theory.new) (T.agrees theory.new
@@ -66,13 +66,9 @@ impl Search {
             → CameTo result (λ end. end ≡ Saturated → IsPaid
             (λ n. T.came_by theory.new table.new ts n self.new.budget.exchanges) (most table.old self.old self.new))
             (IsPaid (λ n. T.stopped_by theory.new table.new ts n self.new.budget.exchanges)
-            (most table.old self.old self.new))
-            (IsPaid (λ n. T.came_by theory.new table.new ts n self.new.budget.exchanges)
             (most table.old self.old self.new)) }
         ensures stops { IfErr result (StopsBy
-            (T.may_overflow theory.new table.new (terms_watched table.new (T.view theory.new)))
-            (AreSpent (T.needs_more theory.new table.new (terms_watched table.new (T.view theory.new)))
-            self.new.budget)) }
+            (T.may_overflow theory.new table.new (terms_watched table.new (T.view theory.new)))) }
         ensures stopped { IfErr result (OnStop (T.goes_with theory.new table.new
             × HasStopped (state table.old self.old) (state table.new self.new) (T.view theory.new))) }
     {

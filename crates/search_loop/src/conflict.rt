@@ -7,7 +7,7 @@ ghost use Rattle.proof_log.specs.Logs.{IsLogOf};
 ghost use Rattle.proof_log.specs.Clashes.{IsClash};
 ghost use Rattle.conflict_learn.specs.Conflicts.{IsOfZero, IsAboveZero};
 ghost use Rattle.search_loop.specs.Search.{SearchFits, conflict_of};
-ghost use Rattle.search_loop.specs.Rounds.{KeepsLimits, IsNoted, IsStep, LogsEmptyClause, HasLearned, ShowsAnswer};
+ghost use Rattle.search_loop.specs.Rounds.{KeepsLimit, IsNoted, IsStep, LogsEmptyClause, HasLearned, ShowsAnswer};
 ghost use Rattle.search_loop.specs.Asking.{IsAsked, state, ResolvesConflict};
 ghost use Rattle.search_loop.specs.declared.cdcl.Answer.TheVariants.{Unsat, Unknown};
 ghost use Rattle.sat_budget.specs.declared.limits.Reason.TheVariants.{Conflicts};
@@ -54,7 +54,7 @@ impl Search {
             → T.came_by theory.old table.old ts n self.old.budget.exchanges
             → T.came_by theory.new table.new ts n self.new.budget.exchanges) }
         ensures right { IfOk result (λ _. IsLogOf table.new self.new.log) }
-        ensures limits { IfOk result (λ _. KeepsLimits self.old.budget self.new.budget) }
+        ensures limit { IfOk result (λ _. KeepsLimit self.old.budget self.new.budget) }
         ensures resolves_conflict { IfOk result (ResolvesConflict (state table.old self.old) (state table.new self.new)
             (T.view theory.new)) }
     {

@@ -1,9 +1,9 @@
 //! What follows from the literals that hold, and whether something is wrong with them.
 
-ghost use Rattle.std.specs.Prelude.{◌≡◌, ℕ, suc, List, IfOk, IfErr};
+ghost use Rattle.std.specs.Prelude.{◌≡◌, ℕ, List, IfOk, IfErr};
 ghost use Rattle.spec_sorts.specs.Terms.{Term};
 ghost use Rattle.term_core.specs.Tables.{declared_in, Extends};
-ghost use Rattle.sat_budget.specs.Budgets.{StopsBy, AreSpent};
+ghost use Rattle.sat_budget.specs.Budgets.{StopsBy};
 ghost use Rattle.proof_log.specs.Theories.{terms_watched, literals_held, CameTo, paid_after};
 ghost use Rattle.search_loop.specs.Search.{SearchFits};
 ghost use Rattle.search_loop.specs.Asking.{IsAsked, HasStopped, OnStop, state, LookFinds};
@@ -22,8 +22,8 @@ impl Search {
     /// Propagates, lets the theory hold what the trail holds, and lets it check that: `Clash` comes where a clause of the store is false,
     /// and else where the theory finds that something is wrong.
     ///
-    /// `Memory` comes where memory ran out, here or in the theory. The other stops are the theory's; then the budget keeps the exchanges
-    /// that it made.
+    /// `Memory` comes where memory ran out, here or in the theory. `Strained` is the theory's; then the budget keeps the exchanges that it
+    /// made.
     pub(crate) fn look<T: Theory>(
         &mut self,
         table: &mut TermTable,
@@ -43,12 +43,9 @@ impl Search {
             → Looked (state table.old self.old) (T.view theory.old).held (T.view theory.new).held n (λ m. CameTo result
             (λ verdict. IsPaid (λ k. T.came_by theory.new table.new ts k self.new.budget.exchanges)
             (paid_after verdict m))
-            (T.stopped_by theory.new table.new ts m self.new.budget.exchanges)
-            (T.came_by theory.new table.new ts (suc m) self.new.budget.exchanges)) }
+            (T.stopped_by theory.new table.new ts m self.new.budget.exchanges)) }
         ensures stops { IfErr result (StopsBy
-            (T.may_overflow theory.new table.new (terms_watched table.new (T.view theory.new)))
-            (AreSpent (T.needs_more theory.new table.new (terms_watched table.new (T.view theory.new)))
-            self.new.budget)) }
+            (T.may_overflow theory.new table.new (terms_watched table.new (T.view theory.new)))) }
         ensures stopped { IfErr result (OnStop (T.goes_with theory.new table.new
             × HasStopped (state table.old self.old) (state table.new self.new) (T.view theory.new))) }
     {

@@ -28,7 +28,7 @@ pub struct Search {
     pub decider: Decider,
     /// When it begins again from level 0.
     pub restarts: Restarts,
-    /// The clauses that were learned and the pivots that were made, and how many may be.
+    /// The clauses that were learned and how many may be, and the exchanges that were made.
     pub budget: Budget,
     /// How many of the oldest literals that hold the theory holds.
     pub fed: u64,

@@ -31,10 +31,10 @@ pub fn watch_all<T: Theory>(theory: &mut T, table: &TermTable, terms: &[TermId])
     ensures came { (ts : List Term) (es : List (ℕ × ℕ)) → AreAmong (clause_at table.now terms.now) ts
         → T.came_by theory.old table.now ts 0 es → CameTo result
         (λ _. T.came_by theory.new table.now ts (counted_among table.now terms.now) es)
-        (IsPaid (λ n. T.stopped_by theory.new table.now ts n es) (counted_among table.now terms.now)) (Unit {0}) }
+        (IsPaid (λ n. T.stopped_by theory.new table.now ts n es) (counted_among table.now terms.now)) }
     ensures stops { IfErr result (λ stop. (k : ℕ) × (k < length terms.now)
         × ((T.view theory.new).watched ≡ take k terms.now)
-        × StopsBy (T.may_overflow theory.new table.now (clause_at table.now (take (k + 1) terms.now))) (λ _. ⊥) stop) }
+        × StopsBy (T.may_overflow theory.new table.now (clause_at table.now (take (k + 1) terms.now))) stop) }
 {
     'terms: for id in terms.iter() {
         theory.watch_term(table, *id)?;

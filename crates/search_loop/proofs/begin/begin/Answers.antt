@@ -60,6 +60,6 @@ returns-clause-begins c =
       level = begun.same.level;
       fed = refl;
       search = search_begins t u c.ids_are_unique.ensures c.args.roots.now c.args.interface.now c.requires.roots c.requires.interface answered log c.new-log.result c.new-log.ensures steps made.grown made.clauses made.made store stored terms atoms made.terms chosen x refl refl refl none;
-      limits_are = (ap (λ b. b.limit) c.in_ok-budget.ensures, ap (λ b. b.pivots) c.in_ok-budget.ensures);
+      limit_is = ap (λ b. b.limit) c.in_ok-budget.ensures;
       unspent = ap (λ b. b.exchanges) c.in_ok-budget.ensures;
     }

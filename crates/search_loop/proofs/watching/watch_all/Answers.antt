@@ -53,8 +53,8 @@ returns-in_err-watch_term-clause-came g c ts es among h =
     let n = counted_among t (take k ids) in
     let came : ℕ → Type 0 = λ m. g.T.Theory.came_by c.watch_term.new.self t ts m es in
     let stopped : ℕ → Type 0 = λ m. g.T.Theory.stopped_by c.watch_term.new.self t ts m es in
-    came_handed_on (λ _. came (counted (term_at t id) n)) (λ _. came (counted_among t ids)) (stopped n) (IsPaid stopped (counted_among t ids)) (Unit {0}) (Unit {0})
-    c.from_residual.result c.in_err-watch_term.field-0.0 c.from_residual.ensures.1 (λ s. (n, among_first t k ids, s)) (λ u. u)
+    came_handed_on (λ _. came (counted (term_at t id) n)) (λ _. came (counted_among t ids)) (stopped n) (IsPaid stopped (counted_among t ids))
+    c.from_residual.result c.in_err-watch_term.field-0.0 c.from_residual.ensures.1 (λ s. (n, among_first t k ids, s))
     (c.in_err-watch_term.ensures.came ts n es (among (term_at t id) (to_image (term_at t) ids id (Contains-get_or ids k no_id c.terms-test.true))) (c.terms.invariant.came ts es among h))
 
 pub returns-in_err-watch_term-clause-stops : goal.returns-in_err-watch_term-clause-stops
@@ -62,7 +62,7 @@ returns-in_err-watch_term-clause-stops g c =
     let ids = c.args.terms.now in
     let k = c.terms.id-index in
     let may_overflow : List Term → Strain → Type 0 = g.T.Theory.may_overflow c.watch_term.new.self c.args.table.now in
-    let shown : List TermId → Stop → Type 0 = λ watched stop. StopsBy (may_overflow (clause_at c.args.table.now watched)) (λ _. ⊥) stop in
+    let shown : List TermId → Stop → Type 0 = λ watched stop. StopsBy (may_overflow (clause_at c.args.table.now watched)) stop in
     let up_to = ap (λ (v : TheoryView). v.watched ++ get_or ids k no_id ∷ []) c.terms.invariant.view ∙ sym (take_more ids k no_id c.terms-test.true) in
     let before = ap (λ (v : TheoryView). v.watched) c.in_err-watch_term.ensures.watches ∙ ap (λ (v : TheoryView). v.watched) c.terms.invariant.view in
     handed_on (λ stop. (n : ℕ) × (n < length ids) × ((g.T.Theory.view c.watch_term.new.self).watched ≡ take n ids) × shown (take (n + 1) ids) stop) c.from_residual.result c.in_err-watch_term.field-0.0 c.from_residual.ensures.1

@@ -1,6 +1,6 @@
 -- That propagation and the theory's check leave all as it should be.
 use Rattle.std.specs.Prelude.{Ok}
-use Rattle.std.proofs.Common.{◌+◌, ◌≤◌, ◌∙◌, ℕ, suc, List, Contains, refl, sym, ap, subst, arith}
+use Rattle.std.proofs.Common.{◌+◌, ◌≤◌, ◌∙◌, ℕ, List, Contains, refl, sym, ap, subst, arith}
 use Rattle.spec_sorts.specs.Terms.{Term}
 use Rattle.spec_sorts.specs.Literals.{Literal}
 use Rattle.term_core.specs.declared.ids.TermId.{TermId}
@@ -8,7 +8,7 @@ use Rattle.term_core.specs.Tables.{TableView, Extends}
 use Rattle.term_core.proofs.TermsExtend.{Extends-self}
 use Rattle.sat_budget.specs.declared.limits.Stop.{Stop}
 use Rattle.sat_budget.specs.declared.limits.Strain.{Strain}
-use Rattle.sat_budget.specs.Budgets.{BudgetView, StopsBy, AreSpent}
+use Rattle.sat_budget.specs.Budgets.{BudgetView, StopsBy}
 use Rattle.proof_log.specs.Theories.{TheoryView, Derived, IsTheoryOver, terms_watched, literals_held, Checks, paid_after}
 use Rattle.search_loop.proofs.SearchReasons.{clash_is}
 use Rattle.search_loop.proofs.SearchTheories.{fed}
@@ -140,8 +140,8 @@ returns-in_err-verdict-clause-came g c ts n h =
       z.0,
       z.2 ∙ ap (λ ls. n + counted_held t ls) (sym held),
       subst (λ ls. counted_held t ls ≤ atoms_of t x) (sym (held ∙ ap (λ (y : TheoryView). y.held) c.feed.ensures.holds)) few,
-      came_handed_on (λ verdict. came (paid_after verdict z.0)) (λ verdict. IsPaid came (paid_after verdict z.0)) stopped stopped (came (suc z.0)) (came (suc z.0))
-          c.from_residual-in_err-verdict.result c.in_err-verdict.field-0.0 c.from_residual-in_err-verdict.ensures.1 (λ s. s) (λ s. s)
+      came_handed_on (λ verdict. came (paid_after verdict z.0)) (λ verdict. IsPaid came (paid_after verdict z.0)) stopped stopped
+          c.from_residual-in_err-verdict.result c.in_err-verdict.field-0.0 c.from_residual-in_err-verdict.ensures.1 (λ s. s)
           (c.in_err-verdict.ensures.came ts z.0 z.1),
     )
 
@@ -156,8 +156,7 @@ returns-in_err-verdict-clause-stops g c =
     let b = c.check.new.budget in
     let w = c.check.new.table in
     let may_overflow : List Term → Strain → Type 0 = g.T.Theory.may_overflow c.check.new.self w in
-    let needs_more : List Term → Type 0 = g.T.Theory.needs_more c.check.new.self w in
-    let shown : TableView → TheoryView → Stop → Type 0 = λ u v stop. StopsBy (may_overflow (terms_watched u v)) (AreSpent (needs_more (terms_watched u v)) b) stop in
+    let shown : TableView → TheoryView → Stop → Type 0 = λ u v stop. StopsBy (may_overflow (terms_watched u v)) stop in
     let stop = c.in_err-verdict.field-0.0 in
     handed_on (shown c.check.new.table (g.T.Theory.view c.check.new.self)) c.from_residual-in_err-verdict.result stop c.from_residual-in_err-verdict.ensures.1
     (subst (λ (v : TheoryView). shown c.check.new.table v stop) (sym c.check.ensures.same)
@@ -191,4 +190,4 @@ returns-in_err-step-clause-came g c ts n h =
     let t = c.args.table.now in
     let x = c.args.self.now in
     let v = g.T.Theory.view c.args.theory.now in
-    (n, refl, few_asked t x c.requires.ready v c.requires.asked c.ids_are_unique.ensures c.is_sound.ensures.once, came_at_memory _ _ _ c.from_residual.result c.from_residual.ensures.1)
+    (n, refl, few_asked t x c.requires.ready v c.requires.asked c.ids_are_unique.ensures c.is_sound.ensures.once, came_at_memory _ _ c.from_residual.result c.from_residual.ensures.1)

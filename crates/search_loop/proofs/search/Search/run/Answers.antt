@@ -1,10 +1,10 @@
 -- That the rounds end in an answer with its evidence.
-use Rattle.std.proofs.Common.{◌≡◌, ◌<◌, ◌≤◌, ◌-◌, ◌∙◌, ◌∷◌, [], ℕ, suc, List, length, ap, ◌+◌, refl, sym, subst, arith}
+use Rattle.std.proofs.Common.{◌≡◌, ◌<◌, ◌≤◌, ◌-◌, ◌∙◌, ◌∷◌, [], ℕ, List, length, ap, ◌+◌, refl, sym, subst, arith}
 use Rattle.std.specs.Prelude.{None, Some, Vec, Contains}
 use Rattle.std.specs.declared.alloc.Global.{Global}
 use Rattle.std.proofs.lemmas.List.{length-append}
 use Rattle.sat_budget.specs.declared.limits.Strain.{Strain}
-use Rattle.sat_budget.specs.Budgets.{BudgetView, StopsBy, AreSpent}
+use Rattle.sat_budget.specs.Budgets.{BudgetView, StopsBy}
 use Rattle.term_core.specs.declared.ids.TermId.{TermId}
 use Rattle.term_core.specs.declared.ids.Lit.{Lit}
 use Rattle.proof_log.specs.Theories.{TheoryView, terms_watched, paid_after}
@@ -158,7 +158,7 @@ rounds-smaller g c =
     let size : z.trail.vars ≡ x.trail.vars = l.continues.vars ∙ looks.0.continues.vars in
     let b = looks.0.budget.1 in
     less_learned x.budget.limit z.budget.limit x.trail.vars z.trail.vars (length x.budget.learned) (length z.budget.learned) (x.trail.vars - length x.trail.literals) (z.trail.vars - length z.trail.literals)
-    (l.continues.limits.0 ∙ looks.0.continues.limits.0) size (subst (λ (y : BudgetView). length y.learned < y.limit) b resolves_conflict.2) (l.learned ∙ ap (λ (y : BudgetView). length y.learned + 1) b) (omega (arith, size))
+    (l.continues.limit ∙ looks.0.continues.limit) size (subst (λ (y : BudgetView). length y.learned < y.limit) b resolves_conflict.2) (l.learned ∙ ap (λ (y : BudgetView). length y.learned + 1) b) (omega (arith, size))
 
 pub returns-in_err-look-clause-grown : goal.returns-in_err-look-clause-grown
 returns-in_err-look-clause-grown g c = Extends-trans c.args.table.now c.rounds.table c.look.new.table c.rounds.invariant.continues.table c.look.ensures.grown
@@ -200,18 +200,17 @@ returns-in_err-look-clause-came g c ts h =
     let came : ℕ → Type 0 = λ k. g.T.Theory.came_by c.look.new.theory c.look.new.table ts k es in
     let stopped : ℕ → Type 0 = λ k. g.T.Theory.stopped_by c.look.new.theory c.look.new.table ts k es in
     let all = most t x c.look.new.self in
-    let within : (k : ℕ) → k ≤ suc m.0 → k ≤ all = λ k few. paid_most (atoms_of t x) (length y.budget.learned) (length c.look.new.self.budget.learned) (counted_held u v.held) (counted_held u w.held)
-    n.0 m.0 k n.1 m.1 (subst (λ a. counted_held u w.held ≤ a) (atoms_stay t x c.requires.ready u c.rounds.invariant.continues.table y c.rounds.invariant.continues.terms) m.2) few
+    let within : m.0 ≤ all = paid_most (atoms_of t x) (length y.budget.learned) (length c.look.new.self.budget.learned) (counted_held u v.held) (counted_held u w.held)
+    n.0 m.0 m.0 n.1 m.1 (subst (λ a. counted_held u w.held ≤ a) (atoms_stay t x c.requires.ready u c.rounds.invariant.continues.table y c.rounds.invariant.continues.terms) m.2) (omega arith)
     (ap length c.look.ensures.learned) in
-    came_handed_on (λ verdict. IsPaid came (paid_after verdict m.0)) (λ (end : End). end ≡ Saturated → IsPaid came all) (stopped m.0) (IsPaid stopped all) (came (suc m.0)) (IsPaid came all)
-    c.from_residual.result c.in_err-look.field-0.0 c.from_residual.ensures.1 (λ s. (m.0, within m.0 (omega arith), s)) (λ s. (suc m.0, within (suc m.0) (omega arith), s)) m.3
+    came_handed_on (λ verdict. IsPaid came (paid_after verdict m.0)) (λ (end : End). end ≡ Saturated → IsPaid came all) (stopped m.0) (IsPaid stopped all)
+    c.from_residual.result c.in_err-look.field-0.0 c.from_residual.ensures.1 (λ s. (m.0, within, s)) m.3
 
 pub returns-in_err-look-clause-stops : goal.returns-in_err-look-clause-stops
 returns-in_err-look-clause-stops g c =
     let watched = terms_watched c.look.new.table (g.T.Theory.view c.look.new.theory) in
     let may_overflow : Strain → Type 0 = g.T.Theory.may_overflow c.look.new.theory c.look.new.table watched in
-    let needs_more : Type 0 = g.T.Theory.needs_more c.look.new.theory c.look.new.table watched in
-    handed_on (StopsBy may_overflow (AreSpent needs_more c.look.new.self.budget)) c.from_residual.result c.in_err-look.field-0.0 c.from_residual.ensures.1 c.in_err-look.ensures.stops
+    handed_on (StopsBy may_overflow) c.from_residual.result c.in_err-look.field-0.0 c.from_residual.ensures.1 c.in_err-look.ensures.stops
 
 pub returns-in_err-look-clause-stopped : goal.returns-in_err-look-clause-stopped
 returns-in_err-look-clause-stopped g c =
