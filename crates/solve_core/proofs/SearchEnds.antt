@@ -22,8 +22,6 @@ use Rattle.solve_core.proofs.SearchStops.{answered_on}
 pub answers_show : (old new : SearchState) (ids : List TermId) (stop : Stop) (r : Result Round NoMemory) → AnswersStop stop r → IsStoppedBy old new stop → IfOk r (EndsRound old new ids)
 answers_show old new ids (stops.Strained s) (Ok q) e h = subst (EndsRound old new ids) (sym e) h
 answers_show old new ids (stops.Strained s) (Err e) a h = tt
-answers_show old new ids (stops.Pivots n) (Ok q) e h = subst (EndsRound old new ids) (sym e) h
-answers_show old new ids (stops.Pivots n) (Err e) a h = tt
 answers_show old new ids stops.Memory (Ok q) e h = absurd e
 answers_show old new ids stops.Memory (Err e) a h = tt
 
@@ -34,5 +32,5 @@ ends_on t u w x y z on ids (Differ pairs) h = λ p s. h p (asked_on t u on.table
 
 -- so does one that ends where the search is saturated
 pub saturated_ends : (t w : TableView) (x y : Search) → Continues t w x y → IsLogOf w y.log → (ids : List TermId) (r : Round) → SaturatesRound w y ids r → EndsRound (state t x) (state w y) ids r
-saturated_ends t w x y on right ids (Answered a) shows = record { right = right; limits = on.limits; shows = shows_on t w w x y y a on shows }
+saturated_ends t w x y on right ids (Answered a) shows = record { right = right; limit = on.limit; shows = shows_on t w w x y y a on shows }
 saturated_ends t w x y on right ids (Differ pairs) h = λ p s. h p (asked_on t w on.table ids p x y (on.search p) s)

@@ -50,8 +50,7 @@ module _ (t : TableView) (p : Problem) (limits : Limits) (empty : IsLogOf t []) 
       ] in
       record {
         log_right = subst (IsLogOf t) (sym h.log) empty;
-        limits_are = (ap (λ (b : BudgetView). b.limit) h.budget, ap (λ (b : BudgetView). b.pivots) h.budget);
-        within = omega (arith, ap length unspent);
+        limit_is = ap (λ (b : BudgetView). b.limit) h.budget;
         learned_within = omega (arith, ap length none);
         forms = elim cause [ inl f ↦ inr (w, f, h) | inr o ↦ inl o.0 ];
         evidence = subst (HasEvidence t p d.log d.budget) (sym h.answer) shown;

@@ -10,8 +10,7 @@ use Rattle.spec_derivations.specs.Problems.{Problem}
 use Rattle.spec_derivations.specs.Orders.{whole_terms}
 use Rattle.spec_causes.specs.Reached.{between}
 use Rattle.spec_causes.specs.Counts.{is_arithmetic, arithmetic_in, most_runs, AreFewRuns}
-use Rattle.spec_causes.specs.Causes.{NeedsMore}
-use Rattle.spec_causes.proofs.Wider.{overflows_over_more, needs_over_more}
+use Rattle.spec_causes.proofs.Wider.{overflows_over_more}
 use Rattle.ratio128.specs.Meant.{overflow}
 use Rattle.term_core.specs.declared.ids.TermId.{TermId}
 use Rattle.term_core.specs.Tables.{TableView, AreDifferent, IsIn, term_at, clause_at}
@@ -19,7 +18,7 @@ use Rattle.sat_budget.specs.declared.limits.Strain.{Strain}
 use Rattle.sat_budget.specs.declared.limits.Stop.{Stop}
 use Rattle.sat_budget.specs.declared.limits.Stop.TheVariants as stops
 use Rattle.sat_budget.specs.declared.limits.Reason.TheVariants as reasons
-use Rattle.sat_budget.specs.Budgets.{StopsBy, AreSpent}
+use Rattle.sat_budget.specs.Budgets.{StopsBy}
 use Rattle.proof_log.specs.Logs.{IsLogOf}
 use Rattle.proof_log.specs.Theories.{TheoryView, IsTermIn, terms_watched, CameTo}
 use Rattle.simplex.specs.Views.{SimplexView}
@@ -27,7 +26,7 @@ use Rattle.simplex.specs.Coming.{term_tableau_of, CameBy, StoppedBy, IsOverflowA
 use Rattle.search_loop.specs.declared.search.Search.{Search}
 use Rattle.search_loop.specs.declared.cdcl.Answer.{Answer}
 use Rattle.search_loop.specs.declared.cdcl.Answer.TheVariants.{Unknown}
-use Rattle.search_loop.specs.Stops.{IsOverflowed, reckoning, ArePivotsSpent}
+use Rattle.search_loop.specs.Stops.{IsOverflowed, reckoning}
 use Rattle.search_loop.specs.Search.{SearchFits}
 use Rattle.search_loop.specs.Paying.{atoms_of, most, IsPaid}
 use Rattle.search_loop.specs.Rounds.{IsSearch, Continues, ShowsAnswer}
@@ -99,110 +98,74 @@ module _ (t : TableView) (x : Search) (problem : Problem) (s : IsSearch t proble
         → IsOverflowed problem (length x.budget.learned) x.budget.exchanges e
     checking_overflowed at watched are = overflowed_over (clause_at t watched) (subst (λ (ids : List TermId). AreAmong (clause_at t ids) (whole_terms problem)) (sym are) (spoken t x problem s)) at
 
-    -- spent pivots
-    pub pivots_spent : CameIn → (watched : List TermId) → watched ≡ x.terms.items → (n : ℕ)
-        → AreSpent (NeedsMore (clause_at t watched) (term_tableau_of t v)) x.budget n → ArePivotsSpent problem x.budget n
-    pivots_spent (k, le, came) watched are n h = record {
-      limit = h.1;
-      spent = record {
-        count = h.2;
-        arrived = term_tableau_of t v;
-        runs = came.runs;
-        reached = came.reached;
-        few = few came.runs (runs_within k le came);
-        more = needs_over_more (clause_at t watched) (whole_terms problem) (subst (λ (ids : List TermId). AreAmong (clause_at t ids) (whole_terms problem)) (sym are) (spoken t x problem s)) (term_tableau_of t v) h.0;
-      };
-    }
-
 -- what a stop of a theory of numbers came to, over terms among which are those of a search, in no more runs than are paid for
 abbrev pub HasStoppedAt : TableView → List Term → SimplexView → Stop → List (ℕ × ℕ) → ℕ → Type 0
 HasStoppedAt w ts v stop es m =
-    CameTo (let r : Result (Unit {0}) Stop = Err stop in r) (λ _. Unit {0}) (IsPaid (λ n. StoppedBy w ts n es v) m) (IsPaid (λ n. CameBy w ts n es v) m)
+    CameTo (let r : Result (Unit {0}) Stop = Err stop in r) (λ _. Unit {0}) (IsPaid (λ n. StoppedBy w ts n es v) m)
 
 -- what a stop that hands it on came to
 pub rounds_paid : {A : Type 0} (P : A → Type 0) (w : TableView) (ts : List Term) (v : SimplexView) (es : List (ℕ × ℕ)) (m : ℕ) (stop : Stop)
-    → CameTo (let r : Result A Stop = Err stop in r) P (IsPaid (λ n. StoppedBy w ts n es v) m) (IsPaid (λ n. CameBy w ts n es v) m) → HasStoppedAt w ts v stop es m
+    → CameTo (let r : Result A Stop = Err stop in r) P (IsPaid (λ n. StoppedBy w ts n es v) m) → HasStoppedAt w ts v stop es m
 rounds_paid P w ts v es m (stops.Strained e) h = h
-rounds_paid P w ts v es m (stops.Pivots n) h = h
 rounds_paid P w ts v es m stops.Memory h = tt
-
--- where pivots are never spent
-pub no_pivots : (S : Strain → Type 0) (stop : Stop) → StopsBy S (λ _. ⊥) stop → StopsBy (λ _. Unit {0}) (λ _. ⊥) stop
-no_pivots S (stops.Strained e) h = tt
-no_pivots S (stops.Pivots n) h = absurd h
-no_pivots S stops.Memory h = tt
 
 -- and one where a term comes to be watched, for which the atoms pay
 pub watching_paid : (P : Unit {0} → Type 0) (t : TableView) (ts : List Term) (v : SimplexView) (es : List (ℕ × ℕ)) (count l a : ℕ) → count ≡ a → (stop : Stop)
-    → StopsBy (λ e. Unit {0}) (λ _. ⊥) stop
-    → CameTo (let r : Result (Unit {0}) Stop = Err stop in r) P (IsPaid (λ n. StoppedBy t ts n es v) count) (Unit {0}) → HasStoppedAt t ts v stop es (most_runs l a)
-watching_paid P t ts v es count l a is (stops.Strained e) never h = (h.0, omega (arith, h.1, is), h.2)
-watching_paid P t ts v es count l a is (stops.Pivots n) never h = absurd never
-watching_paid P t ts v es count l a is stops.Memory never h = tt
+    → CameTo (let r : Result (Unit {0}) Stop = Err stop in r) P (IsPaid (λ n. StoppedBy t ts n es v) count) → HasStoppedAt t ts v stop es (most_runs l a)
+watching_paid P t ts v es count l a is (stops.Strained e) h = (h.0, omega (arith, h.1, is), h.2)
+watching_paid P t ts v es count l a is stops.Memory h = tt
 
 -- a stop where a term comes to be watched
 pub watching_stops : (t : TableView) (x : Search) → AreDifferent t.terms → SearchFits t x → (v : SimplexView) (n : ℕ) (stop : Stop)
     → ((ts : List Term) → AreAmong (clause_at t x.terms.items) ts → HasStoppedAt t ts v stop x.budget.exchanges (most t x x))
-    → StopsBy (λ e. IsOverflowAt t (clause_at t (take n x.terms.items)) e v) (λ _. ⊥) stop → IsStoppedBy (state t x) (state t x) stop
+    → StopsBy (λ e. IsOverflowAt t (clause_at t (take n x.terms.items)) e v) stop → IsStoppedBy (state t x) (state t x) stop
 watching_stops t x differ ready v n (stops.Strained e) came h = record {
   right = ready.right;
-  limits = (refl, refl);
+  limit = refl;
   shows = λ problem s. (
     watching_overflowed t x problem s v (most t x x) (are_few t x problem s differ ready (length x.budget.learned)) (came (whole_terms problem) (spoken t x problem s)) n e h,
     learning_shows t problem x (Unknown (reasons.Overflow e)) (λ steps. inl steps) ready.right s,
   );
 }
-watching_stops t x differ ready v n (stops.Pivots m) came h = absurd h
 watching_stops t x differ ready v n stops.Memory came h = tt
 
 module _ (t w : TableView) (x y : Search) where
   -- a stop where the search is saturated, by what computes the numbers of a model
-  pub numbers_stop : Continues t w x y → IsLogOf w y.log → (stop : Stop) → StopsBy (λ s. ShowsAnswer w w y y (Unknown (reasons.Overflow s))) (λ _. ⊥) stop → IsStoppedBy (state t x) (state w y) stop
-  numbers_stop on right (stops.Strained e) shows = record { right = right; limits = on.limits; shows = shows_on t w w x y y (Unknown (reasons.Overflow e)) on shows }
-  numbers_stop on right (stops.Pivots n) never = absurd never
+  pub numbers_stop : Continues t w x y → IsLogOf w y.log → (stop : Stop) → StopsBy (λ s. ShowsAnswer w w y y (Unknown (reasons.Overflow s))) stop → IsStoppedBy (state t x) (state w y) stop
+  numbers_stop on right (stops.Strained e) shows = record { right = right; limit = on.limit; shows = shows_on t w w x y y (Unknown (reasons.Overflow e)) on shows }
   numbers_stop on right stops.Memory none = tt
 
-  -- and one of the rounds of a search, for each of its reasons
+  -- and one of the rounds of a search
   pub rounds_stop : AreDifferent t.terms → SearchFits t x → (V : TheoryView) (v : SimplexView) (P : Type 0) (stop : Stop)
       → ((ts : List Term) → AreAmong (clause_at t x.terms.items) ts → HasStoppedAt w ts v stop y.budget.exchanges (most t x y)) → OnStop (P × HasStopped (state t x) (state w y) V) stop
-      → StopsBy (λ e. IsOverflowAt w (terms_watched w V) e v) (AreSpent (NeedsMore (terms_watched w V) (term_tableau_of w v)) y.budget) stop → IsStoppedBy (state t x) (state w y) stop
+      → StopsBy (λ e. IsOverflowAt w (terms_watched w V) e v) stop → IsStoppedBy (state t x) (state w y) stop
   rounds_stop differ ready V v P (stops.Strained e) came h strain = record {
     right = h.1.right;
-    limits = h.1.continues.limits;
+    limit = h.1.continues.limit;
     shows = λ problem s. let z = h.1.continues.search problem s in (
       checking_overflowed w y problem z v (most t x y) (are_few t x problem s differ ready (length y.budget.learned)) (came (whole_terms problem) (spoken t x problem s)) V.watched h.1.terms e strain,
       learning_shows w problem y (Unknown (reasons.Overflow e)) (λ steps. inl steps) h.1.right z,
-    );
-  }
-  rounds_stop differ ready V v P (stops.Pivots n) came h spent = record {
-    right = h.1.right;
-    limits = h.1.continues.limits;
-    shows = λ problem s. let z = h.1.continues.search problem s in (
-      pivots_spent w y problem z v (most t x y) (are_few t x problem s differ ready (length y.budget.learned)) (came (whole_terms problem) (spoken t x problem s)) V.watched h.1.terms n spent,
-      learning_shows w problem y (Unknown (reasons.Pivots n)) (λ steps. steps) h.1.right z,
     );
   }
   rounds_stop differ ready V v P stops.Memory came h none = tt
 
 -- a stop by what computes the numbers of a model is shown where the search is saturated
 pub model_stops : (t : TableView) (x : Search) (V : TheoryView) (v : SimplexView) → V ≡ v.theory → V.watched ≡ x.terms.items → AreDifferent t.terms → SearchFits t x → HasCome t x v → (stop : Stop)
-    → StopsBy (λ e. IsOverflowAt t (terms_watched t v.theory) e v) (λ _. ⊥) stop → StopsBy (λ e. ShowsAnswer t t x x (Unknown (reasons.Overflow e))) (λ _. ⊥) stop
+    → StopsBy (λ e. IsOverflowAt t (terms_watched t v.theory) e v) stop → StopsBy (λ e. ShowsAnswer t t x x (Unknown (reasons.Overflow e))) stop
 model_stops t x V v same watched differ ready come (stops.Strained e) strain = λ problem s.
     let watches = ap (λ (z : TheoryView). z.watched) (sym same) ∙ watched in
     let few = are_few t x problem s differ ready (length x.budget.learned) in (
       checking_overflowed t x problem s v (most t x x) few (stopped_there t x problem s v (most t x x) few (come (whole_terms problem) (spoken t x problem s))) v.theory.watched watches e strain,
       learning_shows t problem x (Unknown (reasons.Overflow e)) (λ steps. inl steps) ready.right s,
     )
-model_stops t x V v same watched differ ready come (stops.Pivots n) never = absurd never
 model_stops t x V v same watched differ ready come stops.Memory none = tt
 
 -- what was shown after a search went on was shown before
 pub answered_on : (t u w : TableView) (x y z : Search) → Continues t u x y → (a : Answer) → IsAnswered (state u y) (state w z) a → IsAnswered (state t x) (state w z) a
-answered_on t u w x y z on a h = record { right = h.right; limits = (h.limits.0 ∙ on.limits.0, h.limits.1 ∙ on.limits.1); shows = shows_on t u w x y z a on h.shows }
+answered_on t u w x y z on a h = record { right = h.right; limit = h.limit ∙ on.limit; shows = shows_on t u w x y z a on h.shows }
 
 pub stopped_on : (t u w : TableView) (x y z : Search) → Continues t u x y → (stop : Stop) → IsStoppedBy (state u y) (state w z) stop → IsStoppedBy (state t x) (state w z) stop
 stopped_on t u w x y z on (stops.Strained e) h = answered_on t u w x y z on (Unknown (reasons.Overflow e)) h
-stopped_on t u w x y z on (stops.Pivots n) h = answered_on t u w x y z on (Unknown (reasons.Pivots n)) h
 stopped_on t u w x y z on stops.Memory h = tt
 
 -- a search saturated with more is saturated with less

@@ -26,7 +26,7 @@ use Rattle.combined.specs.Views.{CombinedView}
 use Rattle.search_loop.specs.declared.search.Search.{Search}
 use Rattle.search_loop.specs.declared.cdcl.Answer.{Answer}
 use Rattle.search_loop.specs.declared.cdcl.Answer.TheVariants.{Unknown}
-use Rattle.search_loop.specs.Rounds.{KeepsLimits, ShowsAnswer}
+use Rattle.search_loop.specs.Rounds.{KeepsLimit, ShowsAnswer}
 use Rattle.search_loop.specs.Asking.{SearchState}
 use Rattle.search_loop.specs.Paying.{most, IsPaid}
 
@@ -80,16 +80,15 @@ abbrev pub HasCome : TableView → Search → SimplexView → Type 0
 HasCome t x v = (ts : List Term) → AreAmong (clause_at t x.terms.items) ts
     → IsPaid (λ n. CameBy t ts n x.budget.exchanges v) (most t x x)
 
--- An answer is shown, over a log that is right, and the limits are kept.
+-- An answer is shown, over a log that is right, and the limit is kept.
 pub record IsAnswered (old new : SearchState) (a : Answer) : Type 0 where
   -- each step of the log is right
   pub right : IsLogOf new.table new.search.log
-  -- the limits of the budget are the same
-  pub limits : KeepsLimits old.search.budget new.search.budget
+  -- the limit of the budget is the same
+  pub limit : KeepsLimit old.search.budget new.search.budget
   -- it shows what it should of the terms
   pub shows : ShowsAnswer old.table new.table old.search new.search a
 
 -- so is the reason of a stop
 abbrev pub IsStoppedBy : (old new : SearchState) → Stop → Type 0
-IsStoppedBy old new stop = StopsBy (λ s. IsAnswered old new (Unknown (reasons.Overflow s)))
-    (λ n. IsAnswered old new (Unknown (reasons.Pivots n))) stop
+IsStoppedBy old new stop = StopsBy (λ s. IsAnswered old new (Unknown (reasons.Overflow s))) stop

@@ -14,7 +14,7 @@ use Rattle.sat_budget.specs.Budgets.{BudgetView}
 use Rattle.search_loop.specs.declared.cdcl.Answer.{Answer}
 use Rattle.search_loop.specs.declared.cdcl.Answer.TheVariants.{Unknown}
 use Rattle.search_loop.specs.Stops.{IsNoBasis}
-use Rattle.search_loop.specs.Rounds.{HasLimits, HasEvidence, IsLearning}
+use Rattle.search_loop.specs.Rounds.{HasLimit, HasEvidence, IsLearning}
 use Rattle.solve_core.specs.Forms.{FindsOverflow}
 use Rattle.solve_core.specs.declared.outcome.Outcome.{Outcome}
 
@@ -28,17 +28,15 @@ pub record IsOverflowedBy (limits : Limits) (w : Wide) (d : Outcome) : Type 0 wh
   -- nothing was logged
   pub log : d.log ≡ []
   -- and nothing spent
-  pub budget : d.budget ≡ record { limit = limits.conflicts; learned = []; pivots = limits.pivots; exchanges = [] }
+  pub budget : d.budget ≡ record { limit = limits.conflicts; learned = []; exchanges = [] }
 
--- The answer has its evidence, in a log that is right and within a budget of these limits.
+-- The answer has its evidence, in a log that is right, and no more was learned than these limits allow.
 pub record IsJustified (t : TableView) (p : Problem) (limits : Limits) (d : Outcome) : Type 0 where
   -- each step of the log is right
   pub log_right : IsLogOf t d.log
-  -- the budget has the limits
-  pub limits_are : HasLimits limits d.budget
-  -- no more pivots were kept than it allows
-  pub within : length d.budget.exchanges ≤ d.budget.pivots
-  -- and no more clauses were learned
+  -- the budget has the limit
+  pub limit_is : HasLimit limits d.budget
+  -- no more clauses were learned than it allows
   pub learned_within : length d.budget.learned ≤ d.budget.limit
   -- each atom has a form; or the answer is the overflow of the first that has none, and nothing else was done
   pub forms : FindsOverflow t p None ⊎ ((w : Wide) × FindsOverflow t p (Some w) × IsOverflowedBy limits w d)

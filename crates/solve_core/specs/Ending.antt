@@ -34,6 +34,5 @@ SaturatesRound t x ids = AnswersOrDiffers (state t x) (state t x) ids (ShowsAnsw
 -- what is answered to a stop: its reason, or that memory ran out
 abbrev pub AnswersStop : Stop → Result Round NoMemory → Type 0
 AnswersStop (stops.Strained s) (Ok r) = r ≡ Answered (Unknown (reasons.Overflow s))
-AnswersStop (stops.Pivots n) (Ok r) = r ≡ Answered (Unknown (reasons.Pivots n))
 AnswersStop stops.Memory (Err e) = Unit {0}
 AnswersStop stop result = ⊥

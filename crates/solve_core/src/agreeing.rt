@@ -104,7 +104,7 @@ fn shared_of(
 /// Finds whether the theories agree on shared terms where a search is saturated. Each shared term gets a number, and by these numbers and those
 /// of all other terms the literals hold. They agree where two shared terms have one number exactly where they have one class.
 ///
-/// `Memory` comes where memory runs out, `Strained` where an operation leaves 128 bits that computes a number, and `Pivots` never.
+/// `Memory` comes where memory runs out, and `Strained` where an operation leaves 128 bits that computes a number.
 /// Source: Nelson and Oppen, Simplification by Cooperating Decision Procedures, TOPLAS 1979.
 pub(crate) fn agreement(
     search: &Search,
@@ -121,7 +121,7 @@ pub(crate) fn agreement(
     ensures found { IfOk result (FindsAgreement table.now search.now (theory_of theory.now.congruence) shared.now) }
     ensures stops { IfErr result (StopsBy
         (λ s. IsOverflowAt table.now (terms_watched table.now theory.now.simplex.theory) s
-        theory.now.simplex) (λ _. ⊥)) }
+        theory.now.simplex)) }
 {
     terms_of_linear_checks_are_linear();
     listed_terms_have_their_places_class();

@@ -48,7 +48,6 @@ fn answer_to(stop: Stop) -> Result<Round, NoMemory>
 {
     match stop {
         Stop::Strained(strain) => Ok(Round::Answered(Answer::Unknown(Reason::Overflow(strain)))),
-        Stop::Pivots(count) => Ok(Round::Answered(Answer::Unknown(Reason::Pivots(count)))),
         Stop::Memory => Err(NoMemory),
     }
 }
@@ -167,7 +166,7 @@ fn answer_numbers(
 
 /// Searches with both theories, which hold and watch nothing yet.
 ///
-/// `Memory` comes where memory ran out, here or in a theory. The other stops are those of linear arithmetic.
+/// `Memory` comes where memory ran out, here or in a theory, and `Strained` from linear arithmetic.
 fn search_with(
     search: &mut Search,
     table: &mut TermTable,
@@ -202,7 +201,7 @@ fn search_with(
 
 /// Makes the model of a saturated search with both theories, where they agree.
 ///
-/// `Memory` comes where memory runs out, `Strained` where an operation leaves 128 bits that computes a number, and `Pivots` never.
+/// `Memory` comes where memory runs out, and `Strained` where an operation leaves 128 bits that computes a number.
 fn answer_saturated(
     search: &Search,
     table: &TermTable,
@@ -218,7 +217,7 @@ fn answer_saturated(
     requires asked { (p : Problem) × IsAskedOf table.now shared.now p search.now }
     ensures ends { IfOk result (SaturatesRound table.now search.now shared.now) }
     ensures overflowed { IfErr result (StopsBy (λ s. ShowsAnswer table.now table.now search.now search.now
-        (Unknown (Overflow s))) (λ _. ⊥)) }
+        (Unknown (Overflow s)))) }
 {
     theory.parts_hold_the_same();
     table.ids_are_unique();

@@ -22,14 +22,14 @@ use search_loop::{Answer, Search};
 use std::alloc::Global;
 use term_core::{TermId, TermTable};
 
-/// A check's answer, with the log of its steps, and the budget: its limits, what was learned and what was exchanged.
+/// A check's answer, with the log of its steps, and the budget: its limit, what was learned and what was exchanged.
 #[derive(Drop)]
 pub struct Outcome {
     /// The answer.
     pub answer: Answer,
     /// The clauses of the terms, what was learned, and how they are derived.
     pub log: ProofLog,
-    /// The clauses that were learned and the pivots that were made, and how many might have been.
+    /// The clauses that were learned and how many might have been, and the exchanges that were made.
     pub budget: Budget,
 }
 

@@ -34,13 +34,13 @@ impl Model for Solver {
 }
 
 impl Solver {
-    /// Makes a solver that has decided nothing: its log is empty, and its budget has the limits, no clause and no exchange.
+    /// Makes a solver that has decided nothing: its log is empty, and its budget has the limit, no clause and no exchange.
     ///
     /// `NoMemory` never comes, as empty lists take no memory.
     pub fn new(alloc: Global, limits: &Limits) -> Result<Solver, NoMemory>
         ensures { MatchResult result (λ s. s ≡ record {
           log = [];
-          budget = record { limit = limits.now.conflicts; learned = []; pivots = limits.now.pivots; exchanges = [] };
+          budget = record { limit = limits.now.conflicts; learned = []; exchanges = [] };
         }) (λ _. ⊥) }
     {
         let budget = Budget::new(alloc, limits)?;

@@ -66,8 +66,8 @@ pub returns-in_err-numbers-clause-stops : goal.returns-in_err-numbers-clause-sto
 returns-in_err-numbers-clause-stops c =
     let t = c.args.table.now in
     let theory = c.args.theory.now in
-    handed_on (StopsBy (λ s. IsOverflowAt t (terms_watched t theory.simplex.theory) s theory.simplex) (λ _. ⊥)) c.from_residual-in_err-numbers.result c.in_err-numbers.field-0.0 c.from_residual-in_err-numbers.ensures.1
-    (subst (λ (v : SimplexView). StopsBy (λ e. IsOverflowAt t (terms_watched t v.theory) e v) (λ _. ⊥) c.in_err-numbers.field-0.0) c.simplex.ensures c.in_err-numbers.ensures.stops)
+    handed_on (StopsBy (λ s. IsOverflowAt t (terms_watched t theory.simplex.theory) s theory.simplex)) c.from_residual-in_err-numbers.result c.in_err-numbers.field-0.0 c.from_residual-in_err-numbers.ensures.1
+    (subst (λ (v : SimplexView). StopsBy (λ e. IsOverflowAt t (terms_watched t v.theory) e v) c.in_err-numbers.field-0.0) c.simplex.ensures c.in_err-numbers.ensures.stops)
 
 pub shared_of-requires-clause-numbers : goal.shared_of-requires-clause-numbers
 shared_of-requires-clause-numbers c =

@@ -21,5 +21,5 @@ returns-in_err-pairs-clause-overflowed c =
     let x = c.args.search.now in
     let theory = c.args.theory.now in
     let stop = c.in_err-pairs.field-0.0 in
-    handed_on (StopsBy (λ s. ShowsAnswer t t x x (Unknown (Overflow s))) (λ _. ⊥)) c.from_residual.result stop c.from_residual.ensures.1
+    handed_on (StopsBy (λ s. ShowsAnswer t t x x (Unknown (Overflow s)))) c.from_residual.result stop c.from_residual.ensures.1
     (model_stops t x (theory_of theory.congruence) theory.simplex c.parts_hold_the_same.ensures c.requires.search_saturated.terms c.ids_are_unique.ensures c.requires.search_saturated.ready c.requires.came stop c.in_err-pairs.ensures.stops)

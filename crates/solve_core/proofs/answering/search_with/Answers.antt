@@ -22,7 +22,7 @@ use Rattle.solve_core.specs.Ending.{EndsRound, SaturatesRound}
 use Rattle.solve_core.proofs.SearchRounds.{asked_on}
 use Rattle.solve_core.proofs.SearchEnds.{saturated_ends}
 use Rattle.solve_core.proofs.SearchNumbers.{same_terms}
-use Rattle.solve_core.proofs.SearchStops.{watching_stops, watching_paid, no_pivots, numbers_stop, rounds_stop, rounds_paid}
+use Rattle.solve_core.proofs.SearchStops.{watching_stops, watching_paid, numbers_stop, rounds_stop, rounds_paid}
 use Rattle.solve_core.proofs.answering.search_with.Goals as goal
 
 pub returns-in-Err-clause-grown : goal.returns-in-Err-clause-grown
@@ -41,10 +41,10 @@ returns-in-Err-clause-stopped c =
     let l = length x.budget.learned in
     let count = ap (λ (ids : List TermId). counted_among t ids) c.deref.ensures.value in
     watching_stops t x c.ids_are_unique.ensures begun.ready theory.simplex (h.0 + 1) stop
-    (λ ts among. watching_paid _ t ts theory.simplex es (counted_among t c.deref.result.now) l (atoms_of t x) count stop (no_pivots _ stop h.3)
+    (λ ts among. watching_paid _ t ts theory.simplex es (counted_among t c.deref.result.now) l (atoms_of t x) count stop
     (rw c.in-Err.is at (c.watch_all.ensures.came ts es (subst (λ (ids : List TermId). AreAmong (clause_at t ids) ts) (sym c.deref.ensures.value) among)
     (subst (λ made. CameBy t ts 0 made c.args.theory.now.simplex) (sym begun.unspent) (c.requires.came ts)))))
-    (subst (λ ts. StopsBy (λ e. IsOverflowAt t ts e theory.simplex) (λ _. ⊥) stop) more h.3)
+    (subst (λ ts. StopsBy (λ e. IsOverflowAt t ts e theory.simplex) stop) more h.3)
 
 -- where the search is saturated
 pub answer_saturated-requires-clause-came : goal.answer_saturated-requires-clause-came
@@ -89,7 +89,7 @@ returns-in-Ok-Saturated-clause-stopped c =
     let y = c.run-ended.new.self in
     let theory = c.run-ended.new.theory in
     let ends = rw c.in-Ok-Saturated.field-0-is at c.in-Ok-Saturated.ensures.ends in
-    IfErr-weaker c.answer_saturated.result (StopsBy (λ s. ShowsAnswer w w y y (Unknown (Overflow s))) (λ _. ⊥)) (IsStoppedBy (state t x) (state w y))
+    IfErr-weaker c.answer_saturated.result (StopsBy (λ s. ShowsAnswer w w y y (Unknown (Overflow s)))) (IsStoppedBy (state t x) (state w y))
     (λ stop h. numbers_stop t w x y ends.1 c.in-Ok-Saturated.ensures.right stop h) c.answer_saturated.ensures.overflowed
 
 -- and where its rounds stop

@@ -138,8 +138,7 @@ returns-in-Answered-clause-round c =
     let wider = Widens-trans t u w (begun_wider d) (record { terms = c.in_ok-pairs.ensures.grown; declared = c.in_ok-pairs.ensures.declared }) in
     decided_for roots ids t interface c.requires.ready w wider c.args.limits.now (record { answer = c.in-Answered.answer; log = c.answer.new.search.log; budget = c.answer.new.search.budget }) (record {
       log_right = answered.right;
-      limits_are = (answered.limits.0 ∙ b.limits_are.0, answered.limits.1 ∙ b.limits_are.1);
-      within = c.is_within.ensures.exchanges;
+      limit_is = answered.limit ∙ b.limit_is;
       learned_within = c.is_within.ensures.learned;
       forms = inl c.requires.ready.forms;
       evidence = shown.0;

@@ -27,13 +27,13 @@ returns-in-Saturated-clause-answered c =
     let ends = rw c.in-Saturated.is at (rw c.in-Ok-run.is at c.run.ensures.ends) in
     record {
       right = rw c.in-Ok-run.is at c.run.ensures.right;
-      limits = rw c.in-Ok-run.is at c.run.ensures.limits;
+      limit = rw c.in-Ok-run.is at c.run.ensures.limit;
       shows = shows_on t w w x y y (Sat c.in_ok-model-in-Saturated.model) ends.1 c.in_ok-model-in-Saturated.ensures;
     }
 
 pub returns-in-Refuted-clause-answered : goal.returns-in-Refuted-clause-answered
 returns-in-Refuted-clause-answered c = record {
   right = rw c.in-Ok-run.is at c.run.ensures.right;
-  limits = rw c.in-Ok-run.is at c.run.ensures.limits;
+  limit = rw c.in-Ok-run.is at c.run.ensures.limit;
   shows = rw c.in-Refuted.is at (rw c.in-Ok-run.is at c.run.ensures.ends);
 }
