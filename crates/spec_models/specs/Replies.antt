@@ -31,8 +31,6 @@ word_line w = word_of w ++ 10 ∷ []
 pub data Reason : Type 0 where
   -- so many conflicts were learned from, which is their limit
   conflicts : ℕ → Reason
-  -- so many pivots of linear arithmetic were made, which is their limit
-  pivots : ℕ → Reason
   -- an operation of linear arithmetic on these fractions leaves the bound
   overflow : Overflow → Reason
 
@@ -55,7 +53,6 @@ count_tree what n = in_list (word_tree what ∷ numeral_tree n ∷ [])
 -- a reason as an s-expression
 abbrev pub reason_tree : Reason → Tree
 reason_tree (conflicts n) = count_tree (codes "conflicts") n
-reason_tree (pivots n) = count_tree (codes "pivots") n
 reason_tree (overflow o) = overflow_tree o
 
 -- what is printed of a reason

@@ -4,7 +4,7 @@ use Rattle.std.specs.Fmt.{digits}
 use Rattle.spec_models.specs.declared.ResponseWord.TheVariants.{Success, Sat}
 use Rattle.spec_numbers.specs.declared.Op.TheVariants.{Sub, Mul, Div}
 use Rattle.spec_models.specs.Values.{numeral}
-use Rattle.spec_models.specs.Replies.{error_text, word_line, conflicts, pivots, overflow, reason_line, reason_info}
+use Rattle.spec_models.specs.Replies.{error_text, word_line, conflicts, overflow, reason_line, reason_info}
 
 -- an error's line
 pub error : error_text 12 1 (codes "BadShape") ≡ codes "(error \"12:1: BadShape\")\n"
@@ -28,11 +28,6 @@ reason = refl
 pub reason_unknown : reason_info (conflicts 1) ≡ codes "(:reason-unknown (conflicts 1))\n"
 unfolding digits numeral
 reason_unknown = refl
-
--- so many pivots
-pub pivots_made : reason_line (pivots 20) ≡ codes "(pivots 20)\n"
-unfolding digits numeral
-pivots_made = refl
 
 -- an operation that leaves the bound, on a whole number and a quotient
 pub product : reason_line (overflow (record {

@@ -11,7 +11,7 @@ use Rattle.spec_commands.specs.Checks.{Check, asked, IsTrueAssertion}
 use Rattle.spec_derivations.specs.Problems.{Problem, subterms_in, problem_of}
 use Rattle.spec_derivations.specs.Derivations.{Derivation}
 use Rattle.spec_derivations.specs.Spent.{AreLearned, IsConflictBudgetSpent, IsConflict}
-use Rattle.spec_causes.specs.Checks.{IsOverflowed, ArePivotsSpent}
+use Rattle.spec_causes.specs.Checks.{IsOverflowed}
 use Rattle.spec_causes.specs.Shared.{IsSharedEquality}
 use Rattle.spec_sessions.specs.Refutations.{IsProofOf}
 
@@ -19,8 +19,6 @@ use Rattle.spec_sessions.specs.Refutations.{IsProofOf}
 pub record Limits : Type 0 where
   -- how many clauses it may learn
   pub conflicts : ℕ
-  -- how many exchanges of variables it may make
-  pub pivots : ℕ
   -- how many names a script may have, and how many different subterms the terms of a command
   pub terms : ℕ
 
@@ -43,8 +41,6 @@ pub data Found : Type 0 where
   spent : ℕ → Derivation → List (List Literal) → Found
   -- that an operation on fractions leaves the bound: the operation, with its operands, and what the search keeps
   overflowed : Overflow → Kept → Found
-  -- that the budget of pivots is spent: its size, and what the search keeps
-  out_of_pivots : ℕ → Kept → Found
 
 -- A check, with what was found at it.
 pub record Checked : Type 0 where
@@ -77,21 +73,15 @@ pub record IsSpentOn (p : Problem) (limit carried : ℕ) (d : Derivation) (learn
 
 -- What a search of a problem keeps is within its limits, and the clauses may be learned.
 pub record IsKeptOf (limits : Limits) (p : Problem) (k : Kept) : Type 0 where
-  -- no more pivots were kept than the budget allows
-  pub exchanges : length k.exchanges ≤ limits.pivots
-  -- no more clauses were learned
+  -- no more clauses were learned than the budget allows
   pub learned : length k.learned ≤ limits.conflicts
   -- and each of them is derived, over the problem's atoms, and was new
   pub learns : AreLearned p k.derivation k.learned
 
--- what was found shows this of a check: a model makes true what it asks about; a proof that no interpretation does; a
--- budget of
--- conflicts is spent on it; an operation leaves the bound where the exchanges lead, or all but the last, or before
--- there are any; or the
--- budget of exchanges is spent on them, and a further one is needed where they lead. Of both the runs are few, and the
--- clauses that were
--- learned may be. Where it was given up, the search may have spoken of interface equalities, of terms that functions
--- and arithmetic share.
+-- what was found shows this of a check: a model makes true what it asks about; a proof that no interpretation does; the
+-- budget of conflicts is spent on it; or an operation leaves the bound where the exchanges lead, or all but the last,
+-- or before there are any. The runs are few then, and the clauses that were learned may be learned. Where it was given
+-- up, the search may have spoken of interface equalities, of terms that functions and arithmetic share.
 abbrev pub Justifies : Limits → Check → Found → Type 0
 Justifies limits c (model i) = IsModelOf c i
 Justifies limits c (proof text) = IsProofOf c text
@@ -99,6 +89,3 @@ Justifies limits c (spent n d learned) = (p : Problem) × IsProblemOf c p × IsS
 Justifies limits c (overflowed o k) =
     IsOverflow o
     × ((p : Problem) × IsProblemOf c p × IsKeptOf limits p k × IsOverflowed p (length k.learned) k.exchanges o)
-Justifies limits c (out_of_pivots n k) =
-    (n ≡ limits.pivots)
-    × ((p : Problem) × IsProblemOf c p × IsKeptOf limits p k × ArePivotsSpent p n (length k.learned) k.exchanges)

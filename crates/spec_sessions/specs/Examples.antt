@@ -16,7 +16,7 @@ use Rattle.spec_commands.specs.Checks.{Check, term_limit}
 use Rattle.spec_commands.specs.Examples.{lines}
 use Rattle.spec_models.specs.Values.{numeral}
 use Rattle.spec_simplex.specs.Overflows.{IsOverflow}
-use Rattle.spec_sessions.specs.Evidence.{Limits, Kept, Found, proof, overflowed, out_of_pivots}
+use Rattle.spec_sessions.specs.Evidence.{Limits, Kept, Found, proof, overflowed}
 use Rattle.spec_sessions.specs.States.{State, states_nothing}
 use Rattle.spec_sessions.specs.Responses.{certify, Response, success, not_supported, answered, echoed, ended, rejected}
 use Rattle.spec_sessions.specs.Responses.{Answered, state_after, response_of, answer_to, text_for}
@@ -24,7 +24,7 @@ use Rattle.spec_sessions.specs.Questions.{Question, question_of}
 
 -- what is meant by default
 abbrev pub limits : Limits
-limits = record { conflicts = 1000000; pivots = 10000000; terms = term_limit }
+limits = record { conflicts = 1000000; terms = term_limit }
 
 -- what was found at the next check; the empty text where nothing is stated of it
 abbrev pub next_found : List Found → Found
@@ -234,7 +234,7 @@ large_written = lines (
 
 -- the limit of four
 abbrev pub four : Limits
-four = record { conflicts = 1000000; pivots = 10000000; terms = 4 }
+four = record { conflicts = 1000000; terms = 4 }
 
 -- what is written for a contradiction, with its proof
 abbrev pub contradiction_written : List ℕ
@@ -268,15 +268,9 @@ pub square_leaves_the_bound : IsOverflow square
 unfolding gcd multiplied fits is_small times
 square_leaves_the_bound = refl
 
--- what is written for a check that was given up for it, and for one whose pivots are spent
+-- what is written for a check that was given up for it
 pub square_written : (c : Check) (k : Kept)
     → text_for certify [] true (answered (record { check = c; found = overflowed square k }))
     ≡ codes "unknown\n(overflow mul 18446744073709551616 18446744073709551616)\n"
 unfolding numeral
 square_written c k = refl
-
-pub pivots_written : (c : Check) (k : Kept)
-    → text_for certify [] true (answered (record { check = c; found = out_of_pivots limits.pivots k }))
-    ≡ codes "unknown\n(pivots 10000000)\n"
-unfolding numeral
-pivots_written c k = refl

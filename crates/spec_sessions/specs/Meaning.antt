@@ -17,7 +17,7 @@ use Rattle.spec_checking.specs.Commands.{known_at}
 use Rattle.spec_checking.specs.Good.{AreGood, IsGood}
 use Rattle.spec_checking.specs.Accepted.{IsAccepted}
 use Rattle.spec_proof_texts.specs.ReadBack.{HaveScriptNames}
-use Rattle.spec_sessions.specs.Evidence.{Limits, Found, model, proof, spent, overflowed, out_of_pivots, Checked}
+use Rattle.spec_sessions.specs.Evidence.{Limits, Found, model, proof, spent, overflowed, Checked}
 use Rattle.spec_sessions.specs.Evidence.{IsModelOf, Justifies}
 
 -- What commands leave for a check under a limit on terms and names.
@@ -61,7 +61,6 @@ MeansAt c (model i) = ModelMeans (IsModelOf c) (signature_of c.stack) i
 MeansAt c (proof p) = RefutationMeans c p
 MeansAt c (spent n d learned) = Unit {0}
 MeansAt c (overflowed o kept) = Unit {0}
-MeansAt c (out_of_pivots n kept) = Unit {0}
 
 -- What the text of a proof means of the k-th check of a text that is run under a limit on terms and names.
 pub record ProofMeans (limit : ℕ) (text : List ℕ) (k : ℕ) (p : List ℕ) : Type 0 where
@@ -80,7 +79,6 @@ FindingMeans limits text k c (model i) = ModelMeans (λ j. MakesTrue limits.term
 FindingMeans limits text k c (proof p) = ProofMeans limits.terms text k p
 FindingMeans limits text k c (spent n d learned) = Unit {0}
 FindingMeans limits text k c (overflowed o kept) = Unit {0}
-FindingMeans limits text k c (out_of_pivots n kept) = Unit {0}
 
 -- What the answer of the k-th check of a text, from 1, says, with all that this means.
 pub record AnswerSays (limits : Limits) (text : List ℕ) (k : ℕ) (c : Checked) : Type 0 where

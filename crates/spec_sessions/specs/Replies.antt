@@ -21,8 +21,8 @@ use Rattle.spec_commands.specs.Stack.{global_key}
 use Rattle.spec_commands.specs.Stack.{key_named, signature_of, assertions_of, levels_open}
 use Rattle.spec_models.specs.Values.{in_list, value_tree}
 use Rattle.spec_models.specs.Models.{model_text}
-use Rattle.spec_models.specs.Replies.{Reason, conflicts, pivots, overflow, reason_info}
-use Rattle.spec_sessions.specs.Evidence.{Found, model, proof, spent, overflowed, out_of_pivots, Checked}
+use Rattle.spec_models.specs.Replies.{Reason, conflicts, overflow, reason_info}
+use Rattle.spec_sessions.specs.Evidence.{Found, model, proof, spent, overflowed, Checked}
 use Rattle.spec_sessions.specs.States.{State}
 use Rattle.spec_sessions.specs.Questions.{Question, for_model, for_proof, for_assertions, for_values, for_option}
 use Rattle.spec_sessions.specs.Questions.{for_info}
@@ -48,7 +48,6 @@ proof_found _ = None
 abbrev pub reason_found : Found → Option Reason
 reason_found (spent n d learned) = Some (conflicts n)
 reason_found (overflowed o k) = Some (overflow o)
-reason_found (out_of_pivots n k) = Some (pivots n)
 reason_found _ = None
 
 -- what is there, or the fault at the command's start

@@ -11,9 +11,9 @@ use Rattle.spec_commands.specs.Commands.{command_of}
 use Rattle.spec_commands.specs.Stack.{Stack, Effect, done, unsupported, check, say, leave, Taken, signature_of, step}
 use Rattle.spec_commands.specs.Checks.{Check}
 use Rattle.spec_models.specs.declared.ResponseWord.TheVariants.{Success, Unsupported, Sat, Unsat, Unknown}
-use Rattle.spec_models.specs.Replies.{conflicts, pivots, overflow, error_text, word_line, reason_line}
+use Rattle.spec_models.specs.Replies.{conflicts, overflow, error_text, word_line, reason_line}
 use Rattle.spec_models.specs.Models.{model_text}
-use Rattle.spec_sessions.specs.Evidence.{Limits, Found, model, proof, spent, overflowed, out_of_pivots, Checked}
+use Rattle.spec_sessions.specs.Evidence.{Limits, Found, model, proof, spent, overflowed, Checked}
 use Rattle.spec_sessions.specs.Evidence.{Justifies}
 use Rattle.spec_sessions.specs.States.{State, states_nothing, answer_kept}
 use Rattle.spec_sessions.specs.Questions.{Question, question_of}
@@ -108,7 +108,6 @@ answer_text (model i) = word_line Sat
 answer_text (proof text) = word_line Unsat
 answer_text (spent n d learned) = word_line Unknown
 answer_text (overflowed o k) = word_line Unknown
-answer_text (out_of_pivots n k) = word_line Unknown
 
 -- what shows it, in print
 abbrev pub evidence_text : Checked → List ℕ
@@ -119,7 +118,6 @@ evidence_text c = by c.found
     by (proof text) = text
     by (spent n d learned) = reason_line (conflicts n)
     by (overflowed o k) = reason_line (overflow o)
-    by (out_of_pivots n k) = reason_line (pivots n)
 
 -- what is written after the line of an answer
 abbrev pub shown_text : Mode → Checked → List ℕ

@@ -4,7 +4,7 @@ use Rattle.std.specs.Prelude.{Bool, true, false, Option, Some, None, Ok, Err, if
 use Rattle.spec_text.specs.Answers.{Answer}
 use Rattle.spec_commands.specs.Commands.{Command, SetOption, SetInfo, Echo, Exit}
 use Rattle.spec_commands.specs.Stack.{Stack, empty_stack}
-use Rattle.spec_sessions.specs.Evidence.{Found, model, proof, spent, overflowed, out_of_pivots, Checked}
+use Rattle.spec_sessions.specs.Evidence.{Found, model, proof, spent, overflowed, Checked}
 
 -- What is so after some commands of a session.
 pub record State : Type 0 where
@@ -32,7 +32,6 @@ mode_found (model i) = sat_mode
 mode_found (proof text) = unsat_mode
 mode_found (spent n d learned) = unknown_mode
 mode_found (overflowed o k) = unknown_mode
-mode_found (out_of_pivots n k) = unknown_mode
 
 -- the mode after the start, by the last check whose answer counts
 abbrev pub mode_answered : Option Checked → ExecutionMode

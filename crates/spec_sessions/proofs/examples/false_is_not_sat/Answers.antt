@@ -12,7 +12,7 @@ use Rattle.spec_commands.specs.Stack.{Assertion, Stack, empty_stack, begun, with
 use Rattle.spec_commands.specs.Checks.{Check}
 use Rattle.spec_commands.specs.OnLiterals.{commands_on_literals}
 use Rattle.spec_sessions.specs.States.{State, first_state}
-use Rattle.spec_sessions.specs.Evidence.{Found, model, proof, spent, overflowed, out_of_pivots, Justifies}
+use Rattle.spec_sessions.specs.Evidence.{Found, model, proof, spent, overflowed, Justifies}
 use Rattle.spec_sessions.specs.Responses.{solve, Response, success, state_after, Answered, Answers, answer_text, response_text}
 use Rattle.spec_sessions.specs.Transcripts.{Follows, Runs, closing, closing_text}
 use Rattle.spec_sessions.specs.Examples.{limits, false_asserted}
@@ -50,7 +50,6 @@ none_found (model i) shown xs ys e =
 none_found (proof p) shown xs ys e = cc
 none_found (spent n d learned) shown xs ys e = cc
 none_found (overflowed o k) shown xs ys e = cc
-none_found (out_of_pivots n k) shown xs ys e = cc
 
 at_check : (r : Response) (n : State) (xs ys : List ℕ) → Answers limits after_assertion check (record { response = r; state = n }) → codes "success\nsat\n" ≡ codes "success\n" ++ ((response_text solve (kept false_asserted) (record { response = r; state = n }) ++ xs) ++ ys) → ⊥
 unfolding commands_on_literals

@@ -25,7 +25,7 @@ use Rattle.spec_models.specs.Meaning.{IsSymbolIn}
 use Rattle.spec_proof_texts.specs.Lines.{proof_text}
 use Rattle.spec_proof_texts.specs.Meaning.{AreRightLines}
 use Rattle.spec_proof_texts.specs.ReadBack.{AreScriptNames}
-use Rattle.spec_sessions.specs.Evidence.{Limits, Found, model, proof, spent, overflowed, out_of_pivots, IsModelOf, Justifies}
+use Rattle.spec_sessions.specs.Evidence.{Limits, Found, model, proof, spent, overflowed, IsModelOf, Justifies}
 use Rattle.spec_sessions.specs.Refutations.{IsProofOf, lines_in}
 use Rattle.spec_sessions.specs.Meaning.{ModelMeans, RefutationMeans, MeansAt, ProofMeans, FindingMeans}
 use Rattle.spec_sessions.proofs.laws.what_is_shown_is_so.Goals as goal
@@ -95,7 +95,6 @@ module _ (c : goal.After-printed_proofs_are_accepted) where
     means_at limits (proof p) h = good_at p h
     means_at limits (spent n d learned) h = tt
     means_at limits (overflowed o kept) h = tt
-    means_at limits (out_of_pivots n kept) h = tt
 
     module _ (limit : ℕ) (text : List ℕ) (k : ℕ) (current : IsCurrent limit text k x) where
       makes_true : (i : Interpretation) → IsModelOf x i → MakesTrue limit i text k
@@ -136,7 +135,6 @@ module _ (c : goal.After-printed_proofs_are_accepted) where
       means_so limits e (proof p) h = subst (λ n. ProofMeans n text k p) (sym e) (of_proof p h)
       means_so limits e (spent n d learned) h = tt
       means_so limits e (overflowed o kept) h = tt
-      means_so limits e (out_of_pivots n kept) h = tt
 
 pub returns-clause-at : goal.returns-clause-at
 returns-clause-at c = λ limits x f kept shown.
