@@ -9,7 +9,7 @@ mod reasons;
 mod values;
 
 use itoa::Buffer;
-pub use reasons::{overflow, overflow_info, pivots_spent, pivots_spent_info, spent, spent_info};
+pub use reasons::{overflow, overflow_info, spent, spent_info};
 use smt_lexer::Place;
 pub use spec_models::ResponseWord;
 pub use values::{name, value, write_numeral};

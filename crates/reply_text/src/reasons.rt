@@ -2,7 +2,7 @@
 
 ghost use Rattle.std.specs.Prelude.{◌≡◌, ◌++◌};
 ghost use Rattle.spec_text.specs.Printed.{printed};
-ghost use Rattle.spec_models.specs.Replies.{operation_word, count_tree, conflicts, pivots, overflow, reason_text, reason_line, reason_info};
+ghost use Rattle.spec_models.specs.Replies.{operation_word, count_tree, conflicts, overflow, reason_text, reason_line, reason_info};
 ghost use Rattle.ratio128.specs.Meant.{overflow as overflow_meant};
 ghost use Rattle.world_io.specs.Writing.{Sends};
 
@@ -56,25 +56,6 @@ pub fn spent_info<K: Sink>(count: u64, out: &mut K) -> Result<(), Failed>
     ensures { Sends (reason_info (conflicts count)) result (K.state out.old) (K.state out.new) }
 {
     write_count(b"(:reason-unknown ", b"conflicts", count, b")\n", out)
-}
-
-/// Writes the line of a check that made as many pivots as it may, as `(pivots 20)`.
-///
-/// It takes no memory. `Failed` comes only where the sink's count of faults rose in this call; a prefix was then appended.
-pub fn pivots_spent<K: Sink>(count: u64, out: &mut K) -> Result<(), Failed>
-    ensures { Sends (reason_line (pivots count)) result (K.state out.old) (K.state out.new) }
-{
-    write_count(b"", b"pivots", count, b"\n", out)
-}
-
-/// Writes the same reason under its keyword, as `(:reason-unknown (pivots 20))` on a line.
-///
-/// It takes no memory. `Failed` comes only where the sink's count of faults rose in this call; a prefix was then appended.
-/// Source: SMT-LIB 2.6, section 4.1.8; the text of the reason is own.
-pub fn pivots_spent_info<K: Sink>(count: u64, out: &mut K) -> Result<(), Failed>
-    ensures { Sends (reason_info (pivots count)) result (K.state out.old) (K.state out.new) }
-{
-    write_count(b"(:reason-unknown ", b"pivots", count, b")\n", out)
 }
 
 /// Gives the letters of an operation.

@@ -2,18 +2,17 @@
 
 use no_memory::NoMemory;
 use ratio128::{Op, Ratio, Wide};
-use reply_text::{overflow, pivots_spent, spent};
+use reply_text::{overflow, spent};
 use std::alloc::Global;
 use std::test::Fail;
 use world_io::{Failed, MemSink};
 
-/// What a reason is for: conflicts or pivots with their number, or an operation on two fractions; and its line.
+/// What a reason is for: conflicts with their number, or an operation on two fractions; and its line.
 const ROWS: &str = "conflicts 0 -\t(conflicts 0)
+conflicts 1 -\t(conflicts 1)
+conflicts 20 -\t(conflicts 20)
 conflicts 1000000 -\t(conflicts 1000000)
-pivots 0 -\t(pivots 0)
-pivots 1 -\t(pivots 1)
-pivots 20 -\t(pivots 20)
-pivots 18446744073709551615 -\t(pivots 18446744073709551615)
+conflicts 18446744073709551615 -\t(conflicts 18446744073709551615)
 mul 100/1 1/3\t(overflow mul 100 (/ 1 3))
 add 0/1 -5/1\t(overflow add 0 (- 5))
 sub -1/3 -4/2\t(overflow sub (/ (- 1) 3) (- 2))
@@ -52,7 +51,6 @@ fn write(reason: &str, out: &mut MemSink) -> Result<(), Failed> {
     let (left, right) = rest.split_once(' ').unwrap_or(("", ""));
     match word {
         "conflicts" => spent(left.parse::<u64>().unwrap_or(7), out),
-        "pivots" => pivots_spent(left.parse::<u64>().unwrap_or(7), out),
         _ => overflow(
             Wide {
                 op: op_of(word),
