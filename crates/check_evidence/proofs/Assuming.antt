@@ -19,10 +19,10 @@ use Rattle.spec_derivations.specs.Orders.{whole_terms}
 use Rattle.spec_derivations.specs.Learned.{others, IsNew, AreNew}
 use Rattle.spec_derivations.specs.Spent.{IsLearnedFrom, IsAtomOf, subterm, with_first, with_second, forth, back, IsOverAtoms, AreLearned, IsConflict}
 use Rattle.spec_derivations.proofs.Asked.{terms_of_check}
-use Rattle.spec_causes.specs.Reached.{IsReached, IsStoppedAt}
+use Rattle.spec_causes.specs.Reached.{IsStoppedAt}
 use Rattle.spec_causes.specs.Counts.{AreFewRuns}
-use Rattle.spec_causes.specs.Causes.{OverflowsForm, OverflowsAt, NeedsMore}
-use Rattle.spec_causes.specs.Checks.{IsOverflowAmong, IsOverflowed, forming, ordering, reckoning, ArePivotsSpent}
+use Rattle.spec_causes.specs.Causes.{OverflowsForm, OverflowsAt}
+use Rattle.spec_causes.specs.Checks.{IsOverflowAmong, IsOverflowed, forming, ordering, reckoning}
 use Rattle.spec_sessions.specs.Evidence.{Limits, Kept, IsSpentOn, IsKeptOf}
 
 -- what unit propagation gives, it gives with more premises
@@ -131,7 +131,7 @@ module _ (p q : Problem) (terms : terms_of_problem p ≡ terms_of_problem q) (in
 
   -- what a search keeps of the first is right of the second
   pub kept_too : (limits : Limits) (k : Kept) → IsKeptOf limits p k → IsKeptOf limits q k
-  kept_too limits k h = record { exchanges = h.exchanges; learned = h.learned; learns = learned_too k.derivation k.learned h.learns }
+  kept_too limits k h = record { learned = h.learned; learns = learned_too k.derivation k.learned h.learns }
 
   -- and so is an operation that leaves the bound
   pub overflowed_too : (l : ℕ) (es : List (ℕ × ℕ)) (o : Overflow) → IsOverflowed p l es o → IsOverflowed q l es o
@@ -139,17 +139,6 @@ module _ (p q : Problem) (terms : terms_of_problem p ≡ terms_of_problem q) (in
   overflowed_too l es o (ordering unlearned none f) = ordering unlearned none (subst (λ ts. IsOverflowAmong ts o) whole_same f)
   overflowed_too l es o (reckoning s runs at few may_overflow) =
       reckoning s runs (subst (λ ts. IsStoppedAt ts runs es s) whole_same at) (subst (λ ts. AreFewRuns ts l runs) whole_same few) (subst (λ ts. OverflowsAt ts s o) whole_same may_overflow)
-
-  -- and that exchanges are spent
-  pub pivots_too : (n l : ℕ) (es : List (ℕ × ℕ)) → ArePivotsSpent p n l es → ArePivotsSpent q n l es
-  pivots_too n l es h = record {
-    count = h.count;
-    arrived = h.arrived;
-    runs = h.runs;
-    reached = subst (λ ts. IsReached ts h.runs es h.arrived) whole_same h.reached;
-    few = subst (λ ts. AreFewRuns ts l h.runs) whole_same h.few;
-    more = subst (λ ts. NeedsMore ts h.arrived) whole_same h.more;
-  }
 
 -- all that a check asks about, asserted, with interface equalities
 abbrev pub all_asserted : Check → List Term → Problem

@@ -1,5 +1,5 @@
 -- That what an outcome shows, what was found shows.
-use Rattle.std.proofs.Common.{◌≡◌, ◌≤◌, ℕ, true, List, [], length, map, All, refl, sym, ap, ◌∙◌, subst, arith}
+use Rattle.std.proofs.Common.{◌≡◌, ℕ, true, List, [], length, map, All, refl, sym, ap, ◌∙◌, subst, arith}
 use Rattle.std.proofs.lemmas.List.{append-nil, length-map, get_or-map}
 use Rattle.spec_sorts.specs.Terms.{Term}
 use Rattle.spec_sorts.specs.Values.{Interpretation, Interprets, truth}
@@ -9,9 +9,8 @@ use Rattle.spec_sorts.specs.Meaning.{value_under}
 use Rattle.spec_sorts.specs.Subterms.{subterms_of}
 use Rattle.spec_commands.specs.Stack.{Assertion, signature_of, terms_asserted}
 use Rattle.spec_commands.specs.Checks.{Check, asked, IsTrueAssertion}
-use Rattle.spec_causes.specs.Checks.{ArePivotsSpent}
 use Rattle.spec_causes.specs.Shared.{IsSharedEquality}
-use Rattle.spec_sessions.specs.Evidence.{Limits, Kept, model, spent, overflowed, out_of_pivots, IsProblemOf, IsKeptOf, Justifies}
+use Rattle.spec_sessions.specs.Evidence.{Limits, Kept, model, spent, overflowed, IsProblemOf, IsKeptOf, Justifies}
 use Rattle.term_core.specs.Tables.{TableView, literal_at}
 use Rattle.term_walks.specs.declared.values.Interp.{Interp}
 use Rattle.proof_log.specs.Logs.{derivation_in}
@@ -25,7 +24,7 @@ use Rattle.search_loop.specs.Rounds.{HasEvidence}
 use Rattle.spec_derivations.specs.Problems.{Problem, terms_of_problem, problem_of}
 use Rattle.check_evidence.specs.declared.evidence.Evidence.TheVariants as found
 use Rattle.check_evidence.specs.Evidence.{kept_of, Decides, IsShown}
-use Rattle.check_evidence.proofs.Assuming.{all_asserted, same_terms, asserts_no_more, spent_too, kept_too, overflowed_too, pivots_too}
+use Rattle.check_evidence.proofs.Assuming.{all_asserted, same_terms, asserts_no_more, spent_too, kept_too, overflowed_too}
 use Rattle.check_evidence.proofs.Causes.{AreOverflows, cause_of}
 
 -- the text has its term's value under an interpretation
@@ -81,15 +80,14 @@ module _ (limits : Limits) (t : TableView) (c : Check) (symbols : symbols_in (si
         let learned = map (map (literal_at t)) o.budget.learned in
         let on = spent_too decided problem same refl (asserts_no_more c d.interface) o.budget.limit n e learned (record { spent = h.0; conflict = h.1 }) in (
           spent n e learned,
-          subst (λ m. Justifies (record { conflicts = m; pivots = limits.pivots; terms = limits.terms }) c (spent n e learned)) d.justified.limits_are.0 (problem, problem_is, on),
+          subst (λ m. Justifies (record { conflicts = m; terms = limits.terms }) c (spent n e learned)) d.justified.limit_is (problem, problem_is, on),
           (e, refl),
           (is, refl, refl),
         )
 
     kept_within : IsKeptOf limits problem kept
     kept_within = kept_too decided problem same refl (asserts_no_more c d.interface) limits kept (record {
-      exchanges = subst (λ (n : ℕ). length o.budget.exchanges ≤ n) d.justified.limits_are.1 d.justified.within;
-      learned = omega (arith, many, d.justified.learned_within, d.justified.limits_are.0);
+      learned = omega (arith, many, d.justified.learned_within, d.justified.limit_is);
       learns = d.justified.learning.learns;
     })
 
@@ -105,8 +103,3 @@ module _ (limits : Limits) (t : TableView) (c : Check) (symbols : symbols_in (si
           (derivation_in t o.log, refl),
           (x, is, refl, refl),
         )
-    reason_shown overflows (reasons.Pivots n) is h =
-        let es = o.budget.exchanges in
-        let l = length kept.learned in
-        let more = pivots_too decided problem same refl (asserts_no_more c d.interface) n l es (subst (λ (m : ℕ). ArePivotsSpent decided n m es) (sym many) h.spent) in
-        (out_of_pivots n kept, (h.limit ∙ d.justified.limits_are.1, (problem, problem_is, kept_within, more)), (derivation_in t o.log, refl), (is, refl))

@@ -10,7 +10,7 @@ use Rattle.spec_proof_texts.specs.Readable.{HaveReadableDefinitions}
 use Rattle.spec_derivations.specs.Derivations.{Derivation}
 use Rattle.spec_proof_texts.specs.Lines.{proof_text}
 use Rattle.spec_proof_texts.specs.Plans.{Plan, IsPlan, lines_of}
-use Rattle.spec_sessions.specs.Evidence.{Limits, Kept, Found, model, proof, spent, overflowed, out_of_pivots}
+use Rattle.spec_sessions.specs.Evidence.{Limits, Kept, Found, model, proof, spent, overflowed}
 use Rattle.spec_sessions.specs.Evidence.{Justifies}
 use Rattle.term_core.specs.declared.ids.TermId.{TermId}
 use Rattle.term_core.specs.Tables.{TableView, literal_at}
@@ -33,11 +33,11 @@ use Rattle.check_evidence.specs.declared.evidence.Evidence.TheVariants as found
 
 -- limits in the words of the definitions
 abbrev pub limits_meant : CodeLimits → Limits
-limits_meant l = record { conflicts = l.conflicts; pivots = l.pivots; terms = l.terms }
+limits_meant l = record { conflicts = l.conflicts; terms = l.terms }
 
 -- and in those of the code
 abbrev pub limits_of : Limits → CodeLimits
-limits_of l = record { conflicts = l.conflicts; pivots = l.pivots; terms = l.terms }
+limits_of l = record { conflicts = l.conflicts; terms = l.terms }
 
 -- A stack of the code represents a stack, which commands left under a limit on terms and names.
 pub record IsHeld (terms : ℕ) (x : OverTable) (s : Stack) : Type 0 where
@@ -85,15 +85,13 @@ IsEvidence t budget (found.Reason (reasons.Conflicts n)) f =
     (d : Derivation) × (f ≡ spent n d (map (map (literal_at t)) budget.learned))
 IsEvidence t budget (found.Reason (reasons.Overflow s)) f =
     (d : Derivation) × (f ≡ overflowed (overflow s.wide) (kept_of t d budget))
-IsEvidence t budget (found.Reason (reasons.Pivots n)) f = (d : Derivation) × (f ≡ out_of_pivots n (kept_of t d budget))
 
 -- it is evidence of something
 abbrev pub IsSomeEvidence : TableView → Evidence → Type 0
 IsSomeEvidence t e = (budget : BudgetView) × (f : Found) × IsEvidence t budget e f
 
 -- what was found is that of an outcome: its model, the proof that is printed of its log, the clauses that it learned,
--- the operation that
--- leaves the bound, or the number of exchanges
+-- or the operation that leaves the bound
 abbrev pub IsFoundBy : TableView → Outcome → Found → Type 0
 IsFoundBy t o (model i) = (interp : Interp) × (o.answer ≡ Sat interp) × HasSymbolTables t interp i
 IsFoundBy t o (proof text) =
@@ -105,8 +103,6 @@ IsFoundBy t o (spent n d learned) =
 IsFoundBy t o (overflowed x k) =
     (s : Strain) × (o.answer ≡ Unknown (reasons.Overflow s)) × (x ≡ overflow s.wide)
     × (k ≡ kept_of t (derivation_in t o.log) o.budget)
-IsFoundBy t o (out_of_pivots n k) =
-    (o.answer ≡ Unknown (reasons.Pivots n)) × (k ≡ kept_of t (derivation_in t o.log) o.budget)
 
 -- it shows what it should of a check, within limits, and is that of an outcome
 abbrev pub IsShown : Limits → TableView → Check → Evidence → Outcome → Type 0

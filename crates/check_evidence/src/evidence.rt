@@ -10,7 +10,7 @@ ghost use Rattle.spec_sessions.specs.Evidence.{Limits as SpokenLimits};
 ghost use Rattle.spec_sessions.specs.Meaning.{IsKeptCheck};
 ghost use Rattle.sat_budget.specs.declared.limits.Limits.{Limits as CodeLimits};
 ghost use Rattle.assertion_stack.specs.Stacks.{over_table};
-ghost use Rattle.search_loop.specs.Rounds.{HasLimits};
+ghost use Rattle.search_loop.specs.Rounds.{HasLimit};
 ghost use Rattle.solve_core.specs.Decisions.{HasDecision};
 ghost use Rattle.check_evidence.specs.Evidence.{limits_meant, IsHeldCheck, HoldsCheck, Decides, IsShown, Checks};
 
@@ -48,8 +48,8 @@ pub enum Evidence {
 /// Checks what is asserted, with these terms of the table assumed, and keeps what was learned in the budget.
 ///
 /// The assumed terms count for this check alone. The table grows by terms that the search and its lemmas speak of. The
-/// budget is then that of the decision, under the limits on conflicts and pivots. `NoMemory` comes where memory ran
-/// out; table and budget are then as they were.
+/// budget is then that of the decision, under the limit on conflicts. `NoMemory` comes where memory ran out; table and
+/// budget are then as they were.
 pub fn check(
     alloc: Global,
     table: &mut TermTable,
@@ -61,7 +61,7 @@ pub fn check(
     requires held { HoldsCheck limits.now.terms (over_table table.old stack.now) assumed.now }
     ensures checks { (c : Check) → IsHeldCheck limits.now.terms (over_table table.old stack.now) assumed.now c
         → Checks (limits_meant limits.now) c result (over_table table.new stack.now) budget.new }
-    ensures limits { IfOk result (λ _. HasLimits limits.now budget.new) }
+    ensures limit { IfOk result (λ _. HasLimit limits.now budget.new) }
     ensures table { OnErr result (table.new ≡ table.old) }
     ensures budget { OnErr result (budget.new ≡ budget.old) }
 {

@@ -14,7 +14,7 @@ ghost use Rattle.check_evidence.specs.Evidence.{IsEvidence, IsSomeEvidence};
 use crate::evidence::Evidence;
 use alethe_writer::send as send_proof;
 use model_text::send as send_model;
-use reply_text::{ResponseWord, overflow, pivots_spent, spent, word};
+use reply_text::{ResponseWord, overflow, spent, word};
 use sat_budget::Reason;
 use term_core::TermTable;
 use world_io::{Failed, Sink};
@@ -61,6 +61,5 @@ pub fn send_evidence<K: Sink>(
         Evidence::Proof(log, plan) => send_proof(plan, log, table, out),
         Evidence::Reason(Reason::Overflow(strain)) => overflow(strain.wide, out),
         Evidence::Reason(Reason::Conflicts(count)) => spent(*count, out),
-        Evidence::Reason(Reason::Pivots(count)) => pivots_spent(*count, out),
     }
 }
