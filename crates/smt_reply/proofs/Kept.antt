@@ -4,7 +4,7 @@ use Rattle.spec_text.specs.declared.Fault.TheVariants.{WrongMode}
 use Rattle.spec_text.specs.Answers.{Answer, refused, ◌>>=◌}
 use Rattle.spec_sorts.specs.Values.{Interpretation}
 use Rattle.spec_sorts.specs.Signatures.{is_some}
-use Rattle.spec_sessions.specs.Evidence.{Found, model, proof, spent, overflowed, out_of_pivots, Checked}
+use Rattle.spec_sessions.specs.Evidence.{Found, model, proof, spent, overflowed, Checked}
 use Rattle.spec_sessions.specs.Replies.{model_found, proof_found, held, in_mode}
 use Rattle.smt_reply.specs.Replies.{found_in}
 
@@ -14,14 +14,12 @@ model_is (model j) i e = let same : j ≡ i = cc in ap model same
 model_is (proof text) i e = absurd cc
 model_is (spent n d learned) i e = absurd cc
 model_is (overflowed o k) i e = absurd cc
-model_is (out_of_pivots n k) i e = absurd cc
 
 pub proof_is : (f : Found) (text : List ℕ) → proof_found f ≡ Some text → f ≡ proof text
 proof_is (model j) text e = absurd cc
 proof_is (proof other) text e = let same : other ≡ text = cc in ap proof same
 proof_is (spent n d learned) text e = absurd cc
 proof_is (overflowed o k) text e = absurd cc
-proof_is (out_of_pivots n k) text e = absurd cc
 
 -- what there is in a mode, or the fault
 module _ {A B : Type 0} (at : ℕ) (of : Found → Option A) (last : Option Checked) (then : A → Answer B) where

@@ -18,7 +18,7 @@ use assertion_stack::Stack;
 use check_evidence::{Evidence, send_evidence};
 use itoa::Buffer;
 use model_text::write_value;
-use reply_text::{ResponseWord, overflow_info, pivots_spent_info, spent_info, word};
+use reply_text::{ResponseWord, overflow_info, spent_info, word};
 use sat_budget::Reason;
 use term_core::{Symbols, TermTable};
 use world_io::{Failed, Sink, write_all, write_pieces};
@@ -75,7 +75,6 @@ fn send_reason_of<K: Sink>(evidence: &Evidence, out: &mut K) -> Result<(), Faile
         Evidence::Proof(_, _) => Ok(()),
         Evidence::Reason(Reason::Overflow(strain)) => overflow_info(strain.wide, out),
         Evidence::Reason(Reason::Conflicts(count)) => spent_info(*count, out),
-        Evidence::Reason(Reason::Pivots(count)) => pivots_spent_info(*count, out),
     }
 }
 
