@@ -7,7 +7,7 @@ ghost use Rattle.spec_sessions.specs.States.{State};
 ghost use Rattle.spec_sessions.specs.Questions.{question_of};
 ghost use Rattle.smt_question.specs.Questions.{question_view};
 ghost use Rattle.smt_sexpr.specs.Items.{tree_of};
-ghost use Rattle.search_loop.specs.Rounds.{HasLimits};
+ghost use Rattle.search_loop.specs.Rounds.{HasLimit};
 ghost use Rattle.spec_commands.specs.Checks.{Check};
 ghost use Rattle.check_evidence.specs.Evidence.{limits_meant, HoldsCheck, IsHeldCheck};
 ghost use Rattle.smt_session.specs.Sessions.{stated, answer_left, AskedKeeps, IsScript, HoldsScript, Finds, TakesScriptCommand, KeepsBudget, KeepsScript, Rejects};
@@ -58,7 +58,7 @@ pub(crate) fn take<'a>(
     ensures budget { KeepsBudget result script.old script.new }
     ensures kept { KeepsScript result script.old script.new }
     ensures asked { AskedKeeps (question_of (tree_of sexpr.now)) script.old script.new }
-    ensures limits { HasLimits limits.now script.old.budget → HasLimits limits.now script.new.budget }
+    ensures limit { HasLimit limits.now script.old.budget → HasLimit limits.now script.new.budget }
 {
     match question(sexpr) {
         Some(Ok(asked)) => take_question(alloc, script, sexpr, asked),
@@ -125,7 +125,7 @@ fn take_command<'a>(
     ensures memory { OnErr result (script.new ≡ script.old) }
     ensures budget { KeepsBudget result script.old script.new }
     ensures kept { KeepsScript result script.old script.new }
-    ensures limits { HasLimits limits.now script.old.budget → HasLimits limits.now script.new.budget }
+    ensures limit { HasLimit limits.now script.old.budget → HasLimit limits.now script.new.budget }
 {
     assumptions_are_read();
     commands_keep_stacks();
@@ -178,7 +178,7 @@ fn find(
     requires held { HoldsCheck limits.now.terms (stated script.old) assumed.now }
     ensures checks { (c : Check) → IsHeldCheck limits.now.terms (stated script.old) assumed.now c
         → Finds (limits_meant limits.now) c result script.new }
-    ensures limits { IfOk result (λ _. HasLimits limits.now script.new.budget) }
+    ensures limit { IfOk result (λ _. HasLimit limits.now script.new.budget) }
     ensures same { OnErr result (script.new ≡ script.old) }
 {
     match check(

@@ -3,7 +3,7 @@
 ghost use Rattle.std.specs.Prelude.{◌≡◌, ◌≤◌, [], IfOk, IsErrOf};
 ghost use Rattle.world_io.specs.Outside.{Rose};
 ghost use Rattle.spec_sessions.specs.States.{State, first_state, mode_of};
-ghost use Rattle.search_loop.specs.Rounds.{HasLimits};
+ghost use Rattle.search_loop.specs.Rounds.{HasLimit};
 ghost use Rattle.smt_session.specs.Sessions.{execution_meant, IsSession, Stepped};
 
 use crate::mode::{ExecutionMode, Mode};
@@ -68,7 +68,7 @@ impl Model for Session {
     ghost use Rattle.std.specs.Prelude.{◌≡◌};
     ghost use Rattle.std.specs.Coded.{codes};
     ghost use Rattle.term_core.specs.Tables.{table_code};
-    ghost use Rattle.search_loop.specs.Rounds.{HasLimits};
+    ghost use Rattle.search_loop.specs.Rounds.{HasLimit};
     ghost use Rattle.smt_session.specs.Sessions.{SessionView, HoldsScript};
 
     ghost Value = { SessionView };
@@ -77,18 +77,18 @@ impl Model for Session {
 
     ghost view = { λ x. record { script = x.script; limits = x.limits; mode = x.mode } };
 
-    ghost invariant = { λ x. HoldsScript x.limits.terms x.script × HasLimits x.limits x.script.budget };
+    ghost invariant = { λ x. HoldsScript x.limits.terms x.script × HasLimit x.limits x.script.budget };
 }
 
 impl Session {
     /// Makes a session that has stated nothing.
     ///
-    /// `limits` are those of each search of a check, but `terms`: how many names there may be, and how many different
-    /// subterms the terms of a command may have. `NoMemory` comes where memory ran out.
+    /// `limits.conflicts` tells how many conflicts each search of a check may learn from. `limits.terms` tells how many names
+    /// there may be, and how many different subterms the terms of a command may have. `NoMemory` comes where memory ran out.
     pub fn new(alloc: Global, limits: &Limits, mode: Mode) -> Result<Session, NoMemory>
         ensures begun { IfOk result (λ x. IsSession x first_state × (x.limits ≡ limits.now) × (x.mode ≡ mode)) }
         ensures budget { IfOk result (λ x. (x.script.budget.learned ≡ []) × (x.script.budget.exchanges ≡ [])
-            × HasLimits limits.now x.script.budget) }
+            × HasLimit limits.now x.script.budget) }
     {
         commands_keep_stacks();
         commands_leave_script_names();
@@ -107,13 +107,13 @@ impl Session {
         })
     }
 
-    /// Gives the budget of the last check that was answered, with its limits, the clauses that it learned and the exchanges
+    /// Gives the budget of the last check that was answered, with its limit, the clauses that it learned and the exchanges
     /// that it made; before the first one there are none. At `unknown` they show the reason. At `sat` and `unsat` some search
     /// with that model, or with that printed proof, has them: no clause says that it is the one that was run. It takes no
     /// memory.
     pub fn budget(&self) -> &Budget
         ensures budget { result.now ≡ self.now.script.budget }
-        ensures limits { HasLimits self.now.limits result.now }
+        ensures limit { HasLimit self.now.limits result.now }
     {
         &self.script.budget
     }
@@ -148,7 +148,7 @@ impl Session {
     /// Source: SMT-LIB 2.6, sections 3.9 and 4.2.
     pub fn step<K: Sink>(&mut self, command: &Sexpr<'_>, out: &mut K) -> Result<After, Halt>
         ensures same { (self.new.limits ≡ self.old.limits) × (self.new.mode ≡ self.old.mode) }
-        ensures limits { HasLimits self.new.limits self.new.script.budget }
+        ensures limit { HasLimit self.new.limits self.new.script.budget }
         ensures stepped { Stepped self.old self.new command.now result (K.state out.old) (K.state out.new) }
         ensures failed { IsErrOf result Halt.Sink → Rose (K.state out.old).faults (K.state out.new).faults }
         ensures count { (K.state out.old).faults ≤ (K.state out.new).faults }

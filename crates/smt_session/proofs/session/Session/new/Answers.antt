@@ -9,7 +9,7 @@ pub invariant_of-result : goal.invariant_of-result
 invariant_of-result c =
     let terms = c.args.limits.now.terms in
     let held = first_held terms c.new-2.result c.new-3.result c.new-2.ensures c.new-3.ensures (c.commands_keep_stacks.ensures.first terms) c.commands_leave_script_names.ensures.first c.commands_leave_readable_definitions.ensures.first in
-    ((first_state, record { stack = held; answer = refl }), (ap (λ (b : BudgetView). b.limit) c.in_ok-budget.ensures, ap (λ (b : BudgetView). b.pivots) c.in_ok-budget.ensures))
+    ((first_state, record { stack = held; answer = refl }), ap (λ (b : BudgetView). b.limit) c.in_ok-budget.ensures)
 
 pub returns-clause-begun : goal.returns-clause-begun
 returns-clause-begun c =

@@ -48,12 +48,12 @@ send_response-requires g c =
 pub invariant_of-self-2 : goal.invariant_of-self-2
 invariant_of-self-2 g c =
     let k = c.in_ok-response.ensures.takes c.self.invariant.0.0 c.self.invariant.0.1 in
-    ((k.a.state, k.represents), c.in_ok-response.ensures.limits c.self.invariant.1)
+    ((k.a.state, k.represents), c.in_ok-response.ensures.limit c.self.invariant.1)
 
 pub invariant_of-self-in-Ok : goal.invariant_of-self-in-Ok
 invariant_of-self-in-Ok g c =
     let k = c.in_ok-response.ensures.takes c.self.invariant.0.0 c.self.invariant.0.1 in
-    ((k.a.state, k.represents), c.in_ok-response.ensures.limits c.self.invariant.1)
+    ((k.a.state, k.represents), c.in_ok-response.ensures.limit c.self.invariant.1)
 
 pub returns-in-Ok-clause-count : goal.returns-in-Ok-clause-count
 returns-in-Ok-clause-count g c =
