@@ -8,10 +8,11 @@ use std::test::Fail;
 
 /// The exit code, whether what is written is taken, the arguments, and standard input. A `!` is no text.
 const RUNS: &str = "0\tyes\tsmt_cli solve\t(check-sat)
-0\tyes\tsmt_cli certify --pivots 1\t(check-sat)
+0\tyes\tsmt_cli certify --conflicts 1\t(check-sat)
 1\tyes\tsmt_cli solve\t(assert zz)
 2\tyes\tsmt_cli\t
 2\tyes\tsmt_cli solve --conflicts\t
+2\tyes\tsmt_cli solve --pivots 1\t
 2\tyes\tsmt_cli solve !\t
 4\tyes\tsmt_cli solve absent\t
 4\tyes\tsmt_cli check --at 1 absent absent\t

@@ -94,10 +94,10 @@ module _ (texts : List Text) (old new : SinkState) where
       → AreHeld asked (text_named texts) ⊎ IsUnread status before after → EndsInMemory status asked texts old new
   ends_in_memory status None h found = usage_ends status h
   ends_in_memory status (Some (checks n)) h found = checked status n h found
-  ends_in_memory status (Some (runs mode name budgets)) h found = ran status (record { mode = mode; name = name; limits = limits_by budgets }) h found
+  ends_in_memory status (Some (runs mode name conflicts)) h found = ran status (record { mode = mode; name = name; limits = limits_by conflicts }) h found
 
 -- where the sink failed, its count of faults rose
 pub fault_counted : (asked : Option Asked) (holds : Holdings) (old new : SinkView) → RunMeans WriteFault asked holds old new → Rose old.faults new.faults
 fault_counted None holds old new h = h.0.failed
 fault_counted (Some (checks n)) holds old new ((script, proof, s, p, (found, v, w)), room) = w.failed
-fault_counted (Some (runs mode name budgets)) holds old new (text, e, (begun, t, say, d)) = d.failed
+fault_counted (Some (runs mode name conflicts)) holds old new (text, e, (begun, t, say, d)) = d.failed

@@ -19,7 +19,7 @@ asked_by_bytes arguments = refl
 runs_out : (wanted : Option Asked) (holds : Holdings) (s : SinkView) → RunMeans Memory wanted holds s s
 runs_out None holds s = refl
 runs_out (Some (checks n)) holds s = refl
-runs_out (Some (runs mode name budgets)) holds s = inr refl
+runs_out (Some (runs mode name conflicts)) holds s = inr refl
 
 -- some arguments are taken
 some_taken : (known : Option (List (List ℕ))) → (taken : List (List ℕ)) × AreTaken known taken

@@ -19,21 +19,10 @@ pub record ProofNames : Type 0 where
   -- which of the script's checks is meant, from 1
   pub at : ℕ
 
--- What each search of a check of a run may spend.
-pub record Budgets : Type 0 where
-  -- how many conflicts it may learn from
-  pub conflicts : ℕ
-  -- how many pivots it may make
-  pub pivots : ℕ
-
--- the two as one
-abbrev pub budgets : ℕ × ℕ → Budgets
-budgets b = record { conflicts = b.0; pivots = b.1 }
-
 -- What the arguments of a run ask for.
 pub data Asked : Type 0 where
-  -- a script is to be run: how much is written, its name, and what each search of a check may spend
-  runs : Mode → List ℕ → Budgets → Asked
+  -- a script is to be run: how much is written, its name, and how many conflicts each search of a check may learn from
+  runs : Mode → List ℕ → ℕ → Asked
   -- a proof is to be judged against a script
   checks : ProofNames → Asked
 
@@ -45,10 +34,9 @@ option_named id = record (new_rule id) { long = Some id }
 abbrev pub required_argument : Text → Rule
 required_argument id = record (new_rule id) { required = true }
 
--- a command of this name with the arguments `[--conflicts N] [--pivots N] [NAME]`
+-- a command of this name with the arguments `[--conflicts N] [NAME]`
 abbrev pub run_app : Text → App
-run_app name = with_rule (with_rule (with_rule (new_app name) (option_named (codes "conflicts")))
-    (option_named (codes "pivots"))) (new_rule (codes "name"))
+run_app name = with_rule (with_rule (new_app name) (option_named (codes "conflicts"))) (new_rule (codes "name"))
 
 -- the command `check [--at K] SCRIPT PROOF`
 abbrev pub check_app : App
@@ -81,10 +69,6 @@ most_number = 1000000000
 abbrev pub usual_conflicts : ℕ
 usual_conflicts = 1000000
 
--- how many pivots a search of a check may make where no word says so
-abbrev pub usual_pivots : ℕ
-usual_pivots = 10000000
-
 -- the word is the number's decimal digits, with no sign and no zero before them, and the number is from 1 to
 -- `most_number`
 abbrev pub IsNumber : List ℕ → ℕ → Type 0
@@ -101,24 +85,14 @@ abbrev pub number_or : ℕ → Option Text → Option ℕ
 number_or usual None = Some usual
 number_or usual (Some word) = number_of word
 
--- both budgets, where both are numbers
-abbrev pub both_budgets : Option ℕ → Option ℕ → Option Budgets
-both_budgets (Some conflicts) (Some pivots) = Some (record { conflicts = conflicts; pivots = pivots })
-both_budgets _ _ = None
-
--- what each search of a check may spend, by the values of `conflicts` and `pivots` of a command's matches
-abbrev pub budgets_in : List Row → Option Budgets
-budgets_in rows =
-    both_budgets (number_or usual_conflicts (first_of (codes "conflicts") rows))
-    (number_or usual_pivots (first_of (codes "pivots") rows))
-
--- the limits of a run in which each search of a check may spend so much
-abbrev pub limits_by : Budgets → Limits
-limits_by budgets = record { conflicts = budgets.conflicts; pivots = budgets.pivots; terms = term_limit }
+-- the limits of a run in which each search of a check may learn from so many conflicts
+abbrev pub limits_by : ℕ → Limits
+limits_by conflicts = record { conflicts = conflicts; terms = term_limit }
 
 -- the run that the values of a command's matches ask for; where no name is given, that of the empty name
 abbrev pub run_in : Mode → List Row → Option Asked
-run_in mode rows = option_map (runs mode (unwrap_or (first_of (codes "name") rows) [])) (budgets_in rows)
+run_in mode rows = option_map (runs mode (unwrap_or (first_of (codes "name") rows) []))
+    (number_or usual_conflicts (first_of (codes "conflicts") rows))
 
 -- all three are there
 abbrev pub all_three : Option Text → Option Text → Option ℕ → Option ProofNames

@@ -16,7 +16,7 @@ use Rattle.smt_top.specs.declared.arguments.ArgumentsStop.{ArgumentsStop}
 use Rattle.smt_top.specs.declared.arguments.ArgumentsStop.TheVariants as stop
 use Rattle.script_run.specs.Scripts.{ScriptRun}
 use Rattle.smt_top.specs.RunMeans.{IsValid, IsRefused}
-use Rattle.smt_top.specs.Arguments.{ProofNames, Budgets, Asked, runs, checks, limits_by}
+use Rattle.smt_top.specs.Arguments.{ProofNames, Asked, runs, checks, limits_by}
 use Rattle.smt_top.specs.Output.{valid, output_of, longest_line}
 
 -- what was judged of a proof of a check of a script, and for an accepted one that nothing makes true what is asserted
@@ -39,17 +39,13 @@ Reports _ script at proof old new = ⊥
 abbrev pub names_of : CheckRequest → ProofNames
 names_of r = record { script = r.names.script.now; proof = r.names.proof.now; at = r.at }
 
--- what each search of a check may spend, by a request
-abbrev pub budgets_of : RunRequest → Budgets
-budgets_of r = record { conflicts = r.conflicts; pivots = r.pivots }
-
 -- the run that a request asks for
 abbrev pub run_of : RunRequest → ScriptRun
-run_of r = record { mode = mode_meant r.mode; name = r.name.now; limits = limits_by (budgets_of r) }
+run_of r = record { mode = mode_meant r.mode; name = r.name.now; limits = limits_by r.conflicts }
 
 -- what a request asks for
 abbrev pub asked_by : Request → Asked
-asked_by (request.Run r) = runs (mode_meant r.mode) r.name.now (budgets_of r)
+asked_by (request.Run r) = runs (mode_meant r.mode) r.name.now r.conflicts
 asked_by (request.Check r) = checks (names_of r)
 
 -- what the arguments ask for, or that they ask for nothing, unless memory ran out

@@ -74,5 +74,5 @@ UsageEndsInMemory _ old new = ⊥
 abbrev pub EndsInMemory : Status → Option Asked → List Text → SinkState → SinkState → Type 0
 EndsInMemory status None texts old new = UsageEndsInMemory status old new
 EndsInMemory status (Some (checks n)) texts old new = CheckEndsInMemory status n texts old new
-EndsInMemory status (Some (runs mode name budgets)) texts old new =
-    ScriptEndsInMemory status (record { mode = mode; name = name; limits = limits_by budgets }) texts old new
+EndsInMemory status (Some (runs mode name conflicts)) texts old new =
+    ScriptEndsInMemory status (record { mode = mode; name = name; limits = limits_by conflicts }) texts old new

@@ -6,8 +6,8 @@ use Rattle.spec_models.specs.Replies.{error_text}
 
 -- how the arguments are to be
 abbrev pub usage : List ℕ
-usage = (codes "usage: smt_cli solve [--conflicts N] [--pivots N] [NAME]\n"
-    ++ codes "       smt_cli certify [--conflicts N] [--pivots N] [NAME]\n"
+usage = (codes "usage: smt_cli solve [--conflicts N] [NAME]\n"
+    ++ codes "       smt_cli certify [--conflicts N] [NAME]\n"
     ++ codes "       smt_cli check [--at K] SCRIPT PROOF\n")
 
 -- the proof is accepted

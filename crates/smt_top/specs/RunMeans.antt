@@ -89,22 +89,22 @@ is_answered _ = false
 abbrev pub RunMeans : Status → Option Asked → Holdings → SinkView → SinkView → Type 0
 RunMeans status None holds old new = CheckMeans status None holds old new
 RunMeans status (Some (checks n)) holds old new = CheckMeans status (Some n) holds old new
-RunMeans status (Some (runs mode name budgets)) holds old new =
-    ScriptMeans status (record { mode = mode; name = name; limits = limits_by budgets }) holds old new
+RunMeans status (Some (runs mode name conflicts)) holds old new =
+    ScriptMeans status (record { mode = mode; name = name; limits = limits_by conflicts }) holds old new
 
 -- where a read fails: what was written is exactly the responses to the commands that were read; for a proof to judge
 -- nothing was
 abbrev pub AnswersSoFar : Option Asked → Holdings → (before left : Option (List ℕ)) → SinkView → SinkView → Type 0
 AnswersSoFar None holds before left old new = ⊤
 AnswersSoFar (Some (checks n)) holds before left old new = new ≡ old
-AnswersSoFar (Some (runs mode name budgets)) holds before left old new =
-    ReadsSoFar (record { mode = mode; name = name; limits = limits_by budgets }) (holds name) before left old new
+AnswersSoFar (Some (runs mode name conflicts)) holds before left old new =
+    ReadsSoFar (record { mode = mode; name = name; limits = limits_by conflicts }) (holds name) before left old new
 
 -- the texts that are asked for are held
 abbrev pub AreHeld : Option Asked → Holdings → Type 0
 AreHeld None holds = ⊤
 AreHeld (Some (checks n)) holds = BothHold (Some n) holds
-AreHeld (Some (runs mode name budgets)) holds = IsSome (holds name)
+AreHeld (Some (runs mode name conflicts)) holds = IsSome (holds name)
 
 -- the run ended, and nothing was written: the shelf failed, or memory ran out
 abbrev pub IsUnread : Status → SinkView → SinkView → Type 0
@@ -115,4 +115,4 @@ IsUnread status old new = ((status ≡ ReadFault) ⊎ (status ≡ Memory)) × (n
 abbrev pub LastIsRead : Option Asked → Holdings → Option (List ℕ) → Type 0
 LastIsRead None holds left = ⊤
 LastIsRead (Some (checks n)) holds left = ProofIsLast (Some n) holds left
-LastIsRead (Some (runs mode name budgets)) holds left = TakesText (holds name) left
+LastIsRead (Some (runs mode name conflicts)) holds left = TakesText (holds name) left

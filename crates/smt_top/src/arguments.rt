@@ -5,7 +5,7 @@ ghost use Rattle.clap.specs.Words.{app_of, rule_of, FailsBy, fault_of, first_of,
 ghost use Rattle.clap.specs.declared.builder.command.Command.TheViews.{out-Command};
 ghost use Rattle.smt_session.specs.Sessions.{mode_meant};
 ghost use Rattle.smt_top.specs.Calls.{names_of, asked_by, Asks};
-ghost use Rattle.smt_top.specs.Arguments.{asked, asked_in, IsNumber, number_of, number_or, budgets, budgets_in, run_in, names_in, option_named, required_argument, run_app, check_app, bare_app, smt_app};
+ghost use Rattle.smt_top.specs.Arguments.{asked, asked_in, IsNumber, number_of, number_or, run_in, names_in, option_named, required_argument, run_app, check_app, bare_app, smt_app};
 
 use clap::error::ErrorKind;
 use clap::{Arg, ArgMatches, Command, Error};
@@ -18,9 +18,6 @@ const MOST_NUMBER: u64 = 1_000_000_000;
 
 /// How many conflicts a search may learn from where no argument says so.
 const USUAL_CONFLICTS: u64 = 1_000_000;
-
-/// How many pivots a search may make where no argument says so.
-const USUAL_PIVOTS: u64 = 10_000_000;
 
 /// Holds the names of the two texts.
 #[derive(Clone, Copy)]
@@ -49,8 +46,6 @@ pub(crate) struct RunRequest<'a> {
     pub(crate) name: &'a str,
     /// How many conflicts each search of a check may learn from, from 1 to 1,000,000,000.
     pub(crate) conflicts: u64,
-    /// How many pivots each search of a check may make, from 1 to 1,000,000,000.
-    pub(crate) pivots: u64,
 }
 
 /// Holds what the arguments of a run ask for.
@@ -71,12 +66,12 @@ pub(crate) enum ArgumentsStop {
     Memory,
 }
 
-/// Gives what the arguments after the program's name ask for: `solve [--conflicts N] [--pivots N] [NAME]`, `certify` with the same,
-/// or `check [--at K] SCRIPT PROOF`.
+/// Gives what the arguments after the program's name ask for: `solve [--conflicts N] [NAME]`, `certify` with the same, or
+/// `check [--at K] SCRIPT PROOF`.
 ///
-/// N and K are from 1 to 1,000,000,000, in decimal digits. Where they are not given, a search may learn from 1,000,000 conflicts and
-/// make 10,000,000 pivots, K is 1, and NAME is empty. `Wrong` comes for all other arguments. `Memory` comes only where an allocation
-/// was refused, whatever the arguments are.
+/// N and K are from 1 to 1,000,000,000, in decimal digits. Where they are not given, a search may learn from 1,000,000 conflicts,
+/// K is 1, and NAME is empty. `Wrong` comes for all other arguments. `Memory` comes only where an allocation was refused,
+/// whatever the arguments are.
 pub(crate) fn request_from<'a>(
     alloc: Global,
     arguments: &'a [String],
@@ -125,7 +120,6 @@ fn run_command<'a>(alloc: Global, name: &'a str) -> Result<Command<'a>, AllocErr
 {
     Command::new(alloc, name)
         .arg(option_named(alloc, "conflicts"))?
-        .arg(option_named(alloc, "pivots"))?
         .arg(Arg::new(alloc, "name"))
 }
 
@@ -202,28 +196,17 @@ fn request_in<'a>(name: &str, found: &ArgMatches<'a>) -> Option<Request<'a>>
     }
 }
 
-/// Gives what the matches of `solve` or `certify` ask for, and `None` where the value of an option is no number.
+/// Gives what the matches of `solve` or `certify` ask for, and `None` where the value of `--conflicts` is no number.
 fn run_in<'a>(mode: Mode, found: &ArgMatches<'a>) -> Option<RunRequest<'a>>
     ensures { option_map (λ r. asked_by (Request.Run r)) result
         ≡ run_in (mode_meant mode) (rows_of (found_of found.now)) }
 {
-    let (conflicts, pivots) = budgets_in(found)?;
+    let conflicts = number_or(USUAL_CONFLICTS, value_of(found, "conflicts"))?;
     Some(RunRequest {
         mode,
         name: name_or_empty(value_of(found, "name")),
         conflicts,
-        pivots,
     })
-}
-
-/// Gives how many conflicts and how many pivots each search may have, by the values of `--conflicts` and `--pivots`, and `None`
-/// where one of them is no number.
-fn budgets_in(found: &ArgMatches<'_>) -> Option<(u64, u64)>
-    ensures { option_map budgets result ≡ budgets_in (rows_of (found_of found.now)) }
-{
-    let conflicts = number_or(USUAL_CONFLICTS, value_of(found, "conflicts"))?;
-    let pivots = number_or(USUAL_PIVOTS, value_of(found, "pivots"))?;
-    Some((conflicts, pivots))
 }
 
 /// Gives what the matches of `check` ask for, and `None` where a name is missing or the value of `--at` is no number.

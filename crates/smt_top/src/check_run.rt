@@ -71,7 +71,6 @@ fn run_script<F: Shelf, K: Sink>(
 {
     let limits = Limits {
         conflicts: request.conflicts,
-        pivots: request.pivots,
         terms: TERM_LIMIT,
     };
     script_run::run_script(alloc, request.name, &limits, request.mode, shelf, out)
@@ -90,11 +89,11 @@ fn run_usage<K: Sink>(out: &mut K) -> Status
 
 /// Runs the program: does what the arguments ask for after its name.
 ///
-/// - `solve [--conflicts N] [--pivots N] [NAME]` runs the script of that name and writes the standard's responses; an absent
-///   name is the empty one. `certify` does the same, and writes after the answer of each check what shows it: a model, a
-///   proof or a reason. N is the most conflicts of each search of a check (1,000,000 where it is not given) or its most
-///   pivots (10,000,000). Of the text the first 2^26 bytes are run. A read is asked for only where no further command is whole in
-///   the bytes that came, and the responses to all that are were written and passed on.
+/// - `solve [--conflicts N] [NAME]` runs the script of that name and writes the standard's responses; an absent name is the
+///   empty one. `certify` does the same, and writes after the answer of each check what shows it: a model, a proof or a
+///   reason. N is the most conflicts of each search of a check, 1,000,000 where it is not given. Of the text the first
+///   2^26 bytes are run. A read is asked for only where no further command is whole in the bytes that came, and the
+///   responses to all that are were written and passed on.
 /// - `check [--at K] SCRIPT PROOF` judges the proof against the script's K-th check, from 1, or the first where K is not
 ///   given: it writes `valid`, or the proof's first fault with its line and column.
 /// - All other arguments give the usage text, and `Words`.
