@@ -19,7 +19,7 @@ functions              scripts over two declared sorts and functions, by `certif
                        some are solved, too, and compared with the answers of z3 and cvc5 where they are on the path
 few conflicts          such scripts under a small limit on conflicts, where checks may be answered `unknown`
 numbers                scripts over linear real arithmetic, Bool, declared sorts and functions over these, by `certify`,
-                       half of them with small limits on conflicts and pivots; each proof is given back to `check`,
+                       half of them with a small limit on conflicts; each proof is given back to `check`,
                        some scripts are solved, too, and put to z3 and cvc5
 mixed                  the same of scripts in which functions take and give numbers; some are damaged, and some proofs
                        are changed, too
@@ -86,7 +86,7 @@ SOLVED_SHARE = 0.1
 DAMAGED_SHARE = 0.1
 CHANGED_SHARE = 0.2
 # The words of the reasons of `unknown`.
-REASONS = re.compile(rb"^\((overflow|pivots|conflicts)\b", re.MULTILINE)
+REASONS = re.compile(rb"^\((overflow|conflicts)\b", re.MULTILINE)
 
 
 class Comparison:
@@ -291,11 +291,10 @@ def few_conflicts(comparison):
 
 
 def some_limits():
-    """Returns no limits in half of the cases, else small ones on conflicts, on pivots or on both."""
+    """Returns no limits in half of the cases, else a small one on conflicts."""
     if random.random() < 0.5:
         return NONE
-    conflicts, pivots = random.choice([1, 2, 3, 5, 8]), random.choice([1, 1, 2, 3, 5, 8, 20])
-    return random.choice([Limits(conflicts), Limits(None, pivots), Limits(None, pivots), Limits(conflicts, pivots)])
+    return Limits(random.choice([1, 2, 3, 5, 8]))
 
 
 def judge_all(comparison, script):

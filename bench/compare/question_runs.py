@@ -22,10 +22,10 @@ ELSEWHERE_SHARE = 0.05
 
 
 def some_limits():
-    """Returns no limits in most cases, else small ones on conflicts or pivots."""
+    """Returns no limits in most cases, else a small one on conflicts."""
     if random.random() < 0.7:
         return NONE
-    return random.choice([Limits(random.choice([1, 1, 2, 3])), Limits(None, random.choice([1, 1, 2, 3]))])
+    return Limits(random.choice([1, 1, 2, 3]))
 
 
 def questions_in(script, founds):

@@ -1,7 +1,7 @@
 """Judges the reasons that `certify` writes after `unknown`, as docs/FORMATS.md says.
 
-A limit is that of the run: of the clauses that a check may learn, or of the pivots that it may make. One that is None
-is not to be reached by what is run. An operation on numbers has to leave 128 bits, and comes where there are numbers.
+The limit is that of the run, of the clauses that a check may learn. One that is None is not to be reached by what is
+run. An operation on numbers has to leave 128 bits, and comes where there are numbers.
 """
 
 from typing import NamedTuple
@@ -15,21 +15,19 @@ OPERATIONS = {b"add": (add, "Add"), b"sub": (add, "Sub"), b"mul": (multiply, "Mu
 
 
 class Limits(NamedTuple):
-    """How many conflicts a check may learn from, and how many pivots it may make; None where neither may be reached."""
+    """How many conflicts a check may learn from; None where that may not be reached."""
 
     conflicts: int | None = None
-    pivots: int | None = None
 
     @property
     def words(self):
         """The words that tell the program these limits."""
-        given = {"--conflicts": self.conflicts, "--pivots": self.pivots}
-        return [word for option, limit in given.items() if limit is not None for word in (option, str(limit))]
+        return [] if self.conflicts is None else ["--conflicts", str(self.conflicts)]
 
 
 NONE = Limits()
 # What the program takes where no option is given.
-USUAL = Limits(1_000_000, 10_000_000)
+USUAL = Limits(1_000_000)
 
 
 def leaves(name, left, right):
@@ -53,9 +51,8 @@ def require_reason(item, has_numbers, limits):
         require(len(parts) == 4 and parts[1][0] == "sym" and parts[1][1] in OPERATIONS, "no operation")
         require(leaves(parts[1][1], *map(number_of, parts[2:])), "an operation that does not leave 128 bits")
         return
-    require(word in (b"conflicts", b"pivots") and len(parts) == 2 and parts[1][0] == "num", "no reason")
-    require(word == b"conflicts" or has_numbers, "pivots without numbers")
-    limit = limits.conflicts if word == b"conflicts" else limits.pivots
+    require(word == b"conflicts" and len(parts) == 2 and parts[1][0] == "num", "no reason")
+    limit = limits.conflicts
     require(limit is not None and parts[1][1] == b"%d" % limit, f"not the limit {limit}")
 
 
