@@ -15,13 +15,14 @@ use Rattle.spec_rules.specs.Examples.{p, q}
 use Rattle.spec_derivations.specs.Examples.{asserting, eight, not_both}
 use Rattle.spec_derivations.proofs.Learned.{literals_decide, quiet_is_new}
 
-abbrev has : List Literal → Literal → Bool
+-- a test for a literal in a list
+abbrev pub has : List Literal → Literal → Bool
 has held m = list_any (λ h. same_literal h m) held
 
-has_there : (held : List Literal) (m : Literal) → has held m ≡ true → Contains held m
+pub has_there : (held : List Literal) (m : Literal) → has held m ≡ true → Contains held m
 has_there held m e = let x = Any-from_list_any (λ h. same_literal h m) held e in subst (λ (l : Literal). Contains held l) ((literals_decide x.1 m).0 x.4) (x.0, x.2, x.3)
 
-there_has : (held : List Literal) (m : Literal) → Contains held m → has held m ≡ true
+pub there_has : (held : List Literal) (m : Literal) → Contains held m → has held m ≡ true
 there_has held m h = list_any_at (λ h. same_literal h m) held h.0 m h.1 ((literals_decide _ m).1 h.2)
 
 abbrev open_at : List Literal → Literal → Bool
@@ -34,7 +35,7 @@ two_open held (m ∷ ms) = (open_at held m && list_any (λ n. open_at held n && 
 abbrev inert : List Literal → List Literal → Bool
 inert held clause = list_any (has held) clause || two_open held clause
 
-either : (p q : Bool) → p || q ≡ true → (p ≡ true) ⊎ (q ≡ true)
+pub either : (p q : Bool) → p || q ≡ true → (p ≡ true) ⊎ (q ≡ true)
 either true q e = inl refl
 either false q e = inr e
 
@@ -62,7 +63,7 @@ inert_is held clause e = elim (either _ _ e) [
 ]
 
 -- a test of each clause
-abbrev quiet : List Literal → List (List Literal) → Bool
+abbrev pub quiet : List Literal → List (List Literal) → Bool
 quiet held [] = true
 quiet held (x ∷ xs) = inert held x && quiet held xs
 
@@ -70,10 +71,11 @@ quiet_all : (held : List Literal) (xs : List (List Literal)) → quiet held xs �
 quiet_all held [] e = tt
 quiet_all held (x ∷ xs) e = let p = and_parts (inert held x) (quiet held xs) e in (inert_is held x p.0, quiet_all held xs p.1)
 
-quiet_is : (held : List Literal) (xs : List (List Literal)) → quiet held xs ≡ true → IsQuiet complement xs held
+pub quiet_is : (held : List Literal) (xs : List (List Literal)) → quiet held xs ≡ true → IsQuiet complement xs held
 quiet_is held xs e x x_in = All-contains (ImpliesNothing complement held) xs x (All-from_recursion (ImpliesNothing complement held) xs (quiet_all held xs e)) x_in
 
-abbrev consistent : List Literal → List Literal → Bool
+-- and of each literal, that its complement is not there
+abbrev pub consistent : List Literal → List Literal → Bool
 consistent held [] = true
 consistent held (m ∷ ms) = open_at held m && consistent held ms
 
@@ -81,7 +83,7 @@ consistent_all : (held ms : List Literal) → consistent held ms ≡ true → Al
 consistent_all held [] e = tt
 consistent_all held (m ∷ ms) e = let p = and_parts (open_at held m) (consistent held ms) e in (open_is held m p.0, consistent_all held ms p.1)
 
-consistent_is : (held : List Literal) → consistent held held ≡ true → IsConsistent complement held
+pub consistent_is : (held : List Literal) → consistent held held ≡ true → IsConsistent complement held
 consistent_is held e m m_in = All-contains (λ m. Contains held (complement m) → ⊥) held m (All-from_recursion (λ m. Contains held (complement m) → ⊥) held (consistent_all held held e)) m_in
 
 -- what holds once p is decided

@@ -1,6 +1,10 @@
 -- The lemmas of this crate.
 pub mod Quiet
 pub mod Learned
+pub mod Exact
+pub mod Unmixed
+pub mod FirstChain
+pub mod Copied
 pub mod Saying
 pub mod Eight
 pub mod Derivations

@@ -7,6 +7,8 @@ pub mod Base
 pub mod Orders
 pub mod Lemmas
 pub mod Learned
+pub mod ExactChains
 pub mod Spent
 pub mod Models
 pub mod Examples
+pub mod Copies

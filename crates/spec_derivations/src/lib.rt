@@ -5,6 +5,7 @@
 //! definitions in `specs/`.
 #![tactic(auto)]
 
+pub mod chains;
 pub mod checks;
 pub mod examples;
 pub mod laws;

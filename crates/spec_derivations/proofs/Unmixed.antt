@@ -1,0 +1,75 @@
+-- That the base clauses of the eight and those of the idle constant have no atom in common.
+use Rattle.std.proofs.Common.{◌≡◌, ◌&&◌, ◌||◌, Bool, true, false, List, [], ◌∷◌, All, Contains, inl, inr, refl, sym, ap, ◌∙◌}
+use Rattle.std.specs.Bool.{beq}
+use Rattle.std.specs.Cmp.{booleans_Decides}
+use Rattle.std.specs.List.{AllByRecursion}
+use Rattle.std.proofs.lemmas.Bool.{false≢true, and_parts}
+use Rattle.std.proofs.lemmas.List.Elements.{All-from_recursion}
+use Rattle.spec_text.proofs.Members.{cases, none}
+use Rattle.spec_sorts.specs.Terms.{Term, same_term, sort_of, second_sort}
+use Rattle.spec_sorts.specs.Literals.{Literal, literal_of}
+use Rattle.spec_sorts.specs.Subterms.{with_subterms, with_all_subterms}
+use Rattle.spec_sorts.proofs.SameTerms.{terms_decide}
+use Rattle.spec_derivations.specs.ExactChains.{AreAlike}
+use Rattle.spec_derivations.specs.Copies.{idle, idle_or_not, given, IsIdle}
+use Rattle.spec_derivations.proofs.Eight.{either}
+
+-- whether a term is of the kind
+abbrev pub is_idle : Term → Bool
+is_idle t = same_term t idle || same_term t idle_or_not
+
+pub idle_is : (t : Term) → is_idle t ≡ true → IsIdle t
+idle_is t e = elim (either (same_term t idle) (same_term t idle_or_not) e) [
+  | inl h ↦ inl ((terms_decide t idle).0 h)
+  | inr h ↦ inr ((terms_decide t idle_or_not).0 h)
+]
+
+left_true : (a b : Bool) → a ≡ true → a || b ≡ true
+left_true true b e = refl
+left_true false b e = absurd (false≢true e)
+
+right_true : (a b : Bool) → b ≡ true → a || b ≡ true
+right_true true b e = refl
+right_true false b e = e
+
+pub is_idle_by : (t : Term) → IsIdle t → is_idle t ≡ true
+is_idle_by t (inl e) = left_true (same_term t idle) (same_term t idle_or_not) ((terms_decide t idle).1 e)
+is_idle_by t (inr e) = right_true (same_term t idle) (same_term t idle_or_not) ((terms_decide t idle_or_not).1 e)
+
+-- whether each atom of a clause is like a first one
+abbrev all_like : Bool → List Literal → Bool
+all_like b [] = true
+all_like b (l ∷ ls) = beq (is_idle l.atom) b && all_like b ls
+
+abbrev alike : List Literal → Bool
+alike [] = true
+alike (l ∷ ls) = all_like (is_idle l.atom) (l ∷ ls)
+
+abbrev all_alike : List (List Literal) → Bool
+all_alike [] = true
+all_alike (c ∷ cs) = alike c && all_alike cs
+
+like_is : (b : Bool) (ls : List Literal) → all_like b ls ≡ true → (l : Literal) → Contains ls l → is_idle l.atom ≡ b
+like_is b [] e l i = absurd (none l i)
+like_is b (m ∷ ms) e l i =
+    let h = and_parts (beq (is_idle m.atom) b) (all_like b ms) e in
+    elim (cases m ms l i) [
+      | inl same ↦ ap (λ (x : Literal). is_idle x.atom) (sym same) ∙ (booleans_Decides (is_idle m.atom) b).0 h.0
+      | inr rest ↦ like_is b ms h.1 l rest
+    ]
+
+alike_is : (c : List Literal) → alike c ≡ true → AreAlike is_idle c
+alike_is [] e l m i j = absurd (none l i)
+alike_is (x ∷ xs) e l m i j = like_is (is_idle x.atom) (x ∷ xs) e l i ∙ sym (like_is (is_idle x.atom) (x ∷ xs) e m j)
+
+each_alike : (cs : List (List Literal)) → all_alike cs ≡ true → AllByRecursion (AreAlike is_idle) cs
+each_alike [] e = tt
+each_alike (c ∷ cs) e = let h = and_parts (alike c) (all_alike cs) e in (alike_is c h.0, each_alike cs h.1)
+
+given_are : all_alike given ≡ true
+unfolding same_term sort_of second_sort with_subterms with_all_subterms literal_of
+given_are = refl
+
+-- so they are
+pub given_alike : All (AreAlike is_idle) given
+given_alike = All-from_recursion (AreAlike is_idle) given (each_alike given given_are)
