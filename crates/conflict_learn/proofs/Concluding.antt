@@ -9,10 +9,11 @@ use Rattle.spec_sorts.specs.Literals.{Literal, literal_of, complement}
 use Rattle.spec_proofs.specs.Resolution.{Resolves}
 use Rattle.spec_proofs.specs.declared.Rule.TheVariants.{Resolution}
 use Rattle.spec_derivations.specs.Derivations.{Derivation, by_rule, FollowsFrom}
+use Rattle.spec_derivations.specs.ExactChains.{IsExactResolvent, IsExactFrom}
 use Rattle.no_memory.specs.declared.NoMemory.{NoMemory}
 use Rattle.term_core.specs.declared.ids.TermId.{TermId}
 use Rattle.term_core.specs.declared.ids.Lit.{Lit}
-use Rattle.term_core.specs.Tables.{TableView, IsIn, term_at, literal_at, clause_at, positive_literal, Extends}
+use Rattle.term_core.specs.Tables.{TableView, IsIn, AreDifferent, term_at, literal_at, clause_at, positive_literal, Extends}
 use Rattle.term_core.proofs.TermsExtend.{IsIn-kept, literal_at-kept}
 use Rattle.clause_literals.specs.Literals.{lit_complement, LiteralsMean}
 use Rattle.proof_log.specs.declared.premises.StepId.{StepId}
@@ -25,7 +26,8 @@ use Rattle.conflict_learn.specs.Points.{held_at, level_at, IsMet, IsUsed, IsUip}
 use Rattle.conflict_learn.specs.Learned.{Refutes}
 use Rattle.conflict_learn.specs.Analyses.{IsBare, StateAll}
 use Rattle.conflict_learn.proofs.Uip.{met_level, met_bare, used_in_log, used_premise, replaced_has_reason, clause_follows}
-use Rattle.conflict_learn.proofs.Stating.{stated_by, is_stated, step_follows}
+use Rattle.conflict_learn.proofs.Stating.{stated_by, is_stated, step_follows, step_exact}
+use Rattle.conflict_learn.proofs.Chaining.{left_comes}
 
 -- a literal of the same variable is bare too
 bare_term : (t : TableView) (l m : Lit) → l.term ≡ m.term → IsBare t l → IsBare t m
@@ -80,6 +82,17 @@ module _ (c : Conflict) (once : VariablesAreApart c.trail.literals) (leveled : I
       → FollowsFrom (derivation_in u c.log) (inference_of u (stepped Resolution premises [] ids))
   uip_follows right closed n top clause premises uip =
       states_follow right closed uip.from premises (λ s. (uip.used s).0) (λ s. (uip.used s).1) clause uip.left.all (replaced_has_reason c once leveled clash reasons n top uip.from uip.point)
+
+  -- by a chain that gives no more
+  pub uip_exact : AreDifferent c.table.terms → IsLogOf c.table c.log → IsClosed c.table.terms → (n : ℕ) → IsConflictLevel c n → (clause : List Lit) (premises : List StepId) → IsUip c n clause premises
+      → (u : TableView) (ids : List TermId) → StateAll u (map (literal_at c.table) clause) ids → derivation_in u c.log ≡ derivation_in c.table c.log
+      → IsExactFrom (derivation_in u c.log) (inference_of u (stepped Resolution premises [] ids))
+  uip_exact differ right closed n top clause premises uip u ids h same =
+      let there = premises_there uip.from premises (λ s. (uip.used s).0) in
+      let Given : List Literal → Type 0 = Contains (stated_by c.table c.log premises there) in
+      let comes = left_comes c once leveled clash reasons differ closed right uip.from n top uip.point Given (λ s used. is_stated c.table c.log premises there s ((uip.used s).1 used)) clause uip.left in
+      subst (λ (d : Derivation). IsExactFrom d (by_rule Resolution (numbers_of premises) no_texts (clause_at u ids))) (sym same)
+      (step_exact c.table c.log premises there (clause_at u ids) (subst (λ (ls : List Literal). IsExactResolvent complement Given ls) (sym h.1) comes))
 
   -- its terms are no negations
   pub uip_bare : IsLogOf c.table c.log → (n : ℕ) (clause : List Lit) (premises : List StepId) → IsUip c n clause premises → All (IsBare c.table) clause

@@ -6,5 +6,6 @@ pub mod Uip
 pub mod Following
 pub mod Dropped
 pub mod Stating
+pub mod Chaining
 pub mod Concluding
 pub mod OnePoint

@@ -11,6 +11,7 @@ use Rattle.spec_sorts.specs.Literals.{Clause, Literal, literal_of, literals_of, 
 use Rattle.spec_rules.specs.Clauses.{IsResolvent}
 use Rattle.spec_proofs.specs.declared.Rule.TheVariants.{Resolution}
 use Rattle.spec_derivations.specs.Derivations.{by_rule, FollowsFrom}
+use Rattle.spec_derivations.specs.ExactChains.{IsExactResolvent, IsExactFrom}
 use Rattle.no_memory.specs.declared.NoMemory.{NoMemory}
 use Rattle.term_core.specs.declared.ids.TermId.{TermId}
 use Rattle.term_core.specs.declared.ids.Lit.{Lit}
@@ -76,6 +77,10 @@ module _ (t : TableView) (log : List Logged) (premises : List StepId) (there : A
   -- what is resolved from them follows
   pub step_follows : (clause : Clause) → IsResolvent (map (clause_at t) (clauses_in log premises)) clause → FollowsFrom (derivation_in t log) (by_rule Resolution (numbers_of premises) none clause)
   step_follows clause right = (numbers_there t log premises there, subst (λ (cs : List Clause). IsResolvent cs clause) (sym (premises_there t log premises there)) right)
+
+  -- and what a chain over them gives
+  pub step_exact : (clause : Clause) → IsExactResolvent complement (Contains stated_by) (literals_of clause) → IsExactFrom (derivation_in t log) (by_rule Resolution (numbers_of premises) none clause)
+  step_exact clause exact = subst (λ (cs : List Clause). IsExactResolvent complement (Contains (map literals_of cs)) (literals_of clause)) (sym (premises_there t log premises there)) exact
 
 -- a table that is cut back is as it was
 pub cut_back : (t u v : TableView) (n : ℕ) → n ≡ length t.terms → Extends t u → declared_in u ≡ declared_in t → v.terms ≡ take n u.terms → declared_in v ≡ declared_in u → v ≡ t

@@ -38,7 +38,8 @@ met_more c from less _ le (of_reason q r p le_q m e f) = of_reason q r p (omega 
 pub falsified : (c : Conflict) (s : StepId) (m : Lit) (p : ℕ) → HasLit c.table c.log s m → p < length c.trail.literals → held_at c p ≡ lit_complement m → Falsifies c p s
 falsified c s m p has lt e = (lt, subst (HasLit c.table c.log s) (sym (ap lit_complement e ∙ negation_twice m)) has)
 
-option_cases : (o : Option ℕ) → (o ≡ None) ⊎ ((r : ℕ) × (o ≡ Some r))
+-- there is a reason or none
+pub option_cases : (o : Option ℕ) → (o ≡ None) ⊎ ((r : ℕ) × (o ≡ Some r))
 option_cases None = inl refl
 option_cases (Some r) = inr (r, refl)
 

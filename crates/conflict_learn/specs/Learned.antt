@@ -1,13 +1,14 @@
 -- What is learned from a conflict.
 use Rattle.std.specs.Prelude.{◌≡◌, ◌≢◌, ◌⊎◌, ◌<◌, ◌≤◌, ℕ, List, ◌∷◌, [], ◌++◌, length, Contains, Result, Ok, Err}
 use Rattle.spec_proofs.specs.declared.Rule.TheVariants.{Resolution}
+use Rattle.spec_derivations.specs.ExactChains.{IsExactFrom}
 use Rattle.no_memory.specs.declared.NoMemory.{NoMemory}
 use Rattle.term_core.specs.declared.ids.TermId.{TermId}
 use Rattle.term_core.specs.declared.ids.Lit.{Lit}
 use Rattle.term_core.specs.Tables.{TableView, clause_at}
 use Rattle.clause_literals.specs.Literals.{LiteralsMean}
 use Rattle.proof_log.specs.declared.premises.StepId.{StepId}
-use Rattle.proof_log.specs.Logs.{Logged, stepped, IsLogOf}
+use Rattle.proof_log.specs.Logs.{Logged, stepped, inference_of, derivation_in, IsLogOf}
 use Rattle.sat_trail.specs.Trails.{TrailView}
 use Rattle.conflict_learn.specs.Conflicts.{Conflict, IsFalseAt, IsConflictLevel, IsPremise}
 use Rattle.conflict_learn.specs.Points.{IsUip}
@@ -58,6 +59,8 @@ pub record IsLearned (c : Conflict) (t : TableView) (new : List Logged) (d : Lea
   pub logged : IsLogged c t new d.clause d.step
   -- it is that of the first unique implication point, and the step's premises are those used on the way there
   pub uip : IsUip c level d.clause logged.premises
+  -- its clause is what a chain of resolutions over its premises gives, and no more
+  pub exact : IsExactFrom (derivation_in t c.log) (inference_of t (stepped Resolution logged.premises [] logged.terms))
 
 -- the clause without literals is derived, or nothing is changed
 abbrev pub Refutes : Conflict → Result StepId NoMemory → List Logged → Type 0

@@ -24,8 +24,8 @@ use term_core::TermTable;
 ///
 /// One begins with the false clause. While two or more of the literals are false only since the conflict's level, the one that became
 /// so last is replaced by the others of the reason for its complement. Those false since level 0 are dropped. The step's premises are
-/// exactly the false clause, the reasons that were used so, and those on which the dropped literals depend. The clause's literals are
-/// in no special order.
+/// exactly the false clause, the reasons that were used so, and those on which the dropped literals depend. The clause is what a chain
+/// of resolutions over these gives, and has no other literals. They are in no special order.
 ///
 /// It takes time in proportion to the trail from its end to the point, and to the clauses used; where literals are dropped, to the
 /// literals of level 0 too. Each call takes a mark for each variable.
@@ -83,6 +83,7 @@ fn learned(
     ensures log { OnErr result (log.new ≡ log.old) }
 {
     trail.is_sound();
+    table.ids_are_unique();
     table.terms_are_closed();
     logs_hold_in_grown_tables();
     let level = conflict_level(table, trail, log, clash);

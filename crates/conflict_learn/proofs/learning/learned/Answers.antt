@@ -9,7 +9,7 @@ use Rattle.conflict_learn.specs.Points.{IsUip}
 use Rattle.conflict_learn.specs.Learned.{HasOneAt}
 use Rattle.conflict_learn.specs.Analyses.{IsBare, StateAll}
 use Rattle.conflict_learn.proofs.Uip.{used_premise, one_at}
-use Rattle.conflict_learn.proofs.Concluding.{above_zero, uip_follows, uip_bare, means_kept}
+use Rattle.conflict_learn.proofs.Concluding.{above_zero, uip_follows, uip_exact, uip_bare, means_kept}
 use Rattle.conflict_learn.proofs.learning.learned.Goals as goal
 
 pub find-requires-clause-above : goal.find-requires-clause-above
@@ -72,4 +72,6 @@ returns-clause-learned c =
         no_others = λ s i. used_premise x once leveled c.requires.clash c.requires.reasons uip.from s ((uip.used s).0 i);
       };
       uip = subst (λ (ls : List Lit). IsUip x n ls f.premises.items) same uip;
+      exact = uip_exact x once leveled c.requires.clash c.requires.reasons c.ids_are_unique.ensures c.requires.log c.terms_are_closed.ensures n c.conflict_level-level.ensures f.clause.items f.premises.items uip u
+          c.in_ok-terms.terms.items states (c.logs_hold_in_grown_tables.ensures.same t u c.args.log.now c.requires.log c.terms_of.ensures.grown);
     }
