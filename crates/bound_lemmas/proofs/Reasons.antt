@@ -1,7 +1,11 @@
 -- Reasons of two literals, and a table and a log that stay as they are.
-use Rattle.std.proofs.Common.{◌≡◌, [], ◌∷◌, List, Contains, refl, sym, subst, arith}
+use Rattle.std.proofs.Common.{◌≡◌, ◌≢◌, pos, [], ◌∷◌, List, Contains, refl, sym, subst, arith}
 use Rattle.std.proofs.lemmas.List.{append-nil}
 use Rattle.std.proofs.lemmas.List.Elements.{All-nil, All-cons}
+use Rattle.ratio128.specs.declared.wide.Wide.{Wide}
+use Rattle.linear_form.specs.declared.arith_fault.ArithFault.{ArithFault}
+use Rattle.linear_form.specs.declared.arith_fault.ArithFault.TheVariants as faults
+use Rattle.spec_numbers.specs.Fractions.{gcd, one_fraction, whole, divide, times, inverse}
 use Rattle.spec_sorts.specs.Terms.{Term}
 use Rattle.spec_derivations.specs.Lemmas.{IsLemma}
 use Rattle.term_core.specs.Tables.{TableView}
@@ -36,3 +40,18 @@ nothing_came ts old new right e f =
       right = right;
       lemmas = All-nil (λ (l : Logged). IsLemma ts _ (inference_of old.table l));
     })
+
+-- a fault that is another one is no want of memory
+pub wide_is_no_memory : (f : ArithFault) (w : Wide) → f ≡ faults.Wide w → f ≢ faults.Memory
+wide_is_no_memory f w is e = cc
+
+pub shape_is_no_memory : (f : ArithFault) → f ≡ faults.Shape → f ≢ faults.Memory
+shape_is_no_memory f is e = cc
+
+pub no_contradiction_is_no_memory : (f : ArithFault) → f ≡ faults.NoContradiction → f ≢ faults.Memory
+no_contradiction_is_no_memory f is e = cc
+
+-- 1 over 1 is 1
+pub one_over_one : divide (whole (pos 1)) (whole (pos 1)) ≡ one_fraction
+unfolding times inverse gcd
+one_over_one = refl

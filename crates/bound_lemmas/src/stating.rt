@@ -1,11 +1,12 @@
 //! The step of the clause that two literals do not both hold, where the rule `la_generic` takes it.
 
-ghost use Rattle.std.specs.Prelude.{◌≡◌, [], ◌∷◌, List, IfOk, IfSome, MatchResult};
+ghost use Rattle.std.specs.Prelude.{◌≡◌, [], ◌∷◌, List, IfOk, IfSome, IfNone, MatchResult};
 ghost use Rattle.spec_sorts.specs.Terms.{Term};
 ghost use Rattle.proof_log.specs.Logs.{IsLogOf};
 ghost use Rattle.proof_log.specs.Theories.{DerivesLemmas};
 ghost use Rattle.proof_log.specs.Clashes.{IsClash};
 ghost use Rattle.bound_lemmas.specs.Literals.{IsAtomOf};
+ghost use Rattle.bound_lemmas.specs.Pairs.{IsNotTaken};
 
 use crate::pair::BoundPair;
 use no_memory::NoMemory;
@@ -36,6 +37,8 @@ pub fn excluding(
         (λ _. (table.new ≡ table.old) × (log.new ≡ log.old)) }
     ensures clash { IfOk result (λ found. IfSome found
         (IsClash table.new log.new (pair.first ∷ pair.second ∷ []))) }
+    ensures none { IfOk result (λ found. IfNone found
+        ((table.new ≡ table.old) × (log.new ≡ log.old) × IsNotTaken table.old pair)) }
 {
     let reasons = [
         Weighted {
