@@ -45,8 +45,8 @@ def many_assertions(size):
 def many_pairs(count):
     """A script with an assertion of so many constants that are to be distinct, beside two that can be refuted.
 
-    There is room for the terms of the pairs of 4,000. Of 4,200 there is none, and the assertion is refused. With more
-    than 2^26 pairs the run ends out of memory at once.
+    There is room for the terms of the pairs of 4,000. Of 4,200 and of 20,000 there is none, and the assertion is refused
+    before any pair is made.
     """
     names = [f"c{i}" for i in range(count)]
     declared = "".join(f"(declare-const {name} Bool)" for name in names)
@@ -70,7 +70,7 @@ ROWS = [
     ("proof of zero bytes", lambda: SCRIPT, lambda: "\0" * LIMIT, refused(1, "BadChar")),
     ("script of 4,000 constants that are distinct", lambda: many_pairs(4_000), lambda: PROOF, "valid"),
     ("script of 4,200 constants that are distinct, refused", lambda: many_pairs(4_200), lambda: PROOF, "valid"),
-    ("script of 20,000, for whose pairs there is no memory", lambda: many_pairs(20_000), lambda: PROOF, ""),
+    ("script of 20,000, refused", lambda: many_pairs(20_000), lambda: PROOF, "valid"),
 ]
 
 
