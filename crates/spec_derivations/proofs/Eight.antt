@@ -1,14 +1,15 @@
 -- Tests that compute whether propagation is quiet, and the first clause that is learned of the eight.
-use Rattle.std.proofs.Common.{◌≡◌, ◌≢◌, ℕ, ◌<◌, ◌&&◌, ◌||◌, ◌⊎◌, Bool, true, false, not, List, [], ◌∷◌, map, get_or, Contains, inl, inr, refl, sym, ◌∙◌, subst, zero, suc, arith}
+use Rattle.std.proofs.Common.{◌≡◌, ◌≢◌, ℕ, ◌<◌, ◌&&◌, ◌||◌, ◌⊎◌, Bool, true, false, not, List, [], ◌∷◌, ◌++◌, map, get_or, Contains, inl, inr, refl, sym, ◌∙◌, subst, zero, suc, arith}
 use Rattle.std.specs.List.{list_any, AllByRecursion}
 use Rattle.std.proofs.lemmas.Bool.{false≢true, and_parts, not-true}
 use Rattle.std.proofs.lemmas.List.Folds.{Any-from_list_any, list_any_at}
 use Rattle.std.proofs.lemmas.List.Elements.{All-contains, All-from_recursion}
 use Rattle.spec_text.proofs.Members.{first, later}
-use Rattle.spec_sorts.specs.Terms.{same_term, sort_of, second_sort}
+use Rattle.spec_sorts.specs.Terms.{True, False, Term, of, negated, same_term, sort_of, second_sort}
 use Rattle.spec_sorts.specs.Literals.{Literal, complement, literals_of, literal_of}
 use Rattle.spec_sorts.specs.Subterms.{with_subterms, with_all_subterms}
-use Rattle.spec_derivations.specs.Base.{base_clauses}
+use Rattle.spec_derivations.specs.Base.{truth_facts}
+use Rattle.spec_derivations.specs.Orders.{first_clauses}
 use Rattle.spec_derivations.specs.Quiet.{ImpliesNothing, IsQuiet, IsConsistent}
 use Rattle.spec_derivations.specs.Learned.{same_literal, IsNew}
 use Rattle.spec_rules.specs.Examples.{p, q}
@@ -86,14 +87,18 @@ consistent_all held (m ∷ ms) e = let p = and_parts (open_at held m) (consisten
 pub consistent_is : (held : List Literal) → consistent held held ≡ true → IsConsistent complement held
 consistent_is held e m m_in = All-contains (λ m. Contains held (complement m) → ⊥) held m (All-from_recursion (λ m. Contains held (complement m) → ⊥) held (consistent_all held held e)) m_in
 
+-- what holds of the truth values
+abbrev pub truths_held : List Term
+truths_held = of True [] ∷ negated (of False []) ∷ truth_facts
+
 -- what holds once p is decided
 abbrev held : List Literal
-held = map literal_of (p ∷ eight)
+held = map literal_of (p ∷ truths_held ++ eight)
 
 abbrev learned : List Literal
 learned = literals_of not_both
 
-is_quiet : quiet held (map literals_of (base_clauses (asserting eight))) ≡ true
+is_quiet : quiet held (map literals_of (first_clauses (asserting eight))) ≡ true
 unfolding same_term sort_of second_sort with_subterms with_all_subterms literal_of
 is_quiet = refl
 
@@ -108,6 +113,6 @@ others_fail m zero lt e d = subst (λ (x : Literal). Contains held (complement x
 others_fail m (suc zero) lt e d = absurd (d (sym e))
 others_fail m (suc (suc k)) lt e d = absurd (omega arith)
 
-pub not_both_is_new : IsNew (map literals_of (base_clauses (asserting eight))) learned
+pub not_both_is_new : IsNew (map literals_of (first_clauses (asserting eight))) learned
 unfolding same_term literal_of
-not_both_is_new = (complement (literal_of q), quiet_is_new (map literals_of (base_clauses (asserting eight))) held learned (complement (literal_of q)) (quiet_is held (map literals_of (base_clauses (asserting eight))) is_quiet) (consistent_is held is_consistent) (has_there learned (complement (literal_of q)) refl) (λ h. false≢true (there_has held (complement (literal_of q)) h)) (λ m h d. others_fail m h.0 h.1 h.2 d))
+not_both_is_new = (complement (literal_of q), quiet_is_new (map literals_of (first_clauses (asserting eight))) held learned (complement (literal_of q)) (quiet_is held (map literals_of (first_clauses (asserting eight))) is_quiet) (consistent_is held is_consistent) (has_there learned (complement (literal_of q)) refl) (λ h. false≢true (there_has held (complement (literal_of q)) h)) (λ m h d. others_fail m h.0 h.1 h.2 d))

@@ -23,3 +23,7 @@ pub mod Propagated
 pub mod Defining
 pub mod SearchTerms
 pub mod OrderedTerms
+pub mod Grown
+pub mod Fewer
+pub mod Deriving
+pub mod Asserting

@@ -1,15 +1,18 @@
 -- What is derived stays derived with further steps, and a clause may be learned after others.
-use Rattle.std.proofs.Common.{◌≡◌, ℕ, ◌<◌, List, [], ◌∷◌, ◌++◌, length, take, map, Contains, sym, ap, ◌∙◌, subst, arith}
+use Rattle.std.proofs.Common.{◌≡◌, ℕ, ◌<◌, List, [], ◌∷◌, ◌++◌, length, take, map, Contains, ◌⊎◌, inl, inr, sym, ap, ◌∙◌, subst, arith}
 use Rattle.std.proofs.lemmas.List.{append_assoc, append-nil, length-append, length-take-le, get_or_append_left}
 use Rattle.std.proofs.lemmas.List.Elements.{All-append, All-cons, All-nil}
 use Rattle.spec_sorts.specs.Terms.{Term}
-use Rattle.spec_sorts.specs.Literals.{Literal, literals_of}
+use Rattle.spec_sorts.specs.Literals.{Literal, complement, literals_of}
 use Rattle.spec_derivations.specs.Problems.{Problem, terms_of_problem}
-use Rattle.spec_derivations.specs.Base.{base_clauses}
+use Rattle.spec_derivations.specs.Orders.{first_clauses}
+use Rattle.spec_derivations.specs.Lemmas.{IsLemma, HasLemma}
+use Rattle.spec_derivations.specs.Inputs.{IsInput}
 use Rattle.spec_derivations.specs.Derivations.{Inference, Derivation, conclusion, premises_of, no_inference, inference_at, IsDerivation, DependsOn, itself, by_premise, AssumesAmong, IsDerivedFrom}
 use Rattle.spec_derivations.specs.Learned.{IsNew, AreNew}
 use Rattle.spec_derivations.specs.Spent.{IsLearnedFrom, IsOverAtoms, AreLearned, IsConflict}
 use Rattle.spec_derivations.proofs.Derivations.{follows_at}
+use Rattle.spec_derivations.proofs.Exact.{chain_more, resolvents_more, resolvents_pushed}
 use Rattle.spec_derivations.proofs.Spending.{premises_before, depends_there}
 
 module _ (d more : Derivation) where
@@ -41,6 +44,22 @@ module _ (d more : Derivation) where
     same = ap (λ x. literals_of (conclusion x)) (kept_at h.number h.derived.there) ∙ h.same;
   }
 
+  -- lemmas stay such
+  pub has_lemma_onward : (ts : List Term) (c : List Literal) → HasLemma ts d c → HasLemma ts (d ++ more) c
+  has_lemma_onward ts c h = record {
+    number = h.number;
+    there = omega (arith, h.there, length-append d more);
+    since = h.since;
+    begun = h.begun;
+    batch = λ n from to. subst (IsLemma ts h.since) (sym (kept_at n (omega (arith, to, h.there)))) (h.batch n from to);
+    same = ap (λ x. literals_of (conclusion x)) (kept_at h.number h.there) ∙ h.same;
+  }
+
+  -- and clauses from which a search may learn
+  pub input_onward : (p : Problem) (c : List Literal) → IsInput p d c → IsInput p (d ++ more) c
+  input_onward p c (inl i) = inl i
+  input_onward p c (inr l) = inr (has_lemma_onward _ c l)
+
 -- a clause that is new after others
 pub new_pushed : (premises learned : List (List Literal)) (c : List Literal) → AreNew premises learned → IsNew (premises ++ learned) c → AreNew premises (learned ++ c ∷ [])
 new_pushed premises [] c news new = (subst (λ ps. IsNew ps c) (append-nil premises) new, tt)
@@ -52,5 +71,13 @@ one_more p d learned h x = record {
   right = x.right;
   derived = All-append (IsLearnedFrom p (d ++ x.more)) learned (x.clause ∷ []) (λ k e lt. learned_onward d x.more h.right p _ (h.derived k e lt)) (All-cons (IsLearnedFrom p (d ++ x.more)) x.clause [] x.derived (All-nil (IsLearnedFrom p (d ++ x.more))));
   atoms = All-append (IsOverAtoms p) learned (x.clause ∷ []) h.atoms (All-cons (IsOverAtoms p) x.clause [] x.atoms (All-nil (IsOverAtoms p)));
-  new = new_pushed (map literals_of (base_clauses p)) learned x.clause h.new x.new;
+  new = new_pushed (map literals_of (first_clauses p)) learned x.clause h.new x.new;
+  exact = resolvents_pushed complement (IsInput p (d ++ x.more)) learned x.clause
+      (resolvents_more complement (IsInput p d) (IsInput p (d ++ x.more)) (input_onward d x.more p) learned h.exact) (
+        x.exact.0,
+        chain_more complement (λ c. IsInput p d c ⊎ Contains learned c) (λ c. IsInput p (d ++ x.more) c ⊎ Contains learned c) (λ c g. elim g [
+          | inl i ↦ inl (input_onward d x.more p c i)
+          | inr i ↦ inr i
+        ]) x.exact.0 x.clause x.exact.1,
+      );
 }

@@ -1,5 +1,5 @@
 -- What unit propagation over base and learned clauses meets is derived by further steps.
-use Rattle.std.proofs.Common.{◌≡◌, ℕ, ◌<◌, List, [], ◌∷◌, ◌++◌, length, map, All, Contains, inl, inr, refl, sym, ap, ap₂, ◌∙◌, subst, arith}
+use Rattle.std.proofs.Common.{◌≡◌, ℕ, ◌<◌, List, [], ◌∷◌, ◌++◌, length, map, All, Contains, ◌⊎◌, inl, inr, refl, sym, ap, ap₂, ◌∙◌, subst, arith}
 use Rattle.std.specs.Prelude.{flat_map}
 use Rattle.std.proofs.Math.Seq.{get_or-append_seam}
 use Rattle.std.proofs.lemmas.List.{append_assoc, append-nil, length-append, map-append}
@@ -15,6 +15,9 @@ use Rattle.spec_rules.specs.Schemes.{schemes, clauses_by}
 use Rattle.spec_derivations.specs.Problems.{Problem, terms_of_problem, subterms_in}
 use Rattle.spec_derivations.specs.Derivations.{Inference, assumption, by_rule, Derivation, conclusion, premises_of, no_inference, inference_at, conclusion_at, FollowsFrom, IsDerivation, DependsOn, itself, by_premise, AssumesAmong, IsDerivedFrom}
 use Rattle.spec_derivations.specs.Base.{clauses_of, base_clauses}
+use Rattle.spec_derivations.specs.Orders.{first_clauses}
+use Rattle.spec_derivations.specs.Inputs.{IsInput}
+use Rattle.spec_derivations.specs.ExactChains.{IsExactResolvent}
 use Rattle.spec_derivations.specs.Learned.{IsNew}
 use Rattle.spec_derivations.specs.Spent.{IsLearnedFrom, IsOverAtoms, AreLearned, IsConflict}
 use Rattle.spec_derivations.proofs.Derivations.{right_push}
@@ -135,8 +138,9 @@ module _ (p : Problem) where
       }
 
   -- a clause that follows from both by propagation is that of a conflict
-  pub propagated : (d : Derivation) (learned : List (List Literal)) (clause : Clause) → AreLearned p d learned → IsOverAtoms p (literals_of clause) → Resolves complement (map literals_of (base_clauses p) ++ learned) (literals_of clause) → IsNew (map literals_of (base_clauses p) ++ learned) (literals_of clause) → IsConflict p d learned
-  propagated d learned clause h atoms follows new =
+  pub propagated : (d : Derivation) (learned : List (List Literal)) (clause : Clause) → AreLearned p d learned → IsOverAtoms p (literals_of clause) → Resolves complement (map literals_of (base_clauses p) ++ learned) (literals_of clause) → IsNew (map literals_of (first_clauses p) ++ learned) (literals_of clause)
+      → IsExactResolvent complement (λ c. IsInput p d c ⊎ Contains learned c) (literals_of clause) → IsConflict p d learned
+  propagated d learned clause h atoms follows new exact =
       let base = extended d h.right (base_clauses p) (λ c c_in. c_in) in
       let e = d ++ base.more in
       let old = numbers_onward terms d base.more learned h.right (learned_numbers d learned h.derived) in
@@ -156,4 +160,5 @@ module _ (p : Problem) where
         derived = subst (λ y. IsLearnedFrom p y (literals_of clause)) (sym whole) last;
         atoms = atoms;
         new = new;
+        exact = exact;
       }

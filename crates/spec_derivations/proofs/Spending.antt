@@ -16,6 +16,7 @@ use Rattle.spec_derivations.specs.Problems.{known_subterms}
 use Rattle.spec_derivations.specs.Examples.{asserting, eight, not_both, not_both_derived}
 use Rattle.spec_derivations.proofs.Derivations.{follows_at}
 use Rattle.spec_derivations.proofs.Eight.{not_both_is_new}
+use Rattle.spec_derivations.proofs.FirstChain.{not_both_learned}
 
 -- each follows from those before it, by recursion
 abbrev Follow : Derivation → Derivation → Type 0
@@ -146,5 +147,6 @@ spent = record {
     derived = All-from_recursion (IsLearnedFrom (asserting eight) not_both_derived) (literals_of not_both ∷ []) (learned_from, tt);
     atoms = All-from_recursion (IsOverAtoms (asserting eight)) (literals_of not_both ∷ []) (are_atoms, tt);
     new = (not_both_is_new, tt);
+    exact = (not_both_learned not_both_derived, tt);
   };
 }

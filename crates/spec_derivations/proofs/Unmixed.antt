@@ -1,15 +1,21 @@
--- That the base clauses of the eight and those of the idle constant have no atom in common.
-use Rattle.std.proofs.Common.{◌≡◌, ◌&&◌, ◌||◌, Bool, true, false, List, [], ◌∷◌, All, Contains, inl, inr, refl, sym, ap, ◌∙◌}
+-- That the clauses of the eight and those of the idle constant have no atom in common, nor have those from which a search
+-- may learn.
+use Rattle.std.proofs.Common.{◌≡◌, ◌&&◌, ◌||◌, Bool, true, false, List, [], ◌∷◌, ◌++◌, map, All, Contains, inl, inr, refl, sym, ap, ◌∙◌}
 use Rattle.std.specs.Bool.{beq}
 use Rattle.std.specs.Cmp.{booleans_Decides}
 use Rattle.std.specs.List.{AllByRecursion}
 use Rattle.std.proofs.lemmas.Bool.{false≢true, and_parts}
-use Rattle.std.proofs.lemmas.List.Elements.{All-from_recursion}
+use Rattle.std.proofs.lemmas.List.Elements.{All-contains, All-from_recursion}
 use Rattle.spec_text.proofs.Members.{cases, none}
 use Rattle.spec_sorts.specs.Terms.{Term, same_term, sort_of, second_sort}
-use Rattle.spec_sorts.specs.Literals.{Literal, literal_of}
+use Rattle.spec_sorts.specs.Literals.{Literal, literal_of, literals_of}
 use Rattle.spec_sorts.specs.Subterms.{with_subterms, with_all_subterms}
 use Rattle.spec_sorts.proofs.SameTerms.{terms_decide}
+use Rattle.spec_derivations.specs.Derivations.{Derivation}
+use Rattle.spec_derivations.specs.Orders.{whole_terms}
+use Rattle.spec_derivations.specs.Lemmas.{HasLemma}
+use Rattle.spec_derivations.specs.Inputs.{input_clauses, IsInput}
+use Rattle.spec_derivations.specs.Examples.{asserting, eight}
 use Rattle.spec_derivations.specs.ExactChains.{AreAlike}
 use Rattle.spec_derivations.specs.Copies.{idle, idle_or_not, given, IsIdle}
 use Rattle.spec_derivations.proofs.Eight.{either}
@@ -73,3 +79,15 @@ given_are = refl
 -- so they are
 pub given_alike : All (AreAlike is_idle) given
 given_alike = All-from_recursion (AreAlike is_idle) given (each_alike given given_are)
+
+abbrev inputs : List (List Literal)
+inputs = map literals_of (input_clauses (asserting (eight ++ idle_or_not ∷ [])))
+
+inputs_are : all_alike inputs ≡ true
+unfolding same_term sort_of second_sort with_subterms with_all_subterms literal_of
+inputs_are = refl
+
+-- where there are no lemmas, so is each clause from which a search may learn
+pub input_alike : (d : Derivation) → ((c : List Literal) → HasLemma (whole_terms (asserting (eight ++ idle_or_not ∷ []))) d c → ⊥) → (c : List Literal) → IsInput (asserting (eight ++ idle_or_not ∷ [])) d c → AreAlike is_idle c
+input_alike d none_there c (inl i) = All-contains (AreAlike is_idle) inputs c (All-from_recursion (AreAlike is_idle) inputs (each_alike inputs inputs_are)) i
+input_alike d none_there c (inr l) = absurd (none_there c l)

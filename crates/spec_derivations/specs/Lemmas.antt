@@ -1,9 +1,10 @@
 -- Lemmas of a theory: inferences that depend on each other alone, over terms that a search speaks of. Source:
 -- Nieuwenhuis, Oliveras and Tinelli, Solving SAT and SAT modulo theories, JACM 2006; which terms they may be over is
 -- own.
-use Rattle.std.specs.Prelude.{ℕ, ◌≤◌, List, [], All, Contains}
+use Rattle.std.specs.Prelude.{◌≡◌, ℕ, ◌≤◌, ◌<◌, List, [], length, All, Contains}
 use Rattle.spec_sorts.specs.Terms.{True, False, Equal, Term, of, pair, negated}
-use Rattle.spec_derivations.specs.Derivations.{Inference, «assumption», by_rule}
+use Rattle.spec_sorts.specs.Literals.{Literal, literals_of}
+use Rattle.spec_derivations.specs.Derivations.{Inference, «assumption», by_rule, Derivation, inference_at, conclusion_at}
 
 -- Terms that are made of some, by the truth values, equalities and negations.
 pub data IsMadeOf (ts : List Term) : Term → Type 0 where
@@ -21,3 +22,17 @@ pub data IsMadeOf (ts : List Term) : Term → Type 0 where
 abbrev pub IsLemma : List Term → ℕ → Inference → Type 0
 IsLemma ts n («assumption» t) = ⊥
 IsLemma ts n (by_rule r ps arguments c) = All (λ m. n ≤ m) ps × All (IsMadeOf ts) c
+
+-- A derivation has a lemma of this clause over some terms. It is one of a batch of inferences that depend on each other
+-- alone, each of them a lemma.
+pub record HasLemma (ts : List Term) (d : Derivation) (c : List Literal) : Type 0 where
+  -- the number of its inference
+  pub number : ℕ
+  pub there : number < length d
+  -- the batch begins at this one
+  pub since : ℕ
+  pub begun : since ≤ number
+  -- each up to it is a lemma, whose premises are of the batch
+  pub batch : (n : ℕ) → since ≤ n → n ≤ number → IsLemma ts since (inference_at d n)
+  -- its clause has these literals
+  pub same : literals_of (conclusion_at d number) ≡ c

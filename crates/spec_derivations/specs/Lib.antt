@@ -6,6 +6,7 @@ pub mod Derivations
 pub mod Base
 pub mod Orders
 pub mod Lemmas
+pub mod Inputs
 pub mod Learned
 pub mod ExactChains
 pub mod Spent

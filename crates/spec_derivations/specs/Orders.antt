@@ -42,3 +42,11 @@ whole_clauses_of t = defining_clauses t ++ order_clauses t
 -- of
 abbrev pub whole_clauses : Problem → List Clause
 whole_clauses p = map (λ t. t ∷ []) p.asserted ++ flat_map whole_clauses_of (whole_terms p)
+
+-- the problem without interface equalities, with which a search of a check begins
+abbrev pub at_first : Problem → Problem
+at_first p = record { asserted = p.asserted; assumed = p.assumed; interface = [] }
+
+-- the clauses with which it begins
+abbrev pub first_clauses : Problem → List Clause
+first_clauses p = whole_clauses (at_first p)

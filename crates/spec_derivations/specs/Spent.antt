@@ -1,10 +1,12 @@
 -- When a budget of conflicts is spent: as many clauses were learned as it allows, and each of them was worth it.
-use Rattle.std.specs.Prelude.{◌≡◌, ◌≢◌, ◌++◌, ℕ, List, [], ◌∷◌, length, map, All, Contains}
+use Rattle.std.specs.Prelude.{◌≡◌, ◌≢◌, ◌⊎◌, ◌++◌, ℕ, List, [], ◌∷◌, length, map, All, Contains}
 use Rattle.spec_sorts.specs.Terms.{True, False, Ite, Equal, AtMost, Truth, Number, Term, of, pair, sort_of}
-use Rattle.spec_sorts.specs.Literals.{Literal, literals_of}
+use Rattle.spec_sorts.specs.Literals.{Literal, complement, literals_of}
 use Rattle.spec_derivations.specs.Problems.{Problem, terms_of_problem, known_subterms}
 use Rattle.spec_derivations.specs.Derivations.{Derivation, conclusion_at, IsDerivation, IsDerivedFrom}
-use Rattle.spec_derivations.specs.Base.{base_clauses}
+use Rattle.spec_derivations.specs.Orders.{first_clauses}
+use Rattle.spec_derivations.specs.Inputs.{IsInput}
+use Rattle.spec_derivations.specs.ExactChains.{IsExactResolvent, AreExactResolvents}
 use Rattle.spec_derivations.specs.Learned.{IsNew, AreNew}
 
 -- The literals are those of a clause that is derived from the check's terms.
@@ -44,8 +46,10 @@ pub record AreLearned (p : Problem) (d : Derivation) (learned : List (List Liter
   pub derived : All (IsLearnedFrom p d) learned
   -- its literals are over the check's atoms
   pub atoms : All (IsOverAtoms p) learned
-  -- it has a literal that was not given by the base clauses and the clauses learned before it
-  pub new : AreNew (map literals_of (base_clauses p)) learned
+  -- it has a literal that was not given by the clauses with which a search begins and those learned before it
+  pub new : AreNew (map literals_of (first_clauses p)) learned
+  -- it is what a chain of resolutions gives, and no more, over clauses of the terms, lemmas, and those learned before it
+  pub exact : AreExactResolvents complement (IsInput p d) learned
 
 -- The budget is spent on a check of these terms: the list of learned clauses has its length, which the reason carries.
 pub record IsConflictBudgetSpent (p : Problem) (d : Derivation) (limit carried : ℕ)
@@ -69,5 +73,7 @@ pub record IsConflict (p : Problem) (d : Derivation) (learned : List (List Liter
   pub derived : IsLearnedFrom p (d ++ more) clause
   -- its literals are over the check's atoms
   pub atoms : IsOverAtoms p clause
-  -- it has a literal that was not given by the base clauses and those that were learned
-  pub new : IsNew (map literals_of (base_clauses p) ++ learned) clause
+  -- it has a literal that was not given by the clauses with which a search begins and those that were learned
+  pub new : IsNew (map literals_of (first_clauses p) ++ learned) clause
+  -- it is what a chain of resolutions gives, and no more, over clauses of the terms, lemmas, and those that were learned
+  pub exact : IsExactResolvent complement (λ c. IsInput p d c ⊎ Contains learned c) clause

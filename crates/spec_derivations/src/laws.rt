@@ -1,6 +1,6 @@
 //! What the definitions imply. Each law is a function whose contract is the law; it computes nothing.
 
-ghost use Rattle.std.specs.Prelude.{◌≡◌, ◌≢◌, ◌<◌, ℕ, true, List, [], ◌∷◌, ◌++◌, length, map, All, Contains};
+ghost use Rattle.std.specs.Prelude.{◌≡◌, ◌≢◌, ◌⊎◌, ◌<◌, ℕ, true, List, [], ◌∷◌, ◌++◌, length, map, All, Contains};
 ghost use Rattle.spec_sorts.specs.Terms.{True, False, Symbol, Term, of};
 ghost use Rattle.spec_sorts.specs.Values.{Interpretation, Interprets, truth};
 ghost use Rattle.spec_sorts.specs.TermValues.{value_at};
@@ -15,6 +15,9 @@ ghost use Rattle.spec_derivations.specs.Derivations.{Derivation, «assumption»,
 ghost use Rattle.spec_derivations.specs.Derivations.{inference_at, conclusion_at, IsDerivation, DependsOn};
 ghost use Rattle.spec_derivations.specs.Base.{base_clauses};
 ghost use Rattle.spec_derivations.specs.Models.{SatisfiesClauses, joins_formulas, Obeys};
+ghost use Rattle.spec_derivations.specs.Orders.{first_clauses};
+ghost use Rattle.spec_derivations.specs.Inputs.{IsInput};
+ghost use Rattle.spec_derivations.specs.ExactChains.{IsExactResolvent};
 ghost use Rattle.spec_derivations.specs.Learned.{IsOpenIn, IsNew};
 ghost use Rattle.spec_derivations.specs.Spent.{IsOverAtoms, AreLearned, IsConflictBudgetSpent, IsConflict};
 ghost use Rattle.spec_derivations.specs.Examples.{asserting, eight, not_both, not_both_derived};
@@ -35,9 +38,9 @@ pub fn new_clauses_contain_none()
 {}
 
 /// States that of the eight disjunctions of three constants or their negations a search may learn `(cl (not p) (not
-/// q))`: it is new over all their base clauses.
+/// q))`: it is new over all clauses with which that search begins.
 pub fn first_of_eight_is_new()
-    ensures { IsNew (map literals_of (base_clauses (asserting eight))) (literals_of not_both) }
+    ensures { IsNew (map literals_of (first_clauses (asserting eight))) (literals_of not_both) }
 {}
 
 /// States that a spent budget is no empty word, and not every claim of one. Of the eight disjunctions of three
@@ -59,8 +62,8 @@ pub fn eight_clauses_spend_a_budget_of_one()
 }
 
 /// States that learned clauses say something. None has a literal with its complement, none has a literal of `true`
-/// or `false`, and none is empty. None has all literals of a base clause, or of a clause that was learned before
-/// it.
+/// or `false`, and none is empty. None has all literals of a clause with which a search of the problem begins, or of a
+/// clause that was learned before it. So a copy of such a clause is not learned.
 pub fn learned_clauses_say_something()
     ensures no_tautology { (p : Problem) (d : Derivation) (learned : List (List Literal)) → AreLearned p d learned
         → (c : List Literal) (l : Literal) → Contains learned c → Contains c l → Contains c (complement l) → ⊥ }
@@ -69,8 +72,8 @@ pub fn learned_clauses_say_something()
         → (l.atom ≢ of True []) × (l.atom ≢ of False []) }
     ensures not_empty { (p : Problem) (d : Derivation) (learned : List (List Literal)) → AreLearned p d learned
         → (c : List Literal) → Contains learned c → c ≢ [] }
-    ensures no_base_clause { (p : Problem) (d : Derivation) (learned : List (List Literal)) → AreLearned p d learned
-        → (c : List Literal) (b : Clause) → Contains learned c → Contains (base_clauses p) b
+    ensures no_first_clause { (p : Problem) (d : Derivation) (learned : List (List Literal)) → AreLearned p d learned
+        → (c : List Literal) (b : Clause) → Contains learned c → Contains (first_clauses p) b
         → IsWithin (literals_of b) c → ⊥ }
     ensures no_earlier_clause { (p : Problem) (d : Derivation) (learned : List (List Literal)) → AreLearned p d learned
         → (before after : List (List Literal)) (c e : List Literal) → learned ≡ before ++ c ∷ after → Contains before e
@@ -85,12 +88,15 @@ pub fn conflicts_are_one_clause_more()
 {}
 
 /// States where a conflict is met: a clause follows by unit propagation from the base clauses and the learned ones.
-/// If it is over the check's atoms and new, it is the clause of a conflict: further steps derive it.
+/// If it is over the check's atoms, new, and what a chain of resolutions gives, it is the clause of a conflict: further
+/// steps derive it.
 pub fn propagated_clauses_are_conflicts()
     ensures { (p : Problem) (d : Derivation) (learned : List (List Literal)) (clause : Clause) → AreLearned p d learned
         → IsOverAtoms p (literals_of clause)
         → Resolves complement (map literals_of (base_clauses p) ++ learned) (literals_of clause)
-        → IsNew (map literals_of (base_clauses p) ++ learned) (literals_of clause) → IsConflict p d learned }
+        → IsNew (map literals_of (first_clauses p) ++ learned) (literals_of clause)
+        → IsExactResolvent complement (λ c. IsInput p d c ⊎ Contains learned c) (literals_of clause)
+        → IsConflict p d learned }
 {}
 
 /// States that in a derivation a clause is true under an interpretation of the symbols where the assumptions are

@@ -8,5 +8,6 @@
 pub mod chains;
 pub mod checks;
 pub mod examples;
+pub mod growing;
 pub mod laws;
 pub mod search_laws;

@@ -5,7 +5,7 @@ use Rattle.spec_text.proofs.Members.{to_image}
 use Rattle.spec_sorts.specs.Terms.{Term, True, False, of}
 use Rattle.spec_sorts.specs.Literals.{Literal, literals_of}
 use Rattle.spec_derivations.specs.Problems.{Problem}
-use Rattle.spec_derivations.specs.Base.{base_clauses}
+use Rattle.spec_derivations.specs.Orders.{first_clauses}
 use Rattle.spec_derivations.specs.Derivations.{Derivation}
 use Rattle.spec_derivations.specs.Learned.{IsNew, AreNew}
 use Rattle.spec_derivations.specs.Spent.{IsAtomOf, subterm, with_first, with_second, forth, back, IsOverAtoms, AreLearned}
@@ -13,16 +13,16 @@ use Rattle.spec_derivations.proofs.Saying.{no_tautology, not_empty, new_over, ne
 use Rattle.spec_derivations.proofs.Learned.{contains_none}
 use Rattle.spec_derivations.proofs.laws.learned_clauses_say_something.Goals as goal
 
-abbrev base : Problem → List (List Literal)
-base p = map literals_of (base_clauses p)
+abbrev firsts : Problem → List (List Literal)
+firsts p = map literals_of (first_clauses p)
 
-is_new : (p : Problem) (d : Derivation) (learned : List (List Literal)) → AreLearned p d learned → (clause : List Literal) → Contains learned clause → (before : List (List Literal)) × IsNew (base p ++ before) clause
-is_new p d learned h clause there = new_over (base p) learned clause h.new there
+is_new : (p : Problem) (d : Derivation) (learned : List (List Literal)) → AreLearned p d learned → (clause : List Literal) → Contains learned clause → (before : List (List Literal)) × IsNew (firsts p ++ before) clause
+is_new p d learned h clause there = new_over (firsts p) learned clause h.new there
 
 pub returns-clause-no_tautology : goal.returns-clause-no_tautology
 returns-clause-no_tautology c p d learned h clause l there l_in other_in =
     let n = is_new p d learned h clause there in
-    no_tautology (base p ++ n.0) clause l n.1 l_in other_in
+    no_tautology (firsts p ++ n.0) clause l n.1 l_in other_in
 
 -- an atom is no truth value
 no_truth : (p : Problem) (t : Term) → IsAtomOf p t → (t ≢ of True []) × (t ≢ of False [])
@@ -40,15 +40,15 @@ returns-clause-no_truth_value c p d learned h clause l there l_in =
 pub returns-clause-not_empty : goal.returns-clause-not_empty
 returns-clause-not_empty c p d learned h clause there =
     let n = is_new p d learned h clause there in
-    not_empty (base p ++ n.0) clause n.1
+    not_empty (firsts p ++ n.0) clause n.1
 
-pub returns-clause-no_base_clause : goal.returns-clause-no_base_clause
-returns-clause-no_base_clause c p d learned h clause b there b_in within =
+pub returns-clause-no_first_clause : goal.returns-clause-no_first_clause
+returns-clause-no_first_clause c p d learned h clause b there b_in within =
     let n = is_new p d learned h clause there in
-    let b_there = Contains-append_left (base p) n.0 (literals_of b) (to_image literals_of (base_clauses p) b b_in) in
-    contains_none (base p ++ n.0) clause (literals_of b) b_there within n.1
+    let b_there = Contains-append_left (firsts p) n.0 (literals_of b) (to_image literals_of (first_clauses p) b b_in) in
+    contains_none (firsts p ++ n.0) clause (literals_of b) b_there within n.1
 
 pub returns-clause-no_earlier_clause : goal.returns-clause-no_earlier_clause
 returns-clause-no_earlier_clause c p d learned h before after clause e split e_in within =
-    let n = new_after (base p) before after clause (subst (AreNew (base p)) split h.new) in
-    contains_none (base p ++ before) clause e (Contains-append_right (base p) before e e_in) within n
+    let n = new_after (firsts p) before after clause (subst (AreNew (firsts p)) split h.new) in
+    contains_none (firsts p ++ before) clause e (Contains-append_right (firsts p) before e e_in) within n
