@@ -89,19 +89,19 @@ pub overflows_difference : (ranges : Ranges) (t : State Number (Pair Number)) (y
     → delta_subtracted (delta_in g) (delta_in v) ≡ Err o → CheckOverflows ranges t o
 overflows_difference ranges t y g v o w a b e = difference y w ((λ i. delta_subtracted (delta_in (sym a i)) (delta_in (sym b i))) ∙ e)
 
-pub overflows_quotient : (ranges : Ranges) (t : State Number (Pair Number)) (b x : ℕ) (d : Pair Number) (c : Number) (o : Overflow) → IsPivot numbers t.rows b x → Violates ranges t b → d ≡ gap ranges t b
+pub overflows_quotient : (ranges : Ranges) (t : State Number (Pair Number)) (b x : ℕ) (d : Pair Number) (c : Number) (o : Overflow) → RuleSays deltas ranges t (exchange b x) → d ≡ gap ranges t b
     → c ≡ coefficient_in t.rows b x → delta_divided (delta_in d) c.fraction ≡ Err o → CheckOverflows ranges t o
-overflows_quotient ranges t b x d c o p w a e h = quotient b x p w ((λ i. delta_divided (delta_in (sym a i)) (sym e i).fraction) ∙ h)
+overflows_quotient ranges t b x d c o s a e h = quotient b x s ((λ i. delta_divided (delta_in (sym a i)) (sym e i).fraction) ∙ h)
 
 -- overflows of a move
 pub overflows_updating : (ranges : Ranges) (t : State Number (Pair Number)) (y : ℕ) (d : Pair Number) → IsNonbasic t.rows y → Violates ranges t y → d ≡ gap ranges t y → (o : Overflow) → OverflowsMove t y d o → CheckOverflows ranges t o
 overflows_updating ranges t y d n w e o h = move y d (updates_nonbasic n w e) h
 
-pub overflows_entering : (ranges : Ranges) (t : State Number (Pair Number)) (b x : ℕ) (d : Pair Number) → IsPivot numbers t.rows b x → Violates ranges t b → d ≡ distance deltas ranges t b x → (o : Overflow) → OverflowsMove t x d o → CheckOverflows ranges t o
-overflows_entering ranges t b x d p w e o h = move x d (enters b p w e) h
+pub overflows_entering : (ranges : Ranges) (t : State Number (Pair Number)) (b x : ℕ) (d : Pair Number) → RuleSays deltas ranges t (exchange b x) → d ≡ distance deltas ranges t b x → (o : Overflow) → OverflowsMove t x d o → CheckOverflows ranges t o
+overflows_entering ranges t b x d s e o h = move x d (enters b s e) h
 
-pub overflows_rows : (ranges : Ranges) (t : State Number (Pair Number)) (b x : ℕ) → IsPivot numbers t.rows b x → (o : Overflow) → OverflowsExchange t.rows b x o → CheckOverflows ranges t o
-overflows_rows ranges t b x p o h = rows b x p h
+pub overflows_rows : (ranges : Ranges) (t : State Number (Pair Number)) (b x : ℕ) → RuleSays deltas ranges t (exchange b x) → (o : Overflow) → OverflowsExchange t.rows b x o → CheckOverflows ranges t o
+overflows_rows ranges t b x s o h = rows b x s h
 
 -- a value and what it lacks
 pub reached_by : (a b d : Pair Number) → d ≡ space_difference deltas a b → a ≡ deltas.plus b d

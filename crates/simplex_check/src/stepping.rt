@@ -106,7 +106,6 @@ impl RealAssignment {
             ≡ distance deltas (ranges_in bounds.now.held) (state_of self.now) leaving entering) }
         ensures wide { IfErr result (OnRowOverflow (CheckOverflows (ranges_in bounds.now.held) (state_of self.now))) }
     {
-        self.tableau.rows_are_in_solved_form();
         let value = self.value(leaving);
         let range = bounds.range(leaving);
         let goal = goal_of(range, below(value, range.lower));

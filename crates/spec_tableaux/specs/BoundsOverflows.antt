@@ -4,9 +4,9 @@ use Rattle.spec_numbers.specs.Bounds.{Overflow}
 use Rattle.spec_tableaux.specs.Deltas.{delta_added, delta_subtracted, delta_scaled, delta_divided}
 use Rattle.spec_tableaux.specs.Spaces.{Pair, space_difference}
 use Rattle.spec_tableaux.specs.Rows.{Entry, Row, coefficient_of, row_of, is_basic, sum_of}
-use Rattle.spec_tableaux.specs.SolvedForms.{IsNonbasic, IsPivot}
+use Rattle.spec_tableaux.specs.SolvedForms.{IsNonbasic}
 use Rattle.spec_tableaux.specs.Ranges.{is_within}
-use Rattle.spec_tableaux.specs.LeastVariable.{State, goes_up, goal_of, distance}
+use Rattle.spec_tableaux.specs.LeastVariable.{State, RuleSays, exchange, goes_up, goal_of, distance}
 use Rattle.spec_tableaux.specs.Numbers.{Number, numbers}
 use Rattle.spec_tableaux.specs.CheckOverflows.{OverflowsExchange, OverflowsSum}
 use Rattle.spec_tableaux.specs.Points.{deltas, delta_in, Ranges}
@@ -43,8 +43,9 @@ pub data OverflowsMove (t : State Number (Pair Number)) (x : ℕ) (d : Pair Numb
 pub data HasToMove (ranges : Ranges) (t : State Number (Pair Number)) (x : ℕ) (d : Pair Number) : Type 0 where
   -- to the bound that it violates
   updates_nonbasic : IsNonbasic t.rows x → Violates ranges t x → d ≡ gap ranges t x → HasToMove ranges t x d
-  -- so that a basic variable, by its row, comes to the bound that it violates
-  enters : (b : ℕ) → IsPivot numbers t.rows b x → Violates ranges t b → d ≡ distance deltas ranges t b x
+  -- in the exchange that the rule says, so that the variable that leaves, by its row, comes to the bound that it
+  -- violates
+  enters : (b : ℕ) → RuleSays deltas ranges t (exchange b x) → d ≡ distance deltas ranges t b x
       → HasToMove ranges t x d
 
 -- A step of a check at a state comes to the overflow o.
@@ -52,14 +53,16 @@ pub data CheckOverflows (ranges : Ranges) (t : State Number (Pair Number)) (o : 
   -- a bound that a variable violates, space_difference its value
   difference : (y : ℕ) → Violates ranges t y
       → delta_subtracted (delta_in (goal ranges t y)) (delta_in (t.point y)) ≡ Err o → CheckOverflows ranges t o
-  -- such a difference of a basic variable b, over the coefficient of a nonbasic one in its row
-  quotient : (b x : ℕ) → IsPivot numbers t.rows b x → Violates ranges t b
+  -- in the exchange that the rule says: such a difference of the variable b that leaves, over the coefficient in its
+  -- row of the variable x that enters
+  quotient : (b x : ℕ) → RuleSays deltas ranges t (exchange b x)
       → delta_divided (delta_in (gap ranges t b)) (coefficient_in t.rows b x).fraction ≡ Err o
       → CheckOverflows ranges t o
   -- the values where a nonbasic variable moves
   move : (x : ℕ) (d : Pair Number) → HasToMove ranges t x d → OverflowsMove t x d o → CheckOverflows ranges t o
-  -- the rows after an exchange
-  rows : (b x : ℕ) → IsPivot numbers t.rows b x → OverflowsExchange t.rows b x o → CheckOverflows ranges t o
+  -- the rows after the exchange that the rule says
+  rows : (b x : ℕ) → RuleSays deltas ranges t (exchange b x) → OverflowsExchange t.rows b x o
+      → CheckOverflows ranges t o
 
 -- The sum of the entries gs at a point comes to the overflow o.
 pub data OverflowsValue (v : ℕ → Pair Number) (gs : List (Entry Number)) (o : Overflow) : Type 0 where

@@ -1,14 +1,11 @@
-use Rattle.std.proofs.Common.{subst}
 use Rattle.ratio128.specs.Meant.{overflow}
-use Rattle.spec_tableaux.specs.SolvedForms.{IsSolved}
-use Rattle.spec_tableaux.specs.Numbers.{numbers}
 use Rattle.tableau.specs.Numbers.{number_of}
 use Rattle.tableau.proofs.Telling.{told_wide}
 use Rattle.simplex_bounds.specs.Deltas.{pair_of, range_of}
 use Rattle.simplex_bounds.specs.Held.{ranges_in}
-use Rattle.simplex_check.specs.Assignments.{AssignmentView, state_of}
+use Rattle.simplex_check.specs.Assignments.{state_of}
 use Rattle.spec_tableaux.specs.BoundsOverflows.{CheckOverflows}
-use Rattle.simplex_check.proofs.Shifts.{violates_out, goal_at, gap_at, overflows_difference, overflows_quotient, pivot_by_rule}
+use Rattle.simplex_check.proofs.Shifts.{violates_out, goal_at, gap_at, overflows_difference, overflows_quotient}
 use Rattle.simplex_check.proofs.assignment.RealAssignment.distance_of.Goals as goal
 
 pub returns-in_err-difference-clause-wide : goal.returns-in_err-difference-clause-wide
@@ -25,11 +22,9 @@ pub returns-in_err-quotient-clause-wide : goal.returns-in_err-quotient-clause-wi
 returns-in_err-quotient-clause-wide c =
     let ranges = ranges_in c.args.bounds.now.held in
     let t = state_of c.args.self.now in
-    let solved : IsSolved numbers c.args.self.now.tableau.rows = subst (λ (b : AssignmentView). IsSolved numbers b.tableau.rows) c.self.view_is c.rows_are_in_solved_form.ensures.solved in
     told_wide (CheckOverflows ranges t) c.from_residual-in_err-quotient.result c.in_err-quotient.field-0.0 c.from_residual-in_err-quotient.ensures.1
     (overflows_quotient ranges t c.args.leaving c.args.entering (pair_of c.in_ok-difference.difference) (number_of c.entry_in.result) (overflow c.in_err-quotient.field-0.0)
-    (pivot_by_rule ranges t c.args.leaving c.args.entering solved c.requires)
-    (violates_out ranges t c.args.leaving c.requires.1.holds)
+    c.requires
     (gap_at ranges t c.args.leaving (pair_of c.goal_of-goal.result) (pair_of c.value-value.result) (pair_of c.in_ok-difference.difference)
     (goal_at ranges t c.args.leaving (range_of c.range-range.result) (pair_of c.value-value.result) (pair_of c.goal_of-goal.result) c.below.result c.goal_of-goal.ensures c.below.ensures c.range-range.ensures c.value-value.ensures)
     c.value-value.ensures c.in_ok-difference.ensures.exact)

@@ -1,9 +1,7 @@
 use Rattle.std.proofs.Common.{◌≡◌, map, ap, sym, ◌∙◌, subst, ℕ}
 use Rattle.ratio128.specs.Meant.{overflow}
 use Rattle.spec_tableaux.specs.Deltas.{delta_added}
-use Rattle.spec_tableaux.specs.SolvedForms.{IsSolved}
 use Rattle.spec_tableaux.specs.LeastVariable.{RuleSays, Exchanges, exchange, distance, moved}
-use Rattle.spec_tableaux.specs.Numbers.{numbers}
 use Rattle.spec_tableaux.specs.CheckOverflows.{OverflowsExchange}
 use Rattle.tableau.proofs.Telling.{told_wide, passed_on}
 use Rattle.simplex_bounds.specs.Deltas.{pair_of}
@@ -16,16 +14,15 @@ use Rattle.simplex_check.proofs.Suspecting.{suspect_exchange}
 use Rattle.tableau.specs.Views.{TableauView}
 use Rattle.simplex_check.specs.Kept.{assignment_view}
 use Rattle.spec_tableaux.specs.BoundsOverflows.{CheckOverflows, OverflowsMove, sum}
-use Rattle.simplex_check.proofs.Shifts.{lead_written, same_lengths, exchange_is_made, pivot_by_rule, entering_known, violates_out, overflows_entering, overflows_rows}
+use Rattle.simplex_check.proofs.Shifts.{lead_written, same_lengths, exchange_is_made, pivot_by_rule, entering_known, overflows_entering, overflows_rows}
 use Rattle.simplex_check.proofs.assignment.RealAssignment.exchange.Goals as goal
 
 pub returns-in_err-value-clause-wide : goal.returns-in_err-value-clause-wide
 returns-in_err-value-clause-wide c =
     let ranges = ranges_in c.args.bounds.now.held in
     let t = state_of c.args.self.now in
-    let solved : IsSolved numbers c.args.self.now.tableau.rows = subst (λ (b : AssignmentView). IsSolved numbers b.tableau.rows) c.self.view_is c.rows_are_in_solved_form.ensures.solved in
     told_wide (CheckOverflows ranges t) c.from_residual-in_err-value.result c.in_err-value.field-0.0 c.from_residual-in_err-value.ensures.1
-    (overflows_entering ranges t c.args.leaving c.args.entering (pair_of c.in_ok-d.d) (pivot_by_rule ranges t c.args.leaving c.args.entering solved c.requires.says) (violates_out ranges t c.args.leaving c.requires.says.1.holds) c.in_ok-d.ensures.exact (overflow c.in_err-value.field-0.0)
+    (overflows_entering ranges t c.args.leaving c.args.entering (pair_of c.in_ok-d.d) c.requires.says c.in_ok-d.ensures.exact (overflow c.in_err-value.field-0.0)
     (sum (ap (λ v. delta_added (delta_in v) (delta_in (pair_of c.in_ok-d.d))) (sym c.value.ensures) ∙ c.in_err-value.ensures.wide)))
 
 pub changes_of-requires-clause-known : goal.changes_of-requires-clause-known
@@ -42,9 +39,8 @@ pub returns-in_err-changes-clause-wide : goal.returns-in_err-changes-clause-wide
 returns-in_err-changes-clause-wide c =
     let ranges = ranges_in c.args.bounds.now.held in
     let t = state_of c.args.self.now in
-    let solved : IsSolved numbers c.args.self.now.tableau.rows = subst (λ (b : AssignmentView). IsSolved numbers b.tableau.rows) c.self.view_is c.rows_are_in_solved_form.ensures.solved in
     passed_on (OverflowsMove (state_at c.self.inside.tableau.rows (map pair_of c.deref.result.now)) c.args.entering (pair_of c.in_ok-d.d)) (CheckOverflows ranges t) c.from_residual-in_err-changes.result c.in_err-changes.field-0.0
-    (λ o h. overflows_entering ranges t c.args.leaving c.args.entering (pair_of c.in_ok-d.d) (pivot_by_rule ranges t c.args.leaving c.args.entering solved c.requires.says) (violates_out ranges t c.args.leaving c.requires.says.1.holds) c.in_ok-d.ensures.exact o
+    (λ o h. overflows_entering ranges t c.args.leaving c.args.entering (pair_of c.in_ok-d.d) c.requires.says c.in_ok-d.ensures.exact o
     (subst (λ (b : AssignmentView). OverflowsMove (state_of b) c.args.entering (pair_of c.in_ok-d.d) o) c.self.view_is
     (subst (λ vs. OverflowsMove (state_at c.self.inside.tableau.rows (map pair_of vs)) c.args.entering (pair_of c.in_ok-d.d) o) c.deref.ensures.value h)))
     c.from_residual-in_err-changes.ensures.1 c.in_err-changes.ensures.wide
@@ -58,9 +54,8 @@ pub returns-in_err-pivot-clause-wide : goal.returns-in_err-pivot-clause-wide
 returns-in_err-pivot-clause-wide c =
     let ranges = ranges_in c.args.bounds.now.held in
     let t = state_of c.args.self.now in
-    let solved : IsSolved numbers c.args.self.now.tableau.rows = subst (λ (b : AssignmentView). IsSolved numbers b.tableau.rows) c.self.view_is c.rows_are_in_solved_form.ensures.solved in
     passed_on (OverflowsExchange c.self.inside.tableau.rows c.args.leaving c.args.entering) (CheckOverflows ranges t) c.from_residual-in_err-pivot.result c.in_err-pivot.field-0.0
-    (λ o h. overflows_rows ranges t c.args.leaving c.args.entering (pivot_by_rule ranges t c.args.leaving c.args.entering solved c.requires.says) o
+    (λ o h. overflows_rows ranges t c.args.leaving c.args.entering c.requires.says o
     (subst (λ (b : AssignmentView). OverflowsExchange b.tableau.rows c.args.leaving c.args.entering o) c.self.view_is h))
     c.from_residual-in_err-pivot.ensures.1 c.in_err-pivot.ensures.wide
 
