@@ -12,7 +12,7 @@ use Rattle.spec_tableaux.specs.Rows.{Entry as RowEntry}
 use Rattle.spec_tableaux.specs.Numbers.{Number}
 use Rattle.spec_simplex.specs.Constraints.{Constraint, constraint_of, form_of}
 use Rattle.spec_causes.specs.TermTableau.{owner_in, with_slack, with_sum, AreEntriesOf}
-use Rattle.spec_causes.specs.Reached.{IsFormAmong, IsLonger, IsReached, naming, summing}
+use Rattle.spec_causes.specs.Reached.{IsFormAmong, IsLonger, HaveNoRow, IsReached, naming, summing}
 use Rattle.ratio128.specs.declared.ratio.Ratio.{Ratio}
 use Rattle.ratio128.specs.Meant.{fraction}
 use Rattle.term_core.specs.declared.ids.TermId.{TermId}
@@ -75,9 +75,9 @@ variable_leads t f os us b c id k e g free tells is ts n es among h =
 
 -- a row comes
 pub row_leads : (t : TableView) (f : Form) (os us : List (Option TermId)) (b c : AssignmentView) (gs : List (RowEntry Number)) → AreCounted (ground_of os b) → us ≡ os ++ None ∷ []
-    → c ≡ assignment_with_sum b gs → AreEntriesOf (map (owner_meant t) os) gs f.variables → IsLonger gs → GroundLeads t f (ground_of os b) (ground_of us c)
-row_leads t f os us b c gs count e g are longer ts n es among h =
-    subst (IsReached ts n es) (sym same) (summing n es (term_tableau_in t os b) h f among gs are longer)
+    → c ≡ assignment_with_sum b gs → AreEntriesOf (map (owner_meant t) os) gs f.variables → IsLonger gs → HaveNoRow b.tableau.listed gs → GroundLeads t f (ground_of os b) (ground_of us c)
+row_leads t f os us b c gs count e g are longer is_new ts n es among h =
+    subst (IsReached ts n es) (sym same) (summing n es (term_tableau_in t os b) h f among gs are longer is_new)
   where
     counted : b.tableau.variables ≡ length (map (owner_meant t) os)
     counted = sym (length-map os (owner_meant t) ∙ count)

@@ -1,9 +1,10 @@
 -- Atoms that fit a table, an assignment and bounds fit them as these grow.
 use Rattle.std.proofs.Common.{◌≡◌, ℕ, ◌≤◌, Bool, true, false, List, [], ◌∷◌, ◌++◌, length, cond, Option, Some, None, nat_eq, refl, sym, ◌∙◌, ap, subst, arith}
 use Rattle.std.proofs.lemmas.List.{length-append}
-use Rattle.std.proofs.lemmas.List.Elements.{All-nil, All-weaker}
+use Rattle.std.proofs.lemmas.List.Elements.{All-nil}
 use Rattle.std.proofs.lemmas.Bool.{eqb-true}
 use Rattle.std.proofs.lemmas.Option.{same_Some}
+use Rattle.spec_text.proofs.Members as members
 use Rattle.spec_sorts.specs.Terms.{Term}
 use Rattle.spec_arithmetic.specs.Forms.{Form}
 use Rattle.spec_tableaux.specs.Spaces.{Space, as_space}
@@ -17,8 +18,7 @@ use Rattle.simplex_check.specs.Assignments.{AssignmentView, empty_assignment}
 use Rattle.simplex_atoms.specs.declared.slack.Slack.{Slack}
 use Rattle.simplex_atoms.specs.Owners.{owner_at, AreOwned, AreOwnersIn}
 use Rattle.simplex_atoms.specs.Slacks.{AtomSetting, IsFormOf, HasSlackIn, slack_in}
-use Rattle.simplex_atoms.specs.Sums.{sign_by, Sum}
-use Rattle.simplex_atoms.specs.Atoms.{AtomsView, Ground, ground_of, setting_of, GroundGrows, IsMultiple, IsSum, AreSums, IsSlackOf, HaveSlacks, AtomsFit}
+use Rattle.simplex_atoms.specs.Atoms.{AtomsView, Ground, ground_of, setting_of, GroundGrows, IsMultiple, IsSum, IsSlackOf, HaveSlacks, AtomsFit}
 use Rattle.simplex_atoms.proofs.Owning.{owner_kept, owner_first, owner_below}
 
 pub solves_first : {A V : Type 0} (s : Space A V) (v : ℕ → V) (rs more : List (Row A)) → Solves s v (rs ++ more) → Solves s v rs
@@ -27,15 +27,12 @@ solves_first s v (r ∷ rs) more h = (h.0, solves_first s v rs more h.1)
 
 -- over more variables and rows
 
-multiple_on : (g h : Ground) (es : List (Entry Number)) (k : Number) (y : ℕ) → GroundGrows g h → IsMultiple g es k y → IsMultiple h es k y
+pub multiple_on : (g h : Ground) (es : List (Entry Number)) (k : Number) (y : ℕ) → GroundGrows g h → IsMultiple g es k y → IsMultiple h es k y
 multiple_on g h es k y grows m = record {
   variable = omega (arith, m.variable, ap (λ (l : List (Option TermId)). length l) grows.owners, length-append g.owners grows.more_owners);
   sum = λ v s.
       m.sum v (solves_first (as_space numbers) v g.assignment.tableau.listed grows.more_rows (subst (λ (l : List (Row Number)). Solves (as_space numbers) v l) grows.listed s));
 }
-
-pub sums_on : (g h : Ground) (sums : List Sum) → GroundGrows g h → AreSums g sums → AreSums h sums
-sums_on g h sums grows all = All-weaker (IsSum g) (IsSum h) (λ s m. multiple_on g h s.entries (sign_by s.opposite) s.variable grows m) sums all
 
 form_on : (t : TableView) (g h : Ground) (slack : Slack) (f : Form) → GroundGrows g h → IsFormOf (setting_of t g) slack f → IsFormOf (setting_of t h) slack f
 form_on t g h slack f grows is = record {
@@ -135,7 +132,7 @@ right_first t = record {
   owners_in = λ y id e. absurd (none_here y id e);
   once = λ x y id e h. absurd (none_here x id e);
   grounded = omega arith;
-  sums = All-nil (IsSum (ground_of [] empty_assignment));
+  sums = record { each = All-nil (IsSum (ground_of [] empty_assignment)); rows = λ r there. absurd (members.none r there) };
   are_slacked = λ id slack e. absurd (no_place slack e);
 }
   where

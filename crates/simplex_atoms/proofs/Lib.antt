@@ -14,4 +14,6 @@ pub mod Summing
 pub mod Turning
 pub mod Adding
 pub mod Multiples
+pub mod KeyOrder
+pub mod RowSums
 pub mod Coming

@@ -1,9 +1,8 @@
 -- Sums that are variables, or minus variables, and places on these.
-use Rattle.std.proofs.Common.{◌≡◌, ℕ, ◌<◌, inl, inr, Bool, true, false, not, List, ◌∷◌, length, refl, sym, ◌∙◌, ap, subst}
+use Rattle.std.proofs.Common.{◌≡◌, ℕ, ◌<◌, inl, inr, Bool, true, false, not, List, length, refl, sym, ◌∙◌, ap, subst}
 use Rattle.std.specs.Bool.{beq}
-use Rattle.std.specs.Prelude.{Contains, IsPermutation}
-use Rattle.std.proofs.lemmas.List.Elements.{All-cons, All-contains}
-use Rattle.std.proofs.lemmas.List.Sorted.{All-permutation}
+use Rattle.std.specs.Prelude.{Contains}
+use Rattle.std.proofs.lemmas.List.Elements.{All-contains}
 use Rattle.spec_tableaux.specs.Numbers.{Number, numbers}
 use Rattle.spec_tableaux.proofs.Numbers.{numbers_are_ordered_field}
 use Rattle.spec_tableaux.proofs.Signs.{opposite_is, opposite_twice, opposite_not_zero}
@@ -17,7 +16,7 @@ use Rattle.simplex_atoms.specs.Slacks.{IsSign}
 use Rattle.simplex_atoms.specs.Sums.{sign_by, key_meant, IsKeyOf, Sum, sum_by}
 use Rattle.simplex_atoms.specs.Atoms.{Ground, IsMultiple, IsSum, AreSums}
 use Rattle.simplex_atoms.specs.Made.{Covers}
-use Rattle.simplex_atoms.proofs.Turning.{key_sum, sum_by_key}
+use Rattle.simplex_atoms.proofs.Turning.{sum_by_key}
 
 -- signs
 
@@ -67,7 +66,7 @@ two_signs true true = sym (opposite_is numbers numbers_are_ordered_field (number
 pub known_covers : (g : Ground) (sums : List Sum) (es : List CodeEntry) (key : Key) (m : Multiple) (p : Slack) → AreSums g sums → IsKeyOf es key → Contains sums (sum_by (key_meant key) m)
     → p.variable ≡ m.variable → number_of p.factor ≡ sign_by (not (beq m.opposite key.opposite)) → Covers g es p
 known_covers g sums es key m p all k there y f =
-    let one : IsSum g (sum_by (key_meant key) m) = All-contains (IsSum g) sums (sum_by (key_meant key) m) all there in
+    let one : IsSum g (sum_by (key_meant key) m) = All-contains (IsSum g) sums (sum_by (key_meant key) m) all.each there in
     let sign : numbers.times (sign_by key.opposite) (sign_by m.opposite) ≡ number_of p.factor = two_signs key.opposite m.opposite ∙ sym f in
     record {
       variable = subst (λ (x : ℕ). x < length g.owners) (sym y) one.variable;
@@ -82,13 +81,3 @@ new_covers g es y p m e f = record {
   variable = subst (λ (x : ℕ). x < length g.owners) (sym e) m.variable;
   sum = λ v h. m.sum v h ∙ (λ i. numbers.times (sym f i) (v (sym e i)));
 }
-
--- a sum more
-pub sums_more : (g : Ground) (es : List CodeEntry) (key : Key) (y : ℕ) (old new : List Sum) → AreSums g old → IsKeyOf es key → IsMultiple g (entries_of es) numbers.one y
-    → IsPermutation (record { entries = key_meant key; variable = y; opposite = key.opposite } ∷ old) new → AreSums g new
-sums_more g es key y old new all k m p =
-    let s : Sum = record { entries = key_meant key; variable = y; opposite = key.opposite } in
-    All-permutation (IsSum g) (s ∷ old) new p (All-cons (IsSum g) s old (record {
-      variable = m.variable;
-      sum = λ v h. key_sum v es key k ∙ ap (numbers.times (sign_by key.opposite)) (m.sum v h ∙ numbers_are_ordered_field.product_one (v y));
-    }) all)

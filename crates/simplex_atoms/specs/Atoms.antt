@@ -1,5 +1,5 @@
 -- What atoms are placed on, besides an assignment and bounds, and how all of these grow.
-use Rattle.std.specs.Prelude.{◌≡◌, ℕ, ◌<◌, ◌≤◌, List, ◌++◌, length, All, Option, Some}
+use Rattle.std.specs.Prelude.{◌≡◌, ℕ, ◌<◌, ◌≤◌, List, ◌++◌, length, All, Contains, Option, Some}
 use Rattle.spec_tableaux.specs.Spaces.{Pair, as_space}
 use Rattle.spec_tableaux.specs.Rows.{Entry, Row, Solves, sum_of}
 use Rattle.spec_tableaux.specs.Numbers.{Number, numbers}
@@ -11,7 +11,7 @@ use Rattle.simplex_atoms.specs.declared.slack.Slack.{Slack}
 use Rattle.simplex_atoms.specs.Owners.{AreOwnedOnce, AreOwnersIn}
 use Rattle.simplex_atoms.specs.Grounded.{AreGrounded}
 use Rattle.simplex_atoms.specs.Slacks.{AtomSetting, HasSlackIn, slack_in}
-use Rattle.simplex_atoms.specs.Sums.{sign_by, Sum}
+use Rattle.simplex_atoms.specs.Sums.{sign_by, Sum, IsListed}
 
 -- For each variable the term that it stands for, the sums that have rows, and the slack variables of atoms.
 pub record AtomsView : Type 0 where
@@ -59,9 +59,10 @@ pub record IsMultiple (g : Ground) (es : List (Entry Number)) (factor : Number) 
 abbrev pub IsSum : Ground → Sum → Type 0
 IsSum g s = IsMultiple g s.entries (sign_by s.opposite) s.variable
 
--- each of the sums is
-abbrev pub AreSums : Ground → List Sum → Type 0
-AreSums g sums = All (IsSum g) sums
+-- Each of the sums is, and that of each row is there.
+pub record AreSums (g : Ground) (sums : List Sum) : Type 0 where
+  pub each : All (IsSum g) sums
+  pub rows : (r : Row Number) → Contains g.assignment.tableau.listed r → IsListed sums r.entries
 
 -- Bounds can be held of more variables, and those that are held and the room for more are as before.
 pub record KeepBounds (old new : BoundsView) : Type 0 where

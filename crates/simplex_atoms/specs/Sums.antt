@@ -1,6 +1,7 @@
 -- Sums of multiples of variables that others stand for, and the keys by which they are found.
 use Rattle.std.specs.Prelude.{◌≡◌, ℕ, Bool, true, false, List, [], ◌∷◌, map, Contains, IsPermutation, Vec}
-use Rattle.std.specs.List.Sorted.{IsNonDecreasingBy}
+use Rattle.std.specs.Ordering.{nat_cmp}
+use Rattle.std.specs.List.Sorted.{IsNonDecreasingBy, IsStableByKey}
 use Rattle.std.specs.declared.alloc.Global.{Global}
 use Rattle.spec_tableaux.specs.Rows.{Entry, negated}
 use Rattle.spec_tableaux.specs.Numbers.{Number, numbers}
@@ -51,6 +52,8 @@ pub record IsKeyOf (es : List CodeEntry) (key : Key) : Type 0 where
   pub sorted : List CodeEntry
   pub same : IsPermutation es sorted
   pub order : IsNonDecreasingBy (λ (e : CodeEntry). e.variable) sorted
+  -- entries of one variable stay in their order
+  pub stable : IsStableByKey (λ (e : CodeEntry). e.variable) nat_cmp es sorted
   -- the sign
   pub opposite : key.opposite ≡ begins_negative (entries_of sorted)
   pub is : key_meant key ≡ signed_entries key.opposite (entries_of sorted)
@@ -77,3 +80,15 @@ sums_meant kept = map sum_meant kept
 -- none of the sums is of these entries
 abbrev pub IsNew : List Sum → List (Entry Number) → Type 0
 IsNew sums es = (m : Multiple) → Contains sums (sum_by es m) → ⊥
+
+-- the sum of the entries is among the sums, by each key of theirs
+abbrev pub IsListed : List Sum → List (Entry Number) → Type 0
+IsListed sums gs = (es : List CodeEntry) (key : Key) → entries_of es ≡ gs → IsKeyOf es key
+    → (m : Multiple) × Contains sums (sum_by (key_meant key) m)
+
+-- The sums that are kept, in any order, and how many more there can be without memory.
+pub record SumsView : Type 0 where
+  -- the sums
+  pub list : List Sum
+  -- how many more
+  pub room : ℕ

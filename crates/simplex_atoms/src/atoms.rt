@@ -45,7 +45,7 @@ impl Model for Atoms {
 
     ghost Value = { AtomsView };
 
-    ghost view = { λ a. record { owners = a.owners.list; sums = a.sums; slack_list = a.slacks.entries } };
+    ghost view = { λ a. record { owners = a.owners.list; sums = a.sums.list; slack_list = a.slacks.entries } };
 }
 
 /// Lets bounds be held of n variables.

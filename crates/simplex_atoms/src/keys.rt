@@ -56,7 +56,7 @@ pub(crate) fn key_of(alloc: Global, entries: &[Entry]) -> Result<Key, NoMemory>
     ensures { IfOk result (IsKeyOf entries.now) }
 {
     let mut sorted = Vec::from_slice(alloc, entries)?;
-    sorted.sort_unstable_by_key(|entry| entry.variable);
+    sorted.sort_by_key(|entry| entry.variable)?;
     let opposite = begins_negative(&sorted);
     let entries = listed(alloc, &sorted, opposite)?;
     Ok(Key { entries, opposite })

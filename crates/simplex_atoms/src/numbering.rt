@@ -29,6 +29,7 @@ pub(crate) fn variable_of(
     requires { AreCounted (ground_of owners.old.list assignment.old) }
     ensures counted { AreCounted (ground_of owners.new.list assignment.new) }
     ensures grows { GroundGrows (ground_of owners.old.list assignment.old) (ground_of owners.new.list assignment.new) }
+    ensures listed { assignment.new.tableau.listed ≡ assignment.old.tableau.listed }
     ensures grounded { IsGrounded (ground_of owners.old.list assignment.old)
         → IsGrounded (ground_of owners.new.list assignment.new) }
     ensures there { (t : TableView) → IsIn t id → AreOwnersIn t owners.old.list → AreOwnersIn t owners.new.list }
@@ -56,6 +57,7 @@ fn entry_of(
     requires { AreCounted (ground_of owners.old.list assignment.old) }
     ensures counted { AreCounted (ground_of owners.new.list assignment.new) }
     ensures grows { GroundGrows (ground_of owners.old.list assignment.old) (ground_of owners.new.list assignment.new) }
+    ensures listed { assignment.new.tableau.listed ≡ assignment.old.tableau.listed }
     ensures grounded { IsGrounded (ground_of owners.old.list assignment.old)
         → IsGrounded (ground_of owners.new.list assignment.new) }
     ensures there { (t : TableView) → IsIn t variable.0 → AreOwnersIn t owners.old.list
@@ -84,6 +86,7 @@ pub(crate) fn entries_of(
     requires { AreCounted (ground_of owners.old.list assignment.old) }
     ensures counted { AreCounted (ground_of owners.new.list assignment.new) }
     ensures grows { GroundGrows (ground_of owners.old.list assignment.old) (ground_of owners.new.list assignment.new) }
+    ensures listed { assignment.new.tableau.listed ≡ assignment.old.tableau.listed }
     ensures grounded { IsGrounded (ground_of owners.old.list assignment.old)
         → IsGrounded (ground_of owners.new.list assignment.new) }
     ensures there { (t : TableView) → All (λ (p : Number × Coefficient). IsIn t p.0) variables.now

@@ -1,6 +1,6 @@
 //! The place of a form.
 
-ghost use Rattle.std.specs.Prelude.{◌≡◌, ◌<◌, false, map, IfOk, IfErr, Err};
+ghost use Rattle.std.specs.Prelude.{◌≡◌, ◌<◌, false, map, IfOk, IfErr, OnOk, OnErr, Err};
 ghost use Rattle.spec_numbers.specs.Fractions.{opposite};
 ghost use Rattle.spec_numbers.specs.Bounds.{divided};
 ghost use Rattle.spec_arithmetic.specs.Forms.{Form as Meant};
@@ -9,10 +9,11 @@ ghost use Rattle.spec_tableaux.specs.Numbers.{numbers};
 ghost use Rattle.ratio128.specs.Meant.{fraction, overflow};
 ghost use Rattle.term_core.specs.Tables.{TableView};
 ghost use Rattle.spec_causes.specs.TermTableau.{AreEntriesOf};
-ghost use Rattle.spec_causes.specs.Reached.{IsLonger};
+ghost use Rattle.spec_causes.specs.Reached.{IsLonger, HaveNoRow};
 ghost use Rattle.linear_form.specs.Meant.{form_meant, AreVariablesOf};
 ghost use Rattle.tableau.specs.Numbers.{number_of};
 ghost use Rattle.tableau.specs.Entries.{entries_of};
+ghost use Rattle.simplex_check.specs.Assignments.{assignment_with_sum};
 ghost use Rattle.simplex_atoms.specs.Owners.{AreOwnersIn};
 ghost use Rattle.simplex_atoms.specs.Sums.{sign_by};
 ghost use Rattle.simplex_atoms.specs.Slacks.{IsSign, IsFormOf};
@@ -108,11 +109,14 @@ fn add_row(
     requires counted { AreCounted (ground_of owners.old.list assignment.old) }
     requires over { AllVariables (λ y. y < assignment.old.tableau.variables) (entries_of entries.now) }
     requires longer { IsLonger (entries_of entries.now) }
+    requires is_new { HaveNoRow assignment.old.tableau.listed (entries_of entries.now) }
     ensures counted { AreCounted (ground_of owners.new.list assignment.new) }
     ensures grows { GroundGrows (ground_of owners.old.list assignment.old) (ground_of owners.new.list assignment.new) }
     ensures grounded { IsGrounded (ground_of owners.old.list assignment.old)
         → IsGrounded (ground_of owners.new.list assignment.new) }
     ensures there { (t : TableView) → AreOwnersIn t owners.old.list → AreOwnersIn t owners.new.list }
+    ensures row { OnOk result (assignment.new ≡ assignment_with_sum assignment.old (entries_of entries.now)) }
+    ensures same { OnErr result (assignment.new ≡ assignment.old) }
     ensures is { IfOk result (IsMultiple (ground_of owners.new.list assignment.new) (entries_of entries.now)
         numbers.one) }
     ensures wide { (constant : Ratio)
@@ -137,11 +141,11 @@ fn on_row(
     entries: &[Entry],
 ) -> Result<Slack, AtomStop>
     requires counted { AreCounted (ground_of owners.old.list assignment.old) }
-    requires sums { AreSums (ground_of owners.old.list assignment.old) sums.old }
+    requires sums { AreSums (ground_of owners.old.list assignment.old) sums.old.list }
     requires over { AllVariables (λ y. y < assignment.old.tableau.variables) (entries_of entries.now) }
     requires longer { IsLonger (entries_of entries.now) }
     ensures counted { AreCounted (ground_of owners.new.list assignment.new) }
-    ensures sums { AreSums (ground_of owners.new.list assignment.new) sums.new }
+    ensures sums { AreSums (ground_of owners.new.list assignment.new) sums.new.list }
     ensures grows { GroundGrows (ground_of owners.old.list assignment.old) (ground_of owners.new.list assignment.new) }
     ensures grounded { IsGrounded (ground_of owners.old.list assignment.old)
         → IsGrounded (ground_of owners.new.list assignment.new) }
@@ -162,8 +166,9 @@ fn on_row(
         };
         return Ok(on_multiple(kind, constant, multiple));
     }
+    sums.reserve()?;
     let variable = add_row(owners, assignment, entries)?;
-    sums.add(key, variable)?;
+    sums.add(key, variable);
     let multiple = Multiple {
         variable,
         opposite: false,
@@ -182,10 +187,10 @@ fn slack_by(
     entries: &[Entry],
 ) -> Result<Slack, AtomStop>
     requires counted { AreCounted (ground_of owners.old.list assignment.old) }
-    requires sums { AreSums (ground_of owners.old.list assignment.old) sums.old }
+    requires sums { AreSums (ground_of owners.old.list assignment.old) sums.old.list }
     requires over { AllVariables (λ y. y < assignment.old.tableau.variables) (entries_of entries.now) }
     ensures counted { AreCounted (ground_of owners.new.list assignment.new) }
-    ensures sums { AreSums (ground_of owners.new.list assignment.new) sums.new }
+    ensures sums { AreSums (ground_of owners.new.list assignment.new) sums.new.list }
     ensures grows { GroundGrows (ground_of owners.old.list assignment.old) (ground_of owners.new.list assignment.new) }
     ensures grounded { IsGrounded (ground_of owners.old.list assignment.old)
         → IsGrounded (ground_of owners.new.list assignment.new) }
@@ -221,9 +226,9 @@ pub(crate) fn slack_of(
     form: &Form,
 ) -> Result<Slack, AtomStop>
     requires counted { AreCounted (ground_of owners.old.list assignment.old) }
-    requires sums { AreSums (ground_of owners.old.list assignment.old) sums.old }
+    requires sums { AreSums (ground_of owners.old.list assignment.old) sums.old.list }
     ensures counted { AreCounted (ground_of owners.new.list assignment.new) }
-    ensures sums { AreSums (ground_of owners.new.list assignment.new) sums.new }
+    ensures sums { AreSums (ground_of owners.new.list assignment.new) sums.new.list }
     ensures grows { GroundGrows (ground_of owners.old.list assignment.old) (ground_of owners.new.list assignment.new) }
     ensures grounded { IsGrounded (ground_of owners.old.list assignment.old)
         → IsGrounded (ground_of owners.new.list assignment.new) }

@@ -1,6 +1,6 @@
 //! The sums that variables stand for.
 
-ghost use Rattle.std.specs.Prelude.{◌≡◌, [], ◌∷◌, IfOk, OnOk, OnErr, MatchOption, Contains, IsPermutation};
+ghost use Rattle.std.specs.Prelude.{◌≡◌, ◌<◌, [], ◌∷◌, IfOk, OnOk, MatchOption, Contains, IsPermutation};
 ghost use Rattle.simplex_atoms.specs.Sums.{key_meant, IsKeyOf, sum_by, IsNew};
 
 use crate::keys::{Key, key_of};
@@ -23,7 +23,7 @@ pub(crate) struct Multiple {
 /// Holds sums, each of which is a variable or minus it.
 ///
 /// They are looked up by hashes of their keys, which take the memory of the entries. Contracts see the sums, in any
-/// order.
+/// order, and the room: how many more sums there can be without memory.
 #[derive(Drop)]
 pub(crate) struct Sums {
     alloc: Global,
@@ -31,18 +31,18 @@ pub(crate) struct Sums {
 }
 
 impl Model for Sums {
-    ghost use Rattle.std.specs.Prelude.{List};
-    ghost use Rattle.simplex_atoms.specs.Sums.{Sum, sums_meant};
+    ghost use Rattle.std.specs.HashMap.{spare};
+    ghost use Rattle.simplex_atoms.specs.Sums.{SumsView, sums_meant};
 
-    ghost Value = { List Sum };
+    ghost Value = { SumsView };
 
-    ghost view = { λ s. sums_meant s.multiples.entries };
+    ghost view = { λ s. record { list = sums_meant s.multiples.entries; room = spare s.multiples } };
 }
 
 impl Sums {
     /// Makes the list without sums. It takes no memory.
     pub(crate) fn new(alloc: Global) -> Sums
-        ensures { result ≡ [] }
+        ensures { result.list ≡ [] }
     {
         Sums {
             alloc,
@@ -61,8 +61,8 @@ impl Sums {
 
     /// Finds the sum of a key's entries, if it is there. It takes no memory.
     pub(crate) fn find(&self, key: &Key) -> Option<Multiple>
-        ensures { MatchOption result (IsNew self.now (key_meant key.now))
-            (λ m. Contains self.now (sum_by (key_meant key.now) m)) }
+        ensures { MatchOption result (IsNew self.now.list (key_meant key.now))
+            (λ m. Contains self.now.list (sum_by (key_meant key.now) m)) }
     {
         match self.multiples.get(&key.entries) {
             None => None,
@@ -70,20 +70,32 @@ impl Sums {
         }
     }
 
-    /// Adds the sum of a key's entries, which is the variable, or minus it where the key is that of the opposite.
+    /// Takes memory so that there is room for a sum more.
     ///
-    /// `NoMemory` comes where there is no memory; then nothing is added.
-    pub(crate) fn add(&mut self, key: Key, variable: u64) -> Result<(), NoMemory>
-        requires { IsNew self.old (key_meant key) }
-        ensures ok { OnOk result (IsPermutation
-            (record { entries = key_meant key; variable = variable; opposite = key.opposite } ∷ self.old) self.new) }
-        ensures err { OnErr result (self.new ≡ self.old) }
+    /// `NoMemory` comes where there is none.
+    pub(crate) fn reserve(&mut self) -> Result<(), NoMemory>
+        ensures ok { OnOk result (0 < self.new.room) }
+        ensures list { IsPermutation self.old.list self.new.list }
+    {
+        self.multiples.reserve(1)?;
+        Ok(())
+    }
+
+    /// Adds the sum of a key's entries, which is the variable, or minus it where the key is that of the opposite.
+    pub(crate) fn add(&mut self, key: Key, variable: u64)
+        requires room { 0 < self.old.room }
+        requires is_new { IsNew self.old.list (key_meant key) }
+        ensures { IsPermutation
+            (record { entries = key_meant key; variable = variable; opposite = key.opposite } ∷ self.old.list)
+            self.new.list }
     {
         let multiple = Multiple {
             variable,
             opposite: key.opposite,
         };
-        self.multiples.insert(key.entries, multiple)?;
-        Ok(())
+        match self.multiples.insert(key.entries, multiple) {
+            Ok(_) => {}
+            Err(_) => {}
+        }
     }
 }

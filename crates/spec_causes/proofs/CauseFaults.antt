@@ -18,7 +18,7 @@ use Rattle.spec_causes.specs.TermTableau.{TermTableau, state_in}
 use Rattle.spec_causes.specs.Shared.{OverflowsTerm, in_form, in_sum, by_constant}
 use Rattle.spec_causes.specs.Reasons.{literals_in, weights_in, OverflowsReasons, weighing, adding}
 use Rattle.spec_causes.specs.Causes.{OverflowsForm, OverflowsAt, forming, bounding, adding_row, checking, explaining, valuing, finding, evaluating, evaluating_shared}
-use Rattle.spec_causes.specs.Checks.{IsOverflowAmong, IsOverflowed, ordering, reckoning}
+use Rattle.spec_causes.specs.Checks.{IsOverflowAmong, IsOverflowed, growing, ordering, reckoning}
 use Rattle.spec_causes.specs.Checks as problem
 use Rattle.spec_causes.proofs.CheckFaults.{check_overflows, value_overflows, new_overflows}
 use Rattle.spec_causes.proofs.DeltaFaults.{delta_sum_overflows, delta_value_overflows}
@@ -60,5 +60,6 @@ among_overflows terms o w = elim w.leaves [
 
 pub strain_overflows : (p : Problem) (l : ℕ) (es : List (ℕ × ℕ)) (o : Overflow) → IsOverflowed p l es o → IsOverflow o
 strain_overflows p l es o (problem.forming unlearned none w) = form_overflows _ o w
+strain_overflows p l es o (growing s runs at few w) = among_overflows _ o w
 strain_overflows p l es o (ordering unlearned none w) = among_overflows _ o w
 strain_overflows p l es o (reckoning s runs at few w) = cause_overflows _ s o w

@@ -18,9 +18,9 @@ move_overflows t x d o (sum w) = delta_sum_overflows _ _ o w
 
 pub check_overflows : (ranges : Ranges) (t : State Number (Pair Number)) (o : Overflow) → CheckOverflows ranges t o → IsOverflow o
 check_overflows ranges t o (difference y h w) = delta_difference_overflows _ _ o w
-check_overflows ranges t o (quotient b x p h w) = delta_quotient_overflows _ _ o w
+check_overflows ranges t o (quotient b x s w) = delta_quotient_overflows _ _ o w
 check_overflows ranges t o (move x d h w) = move_overflows t x d o w
-check_overflows ranges t o (rows b x p w) = exchange_overflows t.rows b x o w
+check_overflows ranges t o (rows b x s w) = exchange_overflows t.rows b x o w
 
 pub value_overflows : (v : ℕ → Pair Number) (gs : List (Entry Number)) (o : Overflow) → OverflowsValue v gs o → IsOverflow o
 value_overflows v gs o (product before g after e w) = delta_product_overflows _ _ o w

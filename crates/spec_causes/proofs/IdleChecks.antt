@@ -77,6 +77,6 @@ kept_is_not_short ranges t u old new solved meets short =
 pub uncounted : (ts : List Term) (n : ℕ) (es : List (ℕ × ℕ)) (s : TermTableau) → IsReached ts n es s → n ≡ 0 → es ≡ []
 uncounted ts _ _ _ beginning e = refl
 uncounted ts _ _ _ (naming n es s h f among u k has new) e = uncounted ts n es s h e
-uncounted ts _ _ _ (summing n es s h f among gs are longer) e = uncounted ts n es s h e
+uncounted ts _ _ _ (summing n es s h f among gs are longer is_new) e = uncounted ts n es s h e
 uncounted ts _ _ _ (idling n es s h ranges bounds rs vs many ran) e = uncounted ts n es s h e
 uncounted ts _ _ _ (checking n old new s h ranges bounds rs vs many ran) e = absurd (omega (arith, e))

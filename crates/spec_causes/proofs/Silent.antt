@@ -70,9 +70,6 @@ module _ (rs : List (Row Number)) (none : rs ≡ []) where
   no_basic : (y : ℕ) → is_basic y rs ≡ false
   no_basic y = ap (is_basic y) none
 
-  not_basic : (y : ℕ) → is_basic y rs ≡ true → ⊥
-  not_basic y h = false≢true (sym (no_basic y) ∙ h)
-
 module _ (ts : List Term) (silent : AreSilent ts) where
   no_form : (f : Form) → IsFormAmong ts f → ⊥
   no_form f h = says_neither true h.atom h.constraint (silent h.atom h.there) h.says
@@ -129,7 +126,7 @@ module _ (ts : List Term) (silent : AreSilent ts) where
   pub reaches_nothing : (n : ℕ) (es : List (ℕ × ℕ)) (s : TermTableau) → IsReached ts n es s → IsEmpty s × (es ≡ [])
   reaches_nothing _ _ _ beginning = (record { rows = refl; values = λ y. refl }, refl)
   reaches_nothing _ _ _ (naming n es s h f among u k has new) = absurd (no_form f among)
-  reaches_nothing _ _ _ (summing n es s h f among gs are longer) = absurd (no_form f among)
+  reaches_nothing _ _ _ (summing n es s h f among gs are longer is_new) = absurd (no_form f among)
   reaches_nothing _ _ _ (idling n es s h ranges bounds rs vs many ran) =
       let before = reaches_nothing n es s h in
       let after = ran_alone s ranges (open_ranges s ranges bounds) (state_in (moved_to s rs vs)) es es ran before.0 before.1 in
@@ -157,10 +154,10 @@ module _ (ts : List Term) (silent : AreSilent ts) where
 
   check_never : (s : TermTableau) → IsEmpty s → (ranges : Ranges) → IsOpen ranges → (o : Overflow) → CheckOverflows ranges (state_in s) o → ⊥
   check_never s is ranges none o (difference y out w) = nothing_out ranges none (point_in s.values) y out
-  check_never s is ranges none o (quotient b x p out w) = nothing_out ranges none (point_in s.values) b out
+  check_never s is ranges none o (quotient b x says w) = no_exchange ranges (state_in s) is.rows b x says
   check_never s is ranges none o (move x d (updates_nonbasic n out e) w) = nothing_out ranges none (point_in s.values) x out
-  check_never s is ranges none o (move x d (enters b p out e) w) = nothing_out ranges none (point_in s.values) b out
-  check_never s is ranges none o (rows b x p w) = not_basic s.rows is.rows b p.basic
+  check_never s is ranges none o (move x d (enters b says e) w) = no_exchange ranges (state_in s) is.rows b x says
+  check_never s is ranges none o (rows b x says w) = no_exchange ranges (state_in s) is.rows b x says
 
   conflict_never : (s : TermTableau) → IsEmpty s → (ranges : Ranges) → IsOpen ranges → (up : Bool) (es : List (Entry Number))
       → Conflicts ranges (state_in s) up es → ⊥

@@ -31,8 +31,8 @@ module _ (ts us : List Term) (more : AreAmong ts us) where
   reached_over_more _ _ _ beginning = beginning
   reached_over_more _ _ _ (naming n es s0 h f among u k has new) =
       naming n es s0 (reached_over_more n es s0 h) f (form_among_more f among) u k has new
-  reached_over_more _ _ _ (summing n es s0 h f among gs are longer) =
-      summing n es s0 (reached_over_more n es s0 h) f (form_among_more f among) gs are longer
+  reached_over_more _ _ _ (summing n es s0 h f among gs are longer is_new) =
+      summing n es s0 (reached_over_more n es s0 h) f (form_among_more f among) gs are longer is_new
   reached_over_more _ _ _ (idling n es s0 h ranges bounds rs vs many ran) =
       idling n es s0 (reached_over_more n es s0 h) ranges (bounds_among_more s0 ranges bounds) rs vs many ran
   reached_over_more _ _ _ (checking n old new s0 h ranges bounds rs vs many ran) =

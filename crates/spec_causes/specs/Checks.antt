@@ -8,7 +8,7 @@ use Rattle.spec_arithmetic.specs.Contradictions.{given, wide, la_generic}
 use Rattle.spec_derivations.specs.Problems.{Problem, subterms_in}
 use Rattle.spec_derivations.specs.Orders.{whole_terms}
 use Rattle.spec_causes.specs.TermTableau.{TermTableau}
-use Rattle.spec_causes.specs.Reached.{IsStoppedAt}
+use Rattle.spec_causes.specs.Reached.{IsReached, IsStoppedAt}
 use Rattle.spec_causes.specs.Counts.{AreFewRuns}
 use Rattle.spec_causes.specs.Causes.{OverflowsForm, OverflowsAt}
 
@@ -33,6 +33,9 @@ pub record IsOverflowAmong (terms : List Term) (o : Overflow) : Type 0 where
 pub data IsOverflowed (p : Problem) (l : ℕ) (es : List (ℕ × ℕ)) (o : Overflow) : Type 0 where
   -- the form of an atom among the subterms, before it begins
   forming : l ≡ 0 → es ≡ [] → OverflowsForm (subterms_in p) o → IsOverflowed p l es o
+  -- the orders of an equality that comes in later, after these exchanges, in few runs
+  growing : (s : TermTableau) (runs : ℕ) → IsReached (whole_terms p) runs es s → AreFewRuns (whole_terms p) l runs
+      → IsOverflowAmong (whole_terms p) o → IsOverflowed p l es o
   -- the orders of an equality among the terms of which the search speaks, before it begins
   ordering : l ≡ 0 → es ≡ [] → IsOverflowAmong (whole_terms p) o → IsOverflowed p l es o
   -- an operation of simplex over these terms, where it is stopped after these exchanges, in few runs

@@ -29,6 +29,10 @@ pub record IsFormAmong (ts : List Term) (f : Form) : Type 0 where
 abbrev pub IsLonger : List (Entry Number) → Type 0
 IsLonger gs = (g : Entry Number) → gs ≡ g ∷ [] → numbers.is_zero g.coefficient ≡ false → ⊥
 
+-- no row came for the sum of the entries
+abbrev pub HaveNoRow : List (Row Number) → List (Entry Number) → Type 0
+HaveNoRow listed gs = (r : Row Number) → Contains listed r → r.entries ≡ gs → ⊥
+
 -- Simplex comes to this over terms, where these exchanges were made in all its checks of bounds together, oldest first,
 -- each a leaving and
 -- an entering variable. Those of one check are a run, and there are no more runs than so many: an empty one may be
@@ -40,10 +44,10 @@ pub data IsReached (ts : List Term) : ℕ → List (ℕ × ℕ) → TermTableau 
   naming : (n : ℕ) (es : List (ℕ × ℕ)) (s : TermTableau) → IsReached ts n es s
       → (f : Form) → IsFormAmong ts f → (u : Term) (k : Fraction) → Contains f.variables (u, k)
       → ((y : ℕ) → owner_in s.owners y ≡ Some u → ⊥) → IsReached ts n es (with_slack s u)
-  -- a row comes for the variables of an atom's form that is no multiple of one
+  -- a row comes for the variables of an atom's form that is no multiple of one, where their sum has none yet
   summing : (n : ℕ) (es : List (ℕ × ℕ)) (s : TermTableau) → IsReached ts n es s
       → (f : Form) → IsFormAmong ts f → (gs : List (Entry Number)) → AreEntriesOf s.owners gs f.variables
-      → IsLonger gs → IsReached ts n es (with_sum s gs)
+      → IsLonger gs → HaveNoRow s.listed gs → IsReached ts n es (with_sum s gs)
   -- a check goes to these bounds, and makes no exchange: no run is counted
   idling : (n : ℕ) (es : List (ℕ × ℕ)) (s : TermTableau) → IsReached ts n es s
       → (ranges : Ranges) → AreBounds ts s ranges → (rs : List (Row Number)) (vs : List (Pair Number))

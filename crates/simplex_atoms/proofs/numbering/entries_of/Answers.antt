@@ -1,5 +1,5 @@
 -- One entry after the other comes.
-use Rattle.std.proofs.Common.{refl}
+use Rattle.std.proofs.Common.{refl, ◌∙◌}
 use Rattle.simplex_atoms.specs.Atoms.{ground_of}
 use Rattle.simplex_atoms.proofs.Growth.{grows_same, grows_on}
 use Rattle.simplex_atoms.proofs.Numbered.{numbered_none, numbered_step, is_at}
@@ -10,6 +10,7 @@ pub variables-init : goal.variables-init
 variables-init c = record {
   counted = c.requires;
   grows = grows_same c.args.owners.now.list _ c.args.assignment.now _ refl refl;
+  listed = refl;
   grounded = λ h. h;
   there = λ t _ h. h;
   came = λ t f _ _ ts n es among h. h;
@@ -30,6 +31,7 @@ variables-preserved c = record {
   grows =
       grows_on (ground_of c.args.owners.now.list c.args.assignment.now) (ground_of c.variables.owners.list c.variables.assignment) (ground_of c.entry_of.new.owners.list c.entry_of.new.assignment)
       c.variables.invariant.grows c.entry_of.ensures.grows;
+  listed = c.entry_of.ensures.listed ∙ c.variables.invariant.listed;
   grounded = λ h. c.entry_of.ensures.grounded (c.variables.invariant.grounded h);
   there = λ t all h. c.entry_of.ensures.there t
       (is_at t c.args.variables.now c.variables.at c.index-variables-at.result c.variables-test.true c.index-variables-at.is all) (c.variables.invariant.there t all h);

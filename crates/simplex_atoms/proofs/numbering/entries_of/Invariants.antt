@@ -1,5 +1,5 @@
 -- The entries up to here are those of the variables up to here.
-use Rattle.std.proofs.Common.{take}
+use Rattle.std.proofs.Common.{◌≡◌, take}
 use Rattle.std.specs.Prelude.{All}
 use Rattle.spec_arithmetic.specs.Forms.{Form}
 use Rattle.ratio128.specs.declared.ratio.Ratio.{Ratio}
@@ -15,6 +15,7 @@ abbrev pub invariant-variables : goal.invariant-variables
 invariant-variables l = record {
   counted : AreCounted (ground_of l.owners.list l.assignment);
   grows : GroundGrows (ground_of l.initial.owners.list l.initial.assignment) (ground_of l.owners.list l.assignment);
+  listed : l.assignment.tableau.listed ≡ l.initial.assignment.tableau.listed;
   grounded : IsGrounded (ground_of l.initial.owners.list l.initial.assignment) → IsGrounded (ground_of l.owners.list l.assignment);
   there : (t : TableView) → All (λ (p : TermId × Ratio). IsIn t p.0) l.variables → AreOwnersIn t l.initial.owners.list → AreOwnersIn t l.owners.list;
   came : (t : TableView) (f : Form) → TellsOwners t l.initial.owners.list → All (IsVariableOf t f) l.variables → GroundLeads t f (ground_of l.initial.owners.list l.initial.assignment) (ground_of l.owners.list l.assignment);

@@ -33,4 +33,4 @@ returns-clause-is c =
 pub returns-clause-came : goal.returns-clause-came
 returns-clause-came c t f are =
     row_leads t f c.args.owners.now.list c.add_none.new.self.list c.args.assignment.now c.add_row.new.self (entries_of c.args.entries.now) c.requires.counted
-    (c.add_none.ensures ∙ ap (λ (l : List (Option TermId)). l ++ None ∷ []) c.reserve.ensures.list) c.in_ok-variable.ensures.ok.1 are c.requires.longer
+    (c.add_none.ensures ∙ ap (λ (l : List (Option TermId)). l ++ None ∷ []) c.reserve.ensures.list) c.in_ok-variable.ensures.ok.1 are c.requires.longer c.requires.is_new

@@ -3,7 +3,7 @@ use Rattle.std.proofs.Common.{refl, sym, subst, List}
 use Rattle.tableau.specs.declared.entries.Entry.{Entry}
 use Rattle.simplex_atoms.specs.Atoms.{ground_of}
 use Rattle.simplex_atoms.specs.Watching.{EntriesAreNumbered}
-use Rattle.simplex_atoms.proofs.Fitting.{sums_on}
+use Rattle.simplex_atoms.proofs.RowSums.{sums_on}
 use Rattle.simplex_atoms.proofs.Growth.{grows_same}
 use Rattle.simplex_atoms.proofs.Numbered.{are_in, numbered_over, variables_as}
 use Rattle.simplex_atoms.proofs.Making.{result_formed, result_overflows}
@@ -20,11 +20,11 @@ returns-in_err-entries-clause-there c t all h =
 
 pub returns-in_err-entries-clause-sums : goal.returns-in_err-entries-clause-sums
 returns-in_err-entries-clause-sums c =
-    sums_on (ground_of c.args.owners.now.list c.args.assignment.now) (ground_of c.entries_of.new.owners.list c.entries_of.new.assignment) c.args.sums.now c.entries_of.ensures.grows c.requires.sums
+    sums_on (ground_of c.args.owners.now.list c.args.assignment.now) (ground_of c.entries_of.new.owners.list c.entries_of.new.assignment) c.args.sums.now.list c.entries_of.ensures.grows c.entries_of.ensures.listed c.requires.sums
 
 pub slack_by-requires-clause-sums : goal.slack_by-requires-clause-sums
 slack_by-requires-clause-sums c =
-    sums_on (ground_of c.args.owners.now.list c.args.assignment.now) (ground_of c.entries_of.new.owners.list c.entries_of.new.assignment) c.args.sums.now c.entries_of.ensures.grows c.requires.sums
+    sums_on (ground_of c.args.owners.now.list c.args.assignment.now) (ground_of c.entries_of.new.owners.list c.entries_of.new.assignment) c.args.sums.now.list c.entries_of.ensures.grows c.entries_of.ensures.listed c.requires.sums
 
 pub slack_by-requires-clause-over : goal.slack_by-requires-clause-over
 slack_by-requires-clause-over c =
