@@ -1,6 +1,6 @@
 -- What shows that the answer of a check is right. Source: SMT-LIB 2.6, section 4.2.5; what counts as shown is own.
-use Rattle.std.specs.Prelude.{◌≡◌, ◌≤◌, ℕ, List, [], length, All}
-use Rattle.spec_numbers.specs.Bounds.{Overflow}
+use Rattle.std.specs.Prelude.{◌≡◌, ◌≤◌, ℕ, true, List, [], length, All}
+use Rattle.spec_numbers.specs.Bounds.{Overflow, fits}
 use Rattle.spec_simplex.specs.Overflows.{IsOverflow}
 use Rattle.spec_sorts.specs.Values.{Interpretation, Interprets}
 use Rattle.spec_sorts.specs.Signatures.{symbols_in}
@@ -78,14 +78,19 @@ pub record IsKeptOf (limits : Limits) (p : Problem) (k : Kept) : Type 0 where
   -- and each of them is derived, over the problem's atoms, and was new
   pub learns : AreLearned p k.derivation k.learned
 
+-- both operands are within the bound on fractions
+abbrev pub HasBoundedOperands : Overflow → Type 0
+HasBoundedOperands o = (fits o.left ≡ true) × (fits o.right ≡ true)
+
 -- what was found shows this of a check: a model makes true what it asks about; a proof that no interpretation does; the
--- budget of conflicts is spent on it; or an operation leaves the bound where the exchanges lead, or all but the last,
--- or before there are any. The runs are few then, and the clauses that were learned may be learned. Where it was given
--- up, the search may have spoken of interface equalities, of terms that functions and arithmetic share.
+-- budget of conflicts is spent on it; or an operation on fractions within the bound leaves it where the exchanges lead,
+-- or all but the last, or before there are any. The runs are few then, and the clauses that were learned may be
+-- learned. Where it was given up, the search may have spoken of interface equalities, of terms that functions and
+-- arithmetic share.
 abbrev pub Justifies : Limits → Check → Found → Type 0
 Justifies limits c (model i) = IsModelOf c i
 Justifies limits c (proof text) = IsProofOf c text
 Justifies limits c (spent n d learned) = (p : Problem) × IsProblemOf c p × IsSpentOn p limits.conflicts n d learned
 Justifies limits c (overflowed o k) =
-    IsOverflow o
+    IsOverflow o × HasBoundedOperands o
     × ((p : Problem) × IsProblemOf c p × IsKeptOf limits p k × IsOverflowed p (length k.learned) k.exchanges o)
