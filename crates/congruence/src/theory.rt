@@ -1,6 +1,6 @@
 //! Congruence closure as a theory.
 
-ghost use Rattle.std.specs.Prelude.{◌≡◌, ◌-◌, ◌≤◌, ◌++◌, ◌∷◌, [], true, length, get_or, take, Contains, MatchResult, IfOk, IfErr, OnOk, OnErr, Ok};
+ghost use Rattle.std.specs.Prelude.{◌≡◌, ◌-◌, ◌≤◌, ◌++◌, ◌∷◌, ℕ, List, [], true, length, get_or, take, Contains, MatchResult, IfOk, IfErr, OnOk, OnErr, Ok};
 ghost use Rattle.spec_equality.specs.Congruence.{IsFine, IsRefuted};
 ghost use Rattle.term_core.specs.Tables.{TableView};
 ghost use Rattle.sat_budget.specs.declared.limits.Stop.TheVariants as stops;
@@ -55,7 +55,7 @@ fn explain_conflict(
 }
 
 impl Theory for Congruence {
-    ghost use Rattle.std.specs.Prelude.{◌≡◌, true};
+    ghost use Rattle.std.specs.Prelude.{◌≡◌, [], true};
     ghost use Rattle.spec_equality.specs.Congruence.{IsFine, IsRefuted};
     ghost use Rattle.congruence_relation.specs.Relation.{AreFactsOf};
     ghost use Rattle.congruence.specs.Views.{theory_of};
@@ -69,7 +69,7 @@ impl Theory for Congruence {
 
     ghost refuses = { λ c ts ls. IsRefuted ts ls };
 
-    ghost came_by = { λ _ _ _ _ _. Unit {0} };
+    ghost came_by = { λ _ _ _ _ es. es ≡ [] };
 
     ghost stopped_by = { λ _ _ _ _ _. Unit {0} };
 
@@ -84,7 +84,7 @@ impl Theory for Congruence {
         ensures with { AreFactsOf table.now self.new.now.facts }
         ensures watches { MatchResult result (λ _. theory_of self.new ≡ with_watched (theory_of self.old) id)
             (λ _. theory_of self.new ≡ theory_of self.old) }
-        ensures came { CameTo result (λ _. Unit {0}) (Unit {0}) }
+        ensures came { (es : List (ℕ × ℕ)) → es ≡ [] → CameTo result (λ _. es ≡ []) (Unit {0}) }
         ensures stops { IfErr result (StopsBy (λ _. ⊥)) }
         ensures memory { IfErr result (λ stop. stop ≡ stops.Memory) }
     {
@@ -122,7 +122,7 @@ impl Theory for Congruence {
             (IsRefuted (terms_watched table.old (theory_of self.old)) (literals_held table.old (theory_of self.old)))
             (theory_of self.old) (record { table = table.old; log = log.old }) result
             (record { table = table.new; log = log.new }) }
-        ensures came { CameTo result (λ _. Unit {0}) (Unit {0}) }
+        ensures came { budget.old.exchanges ≡ [] → CameTo result (λ _. budget.new.exchanges ≡ []) (Unit {0}) }
         ensures stops { IfErr result (StopsBy (λ _. ⊥)) }
         ensures memory { IfErr result (λ stop. stop ≡ stops.Memory) }
     {

@@ -46,7 +46,7 @@ impl Theory for PropositionalTheory {
 
     ghost refuses = { λ _ _ _. ⊥ };
 
-    ghost came_by = { λ _ _ _ _ _. Unit {0} };
+    ghost came_by = { λ _ _ _ _ es. es ≡ [] };
 
     ghost stopped_by = { λ _ _ _ _ _. Unit {0} };
 
