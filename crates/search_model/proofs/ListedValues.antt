@@ -2,6 +2,7 @@
 use Rattle.std.proofs.Common.{◌≡◌, ◌≢◌, ◌==◌, ℕ, zero, suc, ◌<◌, Bool, true, false, cond, List, [], ◌∷◌, ◌++◌, length, get_or, All, refl, sym, ap, ◌∙◌, subst, arith}
 use Rattle.std.specs.Prelude.{slice_set}
 use Rattle.std.specs.Bool.{Decides}
+use Rattle.std.specs.List.{AllPairs}
 use Rattle.std.proofs.lemmas.Bool.{false≢true}
 use Rattle.std.proofs.lemmas.Bool.Decides.{Decides-eqb}
 use Rattle.std.proofs.lemmas.List.{length-set, get_or-set_same, get_or-set_other}
@@ -15,24 +16,24 @@ use Rattle.term_core.specs.declared.ids.TermId.{TermId}
 use Rattle.term_core.specs.Tables.{TableView, term_at, IsIn, AreIn, clause_at, AreDifferent}
 use Rattle.term_walks.specs.declared.values.Value.{Value as CodeValue}
 use Rattle.term_walks.specs.Valuations.{value_meant, IsNamed}
-use Rattle.search_model.specs.Models.{no_id, number_in, AreIncreasing}
+use Rattle.search_model.specs.Models.{no_id, number_in}
 use Rattle.search_model.specs.Made.{no_value, value_at_id, IsValueOf}
 
 -- what is found for a term where the terms that it may be go with what they have
 module _ {A : Type 0} (no : A) (found_in : List Term → List A → Term → A)
     (step : (u : Term) (us : List Term) (x : A) (xs : List A) (w : Term) → found_in (u ∷ us) (x ∷ xs) w ≡ cond (same_term u w) x (found_in us xs w)) where
   -- of a listed term it is what is at its place
-  at_place : (t : TableView) (ids : List TermId) (xs : List A) (k : ℕ) → AreDifferent t.terms → AreIn t ids → AreIncreasing ids → length xs ≡ length ids → k < length ids
+  at_place : (t : TableView) (ids : List TermId) (xs : List A) (k : ℕ) → AreDifferent t.terms → AreIn t ids → AllPairs (λ (i j : TermId). i ≢ j) ids → length xs ≡ length ids → k < length ids
       → found_in (clause_at t ids) xs (term_at t (get_or ids k no_id)) ≡ get_or xs k no
-  at_place t [] xs k different there rising long lt = absurd (omega (arith, lt))
-  at_place t (id ∷ ids) [] k different there rising long lt = absurd (omega (arith, long))
-  at_place t (id ∷ ids) (x ∷ xs) zero different there rising long lt =
+  at_place t [] xs k different there once long lt = absurd (omega (arith, lt))
+  at_place t (id ∷ ids) [] k different there once long lt = absurd (omega (arith, long))
+  at_place t (id ∷ ids) (x ∷ xs) zero different there once long lt =
       step (term_at t id) (clause_at t ids) x xs (term_at t id)
       ∙ ap (λ b. cond b x (found_in (clause_at t ids) xs (term_at t id))) ((terms_decide (term_at t id) (term_at t id)).1 refl)
-  at_place t (id ∷ ids) (x ∷ xs) (suc k) different there rising long lt =
+  at_place t (id ∷ ids) (x ∷ xs) (suc k) different there once long lt =
       step (term_at t id) (clause_at t ids) x xs (term_at t other)
       ∙ go (same_term (term_at t id) (term_at t other)) refl
-      (at_place t ids xs k different (All-tail (IsIn t) id ids there) (λ i j before j_in. rising (suc i) (suc j) (omega (arith, before)) (omega (arith, j_in))) (omega (arith, long)) in_ids)
+      (at_place t ids xs k different (All-tail (IsIn t) id ids there) (λ i j d before j_in. once (suc i) (suc j) d (omega (arith, before)) (omega (arith, j_in))) (omega (arith, long)) in_ids)
     where
       other : TermId
       other = get_or ids k no_id
@@ -45,16 +46,16 @@ module _ {A : Type 0} (no : A) (found_in : List Term → List A → Term → A)
       go true e rest =
           let same : id.0 ≡ other.0 = different id.0 other.0 (All-head (IsIn t) id ids there) (All-get_or (IsIn t) ids k no_id in_ids (All-tail (IsIn t) id ids there))
           ((terms_decide (term_at t id) (term_at t other)).0 e) in
-          absurd (omega (arith, rising 0 (suc k) (omega arith) lt, same))
+          absurd (once 0 (suc k) no_id (omega arith) lt (λ i. record { 0 = same i }))
       go false e rest = rest
 
 -- the class of a listed term is the one at its place
-pub class_at : (t : TableView) (ids : List TermId) (classes : List ℕ) (k : ℕ) → AreDifferent t.terms → AreIn t ids → AreIncreasing ids → length classes ≡ length ids → k < length ids
+pub class_at : (t : TableView) (ids : List TermId) (classes : List ℕ) (k : ℕ) → AreDifferent t.terms → AreIn t ids → AllPairs (λ (i j : TermId). i ≢ j) ids → length classes ≡ length ids → k < length ids
     → class_in (clause_at t ids) classes (term_at t (get_or ids k no_id)) ≡ get_or classes k 0
 class_at = at_place 0 class_in (λ u us x xs w. refl)
 
 -- so is its number
-pub number_at : (t : TableView) (ids : List TermId) (numbers : List Fraction) (k : ℕ) → AreDifferent t.terms → AreIn t ids → AreIncreasing ids → length numbers ≡ length ids → k < length ids
+pub number_at : (t : TableView) (ids : List TermId) (numbers : List Fraction) (k : ℕ) → AreDifferent t.terms → AreIn t ids → AllPairs (λ (i j : TermId). i ≢ j) ids → length numbers ≡ length ids → k < length ids
     → number_in (clause_at t ids) numbers (term_at t (get_or ids k no_id)) ≡ get_or numbers k zero_fraction
 number_at = at_place zero_fraction number_in (λ u us x xs w. refl)
 

@@ -1,6 +1,6 @@
 -- Which interpretation a search answers with: by the truths of its literals, and by the classes and numbers of its
 -- terms.
-use Rattle.std.specs.Prelude.{◌≡◌, ◌<◌, ℕ, Bool, true, ◌&&◌, List, [], ◌∷◌, length, get_or, All, Contains}
+use Rattle.std.specs.Prelude.{◌≡◌, ◌<◌, ℕ, Bool, true, ◌&&◌, List, [], ◌∷◌, length, All, Contains}
 use Rattle.std.specs.Prelude.{slice_index_or, if◌then◌else◌}
 use Rattle.std.specs.List.{list_any}
 use Rattle.spec_numbers.specs.Fractions.{Fraction, zero_fraction}
@@ -50,10 +50,6 @@ symbol_in t k = slice_index_or t.symbols k no_symbol
 -- what no place of a list of numbers has
 abbrev pub no_id : TermId
 no_id = record { 0 = 0 }
-
--- a later number is greater
-abbrev pub AreIncreasing : List TermId → Type 0
-AreIncreasing ids = (i j : ℕ) → i < j → j < length ids → (get_or ids i no_id).0 < (get_or ids j no_id).0
 
 -- Each symbol has a row for each listed term with it as head, and for all other arguments false, 0 or the first
 -- element. A constant that is listed has its value alone.

@@ -1,15 +1,17 @@
 //! The values of listed terms, by their numbers.
 
-ghost use Rattle.std.specs.Prelude.{◌≡◌, ◌<◌, length, map, All, IfOk};
+ghost use Rattle.std.specs.Prelude.{◌≡◌, ◌≢◌, ◌<◌, length, map, All, IfOk};
+ghost use Rattle.std.specs.List.{AllPairs};
 ghost use Rattle.spec_sorts.specs.Terms.{sort_of};
 ghost use Rattle.spec_sorts.specs.Subsets.{IsClosed};
 ghost use Rattle.spec_rules.specs.Truths.{term_true_by};
 ghost use Rattle.spec_valuations.specs.Classes.{value_in};
 ghost use Rattle.ratio128.specs.Meant.{fraction};
+ghost use Rattle.term_core.specs.declared.ids.TermId.{TermId as Number};
 ghost use Rattle.term_core.specs.Tables.{term_at, IsIn, AreIn, clause_at};
 ghost use Rattle.clause_literals.specs.Literals.{AreLiteralsIn};
 ghost use Rattle.term_walks.specs.Valuations.{value_meant, IsNamed};
-ghost use Rattle.search_model.specs.Models.{truths_of, values_of, AreIncreasing};
+ghost use Rattle.search_model.specs.Models.{truths_of, values_of};
 ghost use Rattle.search_model.specs.Made.{value_at_id, HasValues};
 
 use no_memory::NoMemory;
@@ -49,18 +51,12 @@ fn value_of(table: &TermTable, id: TermId, class: u64, number: Ratio, trail: &Sa
     }
 }
 
-/// Gives a number above those of all listed terms: one more than the last has, which is a number of the table.
+/// Gives a number above those of all listed terms: how many terms the table has.
 fn above(table: &TermTable, terms: &[TermId]) -> usize
-    requires terms { AreIn table.now terms.now }
-    requires rising { AreIncreasing terms.now }
+    requires { AreIn table.now terms.now }
     ensures { All (λ id. id.0 < result) terms.now }
 {
-    // no number of a term is the greatest of all
-    let _len = table.len();
-    match terms.last() {
-        Some(id) => id.0 as usize + 1,
-        None => 0,
-    }
+    table.len() as usize
 }
 
 /// Gives the values of listed terms, by their numbers. Other numbers have values without meaning.
@@ -73,7 +69,7 @@ pub(crate) fn listed_values(
     trail: &SatTrail,
 ) -> Result<Vec<Value>, NoMemory>
     requires terms { AreIn table.now terms.now }
-    requires rising { AreIncreasing terms.now }
+    requires once { AllPairs (λ (i j : Number). i ≢ j) terms.now }
     requires closed { IsClosed (clause_at table.now terms.now) }
     requires classes { length classes.now ≡ length terms.now }
     requires numbers { length numbers.now ≡ length terms.now }

@@ -29,8 +29,8 @@ terms-preserved c =
     let id = get_or ids at no_id in
     let x = c.value_of.result in
     let truth = term_true_by (truths_of t held) (term_at t id) in
-    let class = class_at t ids classes at c.ids_are_unique.ensures c.requires.terms c.requires.rising c.requires.classes c.terms-test.true in
-    let number = number_at t ids (map fraction numbers) at c.ids_are_unique.ensures c.requires.terms c.requires.rising (length-map numbers fraction ∙ c.requires.numbers) c.terms-test.true
+    let class = class_at t ids classes at c.ids_are_unique.ensures c.requires.terms c.requires.once c.requires.classes c.terms-test.true in
+    let number = number_at t ids (map fraction numbers) at c.ids_are_unique.ensures c.requires.terms c.requires.once (length-map numbers fraction ∙ c.requires.numbers) c.terms-test.true
     ∙ get_or-map fraction numbers at c.index-numbers-at.result zero_fraction (omega (arith, c.requires.numbers, c.terms-test.true))
     ∙ ap fraction (sym c.index-numbers-at.is) in
     let means = c.value_of.ensures.means ∙ (λ i. value_in (sort_of (term_at t id)) truth (sym number i) (sym class i)) in
