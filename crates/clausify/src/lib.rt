@@ -4,6 +4,7 @@
 #![tactic(auto)]
 
 mod judged;
+mod known;
 mod ordered;
 mod orders;
 mod roots;
@@ -13,6 +14,6 @@ mod stop;
 
 pub use proof_log::StepIds;
 pub use ratio128::Wide;
-pub use roots::{clauses_of, clauses_of_all};
+pub use roots::{clauses_of, clauses_of_all, clauses_of_new};
 pub use stated::Stated;
 pub use stop::ClauseStop;

@@ -1,21 +1,22 @@
-//! The clauses that a search for terms begins with, and the terms that it speaks of.
+//! The clauses that a search for terms begins with, or goes on with, and the terms that it speaks of.
 
 ghost use Rattle.std.specs.Prelude.{◌≡◌, ◌≤◌, [], ◌∷◌, length, map, flat_map, All, IfOk, IfErr, OnOk, OnErr};
 ghost use Rattle.spec_sorts.specs.WellSorted.{IsWellSorted};
 ghost use Rattle.spec_derivations.specs.Base.{defining_clauses};
 ghost use Rattle.spec_derivations.specs.Orders.{whole_clauses_of};
-ghost use Rattle.term_core.specs.Tables.{term_at, clause_at};
+ghost use Rattle.term_core.specs.Tables.{term_at, clause_at, AreIn};
 ghost use Rattle.proof_log.specs.Logs.{IsFormulaIn, AreFormulasIn, IsLogOf};
 ghost use Rattle.proof_log.specs.Theories.{IsTermIn};
 ghost use Rattle.term_clauses.specs.Growth.{Grows, AreAllMade};
 ghost use Rattle.term_clauses.specs.Stating.{listed_steps, Tells};
 ghost use Rattle.term_clauses.specs.Marks.{marked};
 ghost use Rattle.term_clauses.specs.SpokenTerms.{problem_in};
-ghost use Rattle.clausify.specs.HavingClauses.{HasClauses};
-ghost use Rattle.clausify.specs.SearchTerms.{AreSearchTerms};
+ghost use Rattle.clausify.specs.HavingClauses.{HasClauses, HasClausesOf};
+ghost use Rattle.clausify.specs.SearchTerms.{AreSearchTerms, AreNewTerms};
 ghost use Rattle.clausify.specs.Overflows.{IsOrderOverflow, OnClauseOverflow};
 ghost use Rattle.spec_causes.specs.Checks.{IsOverflowAmong};
 
+use crate::known::unmark;
 use crate::ordered::ordered_of;
 use crate::orders::state_orders;
 use crate::stated::Stated;
@@ -79,8 +80,8 @@ pub fn clauses_of(
 ///
 /// It gives the numbers of the clauses, and so of all that came into the log, in order, and the numbers of the terms.
 ///
-/// The terms and the interface equalities must be formulas, and the log one over the table. The equalities, the orders, and
-/// negations that clauses need, come into the table.
+/// The terms and the interface equalities must be formulas, and the log one over the table. The equalities, the orders,
+/// and negations that clauses need, come into the table.
 ///
 /// Time and memory go in proportion to the number of the table's terms, to the lengths of the clauses, and to the forms
 /// of equalities' sides. The clauses by a term's head are not judged: they are right as they are made.
@@ -108,9 +109,47 @@ pub fn clauses_of_all(
     ensures same { OnErr result ((table.new ≡ table.old) × (log.new ≡ log.old)) }
     ensures wide { IfErr result (OnClauseOverflow (IsOrderOverflow (problem_in table.old roots.now interface.now))) }
 {
+    let stated = clauses_of_new(alloc, table, log, &[], roots, interface);
+    subterms_are_least();
+    table.ids_are_unique();
+    stated
+}
+
+/// Makes the clauses with which a search goes on that knows some terms already: those of `clauses_of_all`, but for the
+/// clauses of the known terms.
+///
+/// The known terms must be the table's. What else is given must be as `clauses_of_all` needs it.
+///
+/// It gives the numbers of the clauses, and so of all that came into the log, in order: first each root's, then those
+/// of the terms that are new, in ascending order of their numbers. It gives these numbers, too.
+///
+/// Time and memory go in proportion to the number of the table's terms, to the lengths of the new clauses, and to the
+/// forms of the new equalities' sides. Known terms take time, too, each as often as it is given.
+///
+/// `Wide` and `Memory` come as of `clauses_of_all`; then table and log are as they were.
+pub fn clauses_of_new(
+    alloc: Global,
+    table: &mut TermTable,
+    log: &mut ProofLog,
+    known: &[TermId],
+    roots: &[TermId],
+    interface: &[TermId],
+) -> Result<Stated, ClauseStop>
+    requires known { AreIn table.old known.now }
+    requires roots { AreFormulasIn table.old roots.now }
+    requires interface { AreFormulasIn table.old interface.now }
+    requires log { IsLogOf table.old log.old }
+    ensures clauses { IfOk result (λ x. HasClausesOf table.new log.new roots.now x.terms.items x.steps) }
+    ensures terms { IfOk result
+        (λ x. AreNewTerms table.new (problem_in table.old roots.now interface.now) known.now x.terms.items) }
+    ensures made { IfOk result (λ x. AreAllMade log.old log.new x.steps) }
+    ensures grown { OnOk result (Grows roots.now table.old table.new log.old log.new) }
+    ensures same { OnErr result ((table.new ≡ table.old) × (log.new ≡ log.old)) }
+    ensures wide { IfErr result (OnClauseOverflow (IsOrderOverflow (problem_in table.old roots.now interface.now))) }
+{
     let terms = table.len();
     let clauses = log.len();
-    match stated_of(alloc, table, log, roots, interface) {
+    match stated_of(alloc, table, log, known, roots, interface) {
         Ok(stated) => Ok(stated),
         Err(stop) => {
             log.cut(clauses);
@@ -120,29 +159,32 @@ pub fn clauses_of_all(
     }
 }
 
-/// Makes the clauses of a search for terms, and lists its terms. On a fault what was made stays.
+/// Makes the clauses of a search for terms but for those of known ones, and lists its other terms. On a fault what was
+/// made stays.
 fn stated_of(
     alloc: Global,
     table: &mut TermTable,
     log: &mut ProofLog,
+    known: &[TermId],
     roots: &[TermId],
     interface: &[TermId],
 ) -> Result<Stated, ClauseStop>
     requires roots { AreFormulasIn table.old roots.now }
     requires interface { AreFormulasIn table.old interface.now }
     requires log { IsLogOf table.old log.old }
-    ensures clauses { IfOk result
-        (λ x. HasClauses table.new log.new (problem_in table.old roots.now interface.now) x.steps) }
+    requires known { AreIn table.old known.now }
+    ensures clauses { IfOk result (λ x. HasClausesOf table.new log.new roots.now x.terms.items x.steps) }
     ensures terms { IfOk result
-        (λ x. AreSearchTerms table.new (problem_in table.old roots.now interface.now) x.terms.items) }
+        (λ x. AreNewTerms table.new (problem_in table.old roots.now interface.now) known.now x.terms.items) }
     ensures made { IfOk result (λ x. AreAllMade log.old log.new x.steps) }
     ensures grows { Grows roots.now table.old table.new log.old log.new }
     ensures wide { IfErr result (OnClauseOverflow (IsOrderOverflow (problem_in table.old roots.now interface.now))) }
 {
-    subterms_are_least();
     proof_log::laws::logs_hold_in_grown_tables();
     let ordered = ordered_of(alloc, table, roots, interface)?;
-    let marks = marks_of(alloc, table, &ordered)?;
+    table.ids_are_unique();
+    let mut marks = marks_of(alloc, table, &ordered)?;
+    unmark(&mut marks, known);
     let mut steps = Vec::new(alloc);
     assume_each(table, log, roots, &mut steps)?;
     state_marked(alloc, table, log, &marks, &mut steps)?;

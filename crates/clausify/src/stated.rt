@@ -8,7 +8,7 @@ use term_core::TermId;
 pub struct Stated {
     /// The numbers of the clauses' steps, in order: all that came into the log.
     pub steps: StepIds,
-    /// The numbers of all terms that a search of these clauses speaks of, in ascending order, each once: with each its
-    /// arguments.
+    /// The numbers of all terms that a search of these clauses speaks of, but for those that it knew, in ascending order,
+    /// each once: with each its arguments, where it did not know them.
     pub terms: Vec<TermId>,
 }
