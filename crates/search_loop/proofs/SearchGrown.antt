@@ -8,8 +8,9 @@ use Rattle.spec_sorts.specs.WellSorted.{IsWellSorted, IsFormulaOver}
 use Rattle.spec_sorts.specs.Literals.{Literal, literal_of}
 use Rattle.spec_derivations.specs.Problems.{Problem}
 use Rattle.spec_derivations.specs.Orders.{whole_terms}
-use Rattle.spec_derivations.specs.Derivations.{Inference, «assumption», by_rule, Derivation, IsDerivation}
-use Rattle.spec_derivations.specs.Lemmas.{IsMadeOf, given, is_true, is_false, is_equality, is_negation, IsLemma}
+use Rattle.spec_derivations.specs.Derivations.{Derivation, IsDerivation}
+use Rattle.spec_derivations.proofs.Grown.{lemma_more}
+use Rattle.spec_derivations.specs.Lemmas.{IsLemma}
 use Rattle.term_core.specs.declared.ids.TermId.{TermId}
 use Rattle.term_core.specs.Tables.{TableView, declared_in, Extends, term_at, IsIn, AreIn, clause_at, positive_literal}
 use Rattle.term_core.specs.Symbols.{SymbolsView}
@@ -17,30 +18,16 @@ use Rattle.term_core.proofs.TermsExtend.{IsIn-kept, term_at-kept, clause_at-kept
 use Rattle.term_clauses.proofs.Parts.{formula_kept}
 use Rattle.term_clauses.proofs.Speaking.{problem_kept}
 use Rattle.clausify.specs.SearchTerms.{AreSearchTerms}
-use Rattle.sat_budget.specs.declared.limits.Limits.{Limits}
 use Rattle.proof_log.specs.Logs.{Logged, inference_of, derivation_in, IsLogOf}
 use Rattle.proof_log.specs.Theories.{IsTermIn, IsAtomIn, DerivesLemmas}
 use Rattle.proof_log.proofs.Tables.{grown_same}
 use Rattle.search_loop.specs.declared.search.Search.{Search}
 use Rattle.search_loop.specs.Search.{images, AreAllOf, AreAtomsOf, SearchFits}
-use Rattle.search_loop.specs.Rounds.{HasDerived, IsSearch, BeginsSearch, Continues}
+use Rattle.search_loop.specs.Rounds.{HasDerived, HasWholeClauses, IsSearch, Continues}
 use Rattle.search_loop.proofs.SearchLists.{of_kept, images_kept}
-use Rattle.search_loop.proofs.SearchLogs.{derived_lemmas}
+use Rattle.search_loop.proofs.SearchLogs.{derived_lemmas, whole_on}
 use Rattle.search_loop.proofs.SearchReady.{clauses_in}
 use Rattle.search_loop.proofs.SearchStored.{derives_on}
-
--- terms that are made of some are made of more
-pub made_more : (ts us : List Term) → AreAmong ts us → (u : Term) → IsMadeOf ts u → IsMadeOf us u
-made_more ts us among _ (given t i) = given t (among t i)
-made_more ts us among _ is_true = is_true
-made_more ts us among _ is_false = is_false
-made_more ts us among _ (is_equality t u a b) = is_equality t u (made_more ts us among t a) (made_more ts us among u b)
-made_more ts us among _ (is_negation t a) = is_negation t (made_more ts us among t a)
-
--- so lemmas over some are lemmas over more
-pub lemma_more : (ts us : List Term) → AreAmong ts us → (n : ℕ) (x : Inference) → IsLemma ts n x → IsLemma us n x
-lemma_more ts us among n («assumption» t) i = absurd i
-lemma_more ts us among n (by_rule r ps arguments c) i = (i.0, λ k d lt. made_more ts us among (get_or c k d) (i.1 k d lt))
 
 -- the terms of a search are those that it speaks of
 pub spoken : (t : TableView) (x : Search) (problem : Problem) → IsSearch t problem x → AreAmong (clause_at t x.terms.items) (whole_terms problem)
@@ -78,7 +65,7 @@ module _ (t u : TableView) (g : Extends t u) (declared : declared_in u ≡ decla
   atoms_kept terms atoms h = record {
     there = λ k d lt. term_kept (get_or terms k d) (h.there k d lt);
     closed = subst IsClosed (sym (clause_at-kept t u g terms (numbers_in terms h.there))) h.closed;
-    rising = h.rising;
+    once = h.once;
     chosen = record {
       each = λ id i a. h.chosen.each id i (atom_back id (All-contains (IsTermIn t) terms id h.there i).0 a);
       among = h.chosen.among;
@@ -93,7 +80,7 @@ module _ (t u : TableView) (g : Extends t u) (declared : declared_in u ≡ decla
         there = λ k d lt. term_kept (get_or ids k d) (h.there k d lt);
         each = subst (AreAmong (whole_terms problem)) same h.each;
         only = subst (λ (ts : List Term). AreAmong ts (whole_terms problem)) same h.only;
-        rising = h.rising;
+        once = h.once;
       }
 
   -- with lemmas in the log, and so many literals held by the theory
@@ -128,6 +115,10 @@ module _ (t u : TableView) (g : Extends t u) (declared : declared_in u ≡ decla
       derived : HasDerived problem (derivation_in t x.log ++ map (inference_of u) more) (images t x.store.clauses) (images t x.budget.learned)
       derived = derived_lemmas problem (derivation_in t x.log) (images t x.store.clauses) (images t x.budget.learned) s.derived (map (inference_of u) more) (subst IsDerivation is right.right) lemmas_of
 
+      whole : HasWholeClauses problem (derivation_in t x.log ++ map (inference_of u) more) (images t x.store.clauses)
+      whole = subst (HasWholeClauses problem (derivation_in t x.log ++ map (inference_of u) more)) (append-nil (images t x.store.clauses))
+          (whole_on problem (derivation_in t x.log) (map (inference_of u) more) (images t x.store.clauses) [] s.whole)
+
       pub search_grown : IsSearch u problem (record x { log = log; fed = n })
       search_grown =
           record {
@@ -141,10 +132,12 @@ module _ (t u : TableView) (g : Extends t u) (declared : declared_in u ≡ decla
             derived = subst (λ (e : Derivation). HasDerived problem e (images u x.store.clauses) (images u x.budget.learned)) (sym is)
                 (subst (λ (cs : List (List Literal)). HasDerived problem (derivation_in t x.log ++ map (inference_of u) more) cs (images u x.budget.learned)) (sym (images_kept t u g x.store.clauses stored_in))
                 (subst (λ (ls : List (List Literal)). HasDerived problem (derivation_in t x.log ++ map (inference_of u) more) (images t x.store.clauses) ls) (sym (images_kept t u g x.budget.learned r.learned)) derived));
+            whole = subst (λ (e : Derivation). HasWholeClauses problem e (images u x.store.clauses)) (sym is)
+                (subst (HasWholeClauses problem (derivation_in t x.log ++ map (inference_of u) more)) (sym (images_kept t u g x.store.clauses stored_in)) whole);
           }
 
     pub continues_grown : All (λ (l : Logged). IsLemma (clause_at t x.terms.items) (length x.log) (inference_of u l)) more → Continues t u x (record x { log = log; fed = n })
-    continues_grown lemmas = record { table = g; declared = declared; limit = refl; vars = refl; terms = refl; search = search_grown lemmas }
+    continues_grown lemmas = record { table = g; declared = declared; limit = refl; more = []; learned = sym (append-nil x.budget.learned); vars = refl; terms = refl; search = search_grown lemmas }
 
   -- with terms alone
   module _ (x : Search) (right : IsLogOf u x.log) (same : derivation_in u x.log ≡ derivation_in t x.log) (r : SearchFits t x) where
@@ -154,18 +147,7 @@ module _ (t u : TableView) (g : Extends t u) (declared : declared_in u ≡ decla
     pub continues_wider : Continues t u x x
     continues_wider = continues_grown x x.fed x.log [] (sym (append-nil x.log)) right same r (λ k e lt. absurd (omega (arith, lt)))
 
-    pub begins_wider : (problem : Problem) (limits : Limits) → BeginsSearch t problem limits x → BeginsSearch u problem limits x
-    begins_wider problem limits b = record {
-      ready = ready_wider;
-      empty = b.empty;
-      level = b.level;
-      fed = b.fed;
-      search = continues_wider.search problem b.search;
-      limit_is = b.limit_is;
-      unspent = b.unspent;
-    }
-
--- where lemmas over its terms came into the log, a search goes on, and begins still
+-- where lemmas over its terms came into the log, a search goes on
 module _ (t u : TableView) (x : Search) (r : SearchFits t x) (log : List Logged) (came : DerivesLemmas (clause_at t x.terms.items) (record { table = t; log = x.log }) (record { table = u; log = log })) where
   same_before : derivation_in u x.log ≡ derivation_in t x.log
   same_before = grown_same t u x.log r.right came.table
@@ -173,13 +155,5 @@ module _ (t u : TableView) (x : Search) (r : SearchFits t x) (log : List Logged)
   pub continues_derived : Continues t u x (record x { log = log })
   continues_derived = continues_grown t u came.table came.declared x x.fed log came.more came.log came.right same_before r came.lemmas
 
-  pub begins_derived : (problem : Problem) (limits : Limits) → BeginsSearch t problem limits x → BeginsSearch u problem limits (record x { log = log })
-  begins_derived problem limits b = record {
-    ready = ready_grown t u came.table came.declared x x.fed log came.more came.log came.right same_before r;
-    empty = b.empty;
-    level = b.level;
-    fed = b.fed;
-    search = continues_derived.search problem b.search;
-    limit_is = b.limit_is;
-    unspent = b.unspent;
-  }
+  pub ready_derived : SearchFits u (record x { log = log })
+  ready_derived = ready_grown t u came.table came.declared x x.fed log came.more came.log came.right same_before r

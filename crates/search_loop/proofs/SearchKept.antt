@@ -1,7 +1,8 @@
--- That a search begins still with the clause of a step of its log in the store.
-use Rattle.std.proofs.Common.{◌≡◌, ◌<◌, List, [], ◌∷◌, ◌++◌, length, get_or, map, All, Contains, inl, inr, refl, sym, ap, ◌∙◌, subst, arith}
-use Rattle.std.proofs.lemmas.List.{length-map, map-append}
-use Rattle.std.proofs.lemmas.List.Elements.{All-contains, All-push, Contains-get_or, Contains-push_cases}
+-- That a search goes on with the clause of a step of its log in the store.
+use Rattle.std.proofs.Common.{◌≡◌, ℕ, ◌<◌, List, [], ◌∷◌, ◌++◌, length, get_or, map, All, Contains, inl, inr, refl, sym, ap, ◌∙◌, subst, arith}
+use Rattle.std.specs.Prelude.{None}
+use Rattle.std.proofs.lemmas.List.{append-nil, length-map, map-append}
+use Rattle.std.proofs.lemmas.List.Elements.{All-contains, All-push, Contains-append_left, Contains-get_or, Contains-push_cases}
 use Rattle.spec_text.proofs.Members.{to_image}
 use Rattle.spec_sorts.specs.Literals.{Literal, literals_of}
 use Rattle.spec_derivations.specs.Problems.{Problem}
@@ -11,7 +12,7 @@ use Rattle.term_core.specs.declared.ids.Lit.{Lit}
 use Rattle.term_core.specs.Tables.{TableView, IsIn, literal_at}
 use Rattle.term_core.proofs.TermsExtend.{Extends-self}
 use Rattle.clause_literals.specs.Literals.{lit_complement}
-use Rattle.sat_budget.specs.declared.limits.Limits.{Limits}
+use Rattle.sat_trail.specs.Trails.{IsLeveled}
 use Rattle.proof_log.specs.declared.premises.StepId.{StepId}
 use Rattle.proof_log.specs.Logs.{derivation_in}
 use Rattle.proof_log.specs.Clashes.{IsClash}
@@ -21,7 +22,7 @@ use Rattle.clause_store.specs.Propagating.{AreImplied}
 use Rattle.search_loop.specs.declared.search.Search.{Search}
 use Rattle.search_loop.specs.Waiting.{AreOfAtoms}
 use Rattle.search_loop.specs.Search.{images, AreCovered, SearchFits}
-use Rattle.search_loop.specs.Rounds.{HasDerived, IsSearch, BeginsSearch, Continues}
+use Rattle.search_loop.specs.Rounds.{HasDerived, IsSearch, Continues}
 use Rattle.search_loop.proofs.SearchStored.{derives_with}
 use Rattle.search_loop.proofs.SearchLogs.{derived_stored}
 
@@ -46,15 +47,22 @@ module _ (t : TableView) (x : Search) (r : SearchFits t x) (step : StepId) (held
       let m = get_or a.clause k e in
       All-contains (λ (id : TermId). id.0 < x.trail.vars) x.terms.items m.term r.variables (r.atoms_are.chosen.among m.term (atom_of m (Contains-get_or a.clause k e lt)))
 
-  -- what the search has fits together
-  pub ready_kept : x.trail.literals ≡ [] → HasSeen s x.trail → AreImplied s x.trail → SearchFits t (record x { store = s })
-  ready_kept empty seen implied = record {
+  -- at level 0 no literal is decided
+  undecided : IsLeveled x.trail → x.trail.level ≡ 0 → (p : ℕ) → p < length x.trail.literals → get_or x.trail.reasons p None ≡ None → ⊥
+  undecided leveled level p lt none = omega (arith, leveled.topped p lt, leveled.decided p lt none, level)
+
+  -- what the search has fits together, where there is no decision yet
+  pub ready_kept : IsLeveled x.trail → x.trail.level ≡ 0 → HasSeen s x.trail → AreImplied s x.trail → SearchFits t (record x { store = s })
+  ready_kept leveled level seen implied = record {
     right = r.right;
     derives = derives_with t x.log step x.store s r.derives a clash.in_log;
     known = subst (All (All (λ (m : Lit). m.term.0 < x.trail.vars))) (sym a.clauses) (All-push (All (λ (m : Lit). m.term.0 < x.trail.vars)) x.store.clauses a.clause r.known known_of);
     seen = seen;
     implied = implied;
-    decided = record { quiet = λ p lt none. absurd (omega (arith, lt, ap length empty)); of_atoms = λ p lt none. absurd (omega (arith, lt, ap length empty)) };
+    decided = record {
+      quiet = λ p lt none. absurd (undecided leveled level p lt none);
+      of_atoms = λ p lt none. absurd (undecided leveled level p lt none);
+    };
     atoms_are = r.atoms_are;
     variables = r.variables;
     covered = subst (AreCovered x.atoms.items) (sym a.clauses) covers;
@@ -68,6 +76,10 @@ module _ (t : TableView) (x : Search) (r : SearchFits t x) (step : StepId) (held
   image = ap (images t) a.clauses ∙ map-append (map (literal_at t)) x.store.clauses (a.clause ∷ [])
       ∙ ap (λ (c : List Literal). images t x.store.clauses ++ c ∷ []) (a.means.same ∙ ap literals_of (sym (conclusion_there t x.log step clash.in_log)))
 
+  still : (c : List Literal) → Contains (images t x.store.clauses) c → Contains (images t s.clauses) c
+  still c i = subst (λ (cs : List (List Literal)). Contains cs c) (sym image)
+      (Contains-append_left (images t x.store.clauses) (literals_of (conclusion_at (derivation_in t x.log) step.0) ∷ []) c i)
+
   search_kept : (problem : Problem) → IsSearch t problem x → IsSearch t problem (record x { store = s })
   search_kept problem z = record {
     roots = z.roots;
@@ -79,20 +91,9 @@ module _ (t : TableView) (x : Search) (r : SearchFits t x) (step : StepId) (held
     listed = z.listed;
     derived = subst (λ (cs : List (List Literal)). HasDerived problem (derivation_in t x.log) cs (images t x.budget.learned)) (sym image)
         (derived_stored problem (derivation_in t x.log) (images t x.store.clauses) (images t x.budget.learned) z.derived step.0 (rw length-map clash.in_log));
+    whole = record { base = λ c i. still (literals_of c) (z.whole.base c i); stated = z.whole.stated };
   }
 
   -- it goes on
   pub continues_kept : Continues t t x (record x { store = s })
-  continues_kept = record { table = Extends-self t; declared = refl; limit = refl; vars = refl; terms = refl; search = search_kept }
-
-  -- and begins still
-  pub begins_kept : HasSeen s x.trail → AreImplied s x.trail → (problem : Problem) (limits : Limits) → BeginsSearch t problem limits x → BeginsSearch t problem limits (record x { store = s })
-  begins_kept seen implied problem limits b = record {
-    ready = ready_kept b.empty seen implied;
-    empty = b.empty;
-    level = b.level;
-    fed = b.fed;
-    search = search_kept problem b.search;
-    limit_is = b.limit_is;
-    unspent = b.unspent;
-  }
+  continues_kept = record { table = Extends-self t; declared = refl; limit = refl; more = []; learned = sym (append-nil x.budget.learned); vars = refl; terms = refl; search = search_kept }

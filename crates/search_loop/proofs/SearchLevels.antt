@@ -1,15 +1,18 @@
 -- What is before the decision of a level, and what does not.
-use Rattle.std.proofs.Common.{◌≡◌, ℕ, ◌-◌, ◌<◌, ◌≤◌, List, length, get_or, take, Contains, inl, inr, sym, ap, ◌∙◌, arith}
-use Rattle.std.specs.Prelude.{None}
+use Rattle.std.proofs.Common.{◌≡◌, ℕ, ◌-◌, ◌<◌, ◌≤◌, List, length, get_or, take, Contains, inl, inr, sym, ap, ◌∙◌, subst, arith}
+use Rattle.std.specs.Prelude.{Option, None}
 use Rattle.std.proofs.lemmas.Bool.{cases_lt}
-use Rattle.std.proofs.lemmas.List.{get_or_default}
+use Rattle.std.proofs.lemmas.List.{get_or_default, take-take, get_or-take, length-take-le}
+use Rattle.term_core.specs.declared.ids.TermId.{TermId}
 use Rattle.term_core.specs.declared.ids.Lit.{Lit}
 use Rattle.clause_literals.specs.Literals.{lit_complement, IsConsistent}
 use Rattle.clause_literals.specs.Statuses.{PropagatesNothing}
-use Rattle.sat_trail.specs.Trails.{TrailView, no_lit, VariablesAreApart, IsLeveled}
+use Rattle.sat_trail.specs.Trails.{TrailView, no_lit, VariablesAreApart, IsLeveled, IsCutTo}
+use Rattle.clause_store.specs.Propagating.{IsPropagated}
 use Rattle.conflict_learn.specs.Conflicts.{IsFalseAt}
 use Rattle.conflict_learn.specs.Learned.{HasOneAt}
 use Rattle.conflict_learn.proofs.Places.{early_place, same_place, one_level}
+use Rattle.search_loop.specs.Search.{AreDecided}
 use Rattle.search_loop.proofs.SearchLists.{in_front}
 
 module _ (v : TrailView) (once : VariablesAreApart v.literals) (leveled : IsLeveled v) where
@@ -81,3 +84,27 @@ module _ (v : TrailView) (once : VariablesAreApart v.literals) (leveled : IsLeve
             other_open = open_before x.0 level x.3 le;
           })
     ]
+
+-- that each decision was made at quiet stays where the literals of higher levels go
+pub decided_cut : (atoms : List TermId) (clauses : List (List Lit)) (a b : TrailView) (n : ℕ) → IsCutTo a n b → AreDecided atoms clauses a → AreDecided atoms clauses b
+decided_cut atoms clauses a b n x h = record {
+  quiet = λ p lt none. let small = early p lt in subst (IsPropagated clauses) (front p small) (h.quiet p (inside p small) (reason p small ∙ none));
+  of_atoms = λ p lt none.
+      let small = early p lt in
+      subst (λ (l : Lit). Contains atoms l.term) (literal p small) (h.of_atoms p (inside p small) (reason p small ∙ none));
+}
+  where
+    early : (p : ℕ) → p < length b.literals → p < x.kept
+    early p lt = omega (arith, lt, ap length x.literals, length-take-le x.kept a.literals x.within)
+
+    inside : (p : ℕ) → p < x.kept → p < length a.literals
+    inside p small = omega (arith, small, x.within)
+
+    front : (p : ℕ) → p < x.kept → take p a.literals ≡ take p b.literals
+    front p small = sym (take-take p x.kept a.literals (omega (arith, small))) ∙ ap (take p) (sym x.literals)
+
+    literal : (p : ℕ) → p < x.kept → get_or a.literals p no_lit ≡ get_or b.literals p no_lit
+    literal p small = sym (get_or-take x.kept a.literals p no_lit small) ∙ ap (λ (xs : List Lit). get_or xs p no_lit) (sym x.literals)
+
+    reason : (p : ℕ) → p < x.kept → get_or a.reasons p None ≡ get_or b.reasons p None
+    reason p small = sym (get_or-take x.kept a.reasons p None small) ∙ ap (λ (xs : List (Option ℕ)). get_or xs p None) (sym x.reasons)

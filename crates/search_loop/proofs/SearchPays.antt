@@ -1,5 +1,5 @@
 -- What a search pays for runs of exchanges, as literals come to be held, clauses are learned, and a table grows.
-use Rattle.std.proofs.Common.{◌≡◌, ◌≢◌, ◌+◌, ◌<◌, ◌≤◌, ℕ, suc, Bool, true, false, cond, filter, List, [], ◌∷◌, ◌++◌, length, map, get_or, take, drop, All, Contains, refl, sym, ap, ◌∙◌, subst, arith}
+use Rattle.std.proofs.Common.{◌≡◌, ◌≢◌, ◌+◌, ◌-◌, ◌<◌, ◌≤◌, ℕ, suc, Bool, true, false, cond, filter, List, [], ◌∷◌, ◌++◌, length, map, get_or, take, drop, All, AllPairs, Contains, refl, sym, ap, ◌∙◌, subst, arith}
 use Rattle.std.specs.Prelude.{Vec}
 use Rattle.std.specs.declared.alloc.Global.{Global}
 use Rattle.std.proofs.lemmas.List.{length-append, length-map, length-take-le, get_or-map, get_or-take, map-append, take-append-drop}
@@ -15,13 +15,15 @@ use Rattle.term_core.specs.declared.ids.TermId.{TermId}
 use Rattle.term_core.specs.declared.ids.Lit.{Lit}
 use Rattle.term_core.specs.Tables.{TableView, AreDifferent, Extends, IsIn, term_at, clause_at}
 use Rattle.term_core.proofs.TermsExtend.{term_at-kept, clause_at-kept}
-use Rattle.term_clauses.specs.SpokenTerms.{no_id, AreRising}
+use Rattle.term_clauses.specs.SpokenTerms.{no_id}
 use Rattle.sat_trail.specs.Trails.{no_lit, VariablesAreApart}
 use Rattle.proof_log.specs.Theories.{TheoryView, IsTermIn}
 use Rattle.search_loop.specs.declared.search.Search.{Search}
 use Rattle.search_loop.specs.Search.{SearchFits}
 use Rattle.search_loop.specs.Asking.{IsAsked}
-use Rattle.search_loop.specs.Paying.{counted_among, counted_held, atoms_of, paid}
+use Rattle.search_loop.specs.declared.cdcl.End.{End}
+use Rattle.search_loop.specs.declared.cdcl.End.TheVariants.{Saturated, Refuted, Stopped}
+use Rattle.search_loop.specs.Paying.{counted_among, counted_held, atoms_of, paid, paid_by, paid_at}
 use Rattle.search_loop.proofs.SearchReady.{all_of_atoms}
 
 -- what passes a test
@@ -56,6 +58,10 @@ moved_by false m k = refl
 behind_by : (b : Bool) (n k : ℕ) → cond b (suc (n + k)) (n + k) ≡ n + cond b (suc k) k
 behind_by true n k = omega arith
 behind_by false n k = refl
+
+-- one more than a sum
+pub sum_more : (u : Term) (n k : ℕ) → counted u (n + k) ≡ n + counted u k
+sum_more u n k = behind_by (is_arithmetic u) n k
 
 -- where one more is paid, one more is counted
 pub both_more : (u : Term) (m n before after : ℕ) → m + before ≡ n + after → counted u m + before ≡ n + counted u after
@@ -103,14 +109,15 @@ module _ (t : TableView) (differ : AreDifferent t.terms) where
       let number = differ l.term.0 m.term.0 (there l (Contains-get_or ls i no_lit il)) (there m (Contains-get_or ls j no_lit jl)) same in
       apart i j no_lit before jl (λ k. record { 0 = number k })
 
-  -- so are terms of rising numbers
-  pub terms_once : (ids : List TermId) → AreRising ids → All (IsIn t) ids → AreOnce (clause_at t ids)
-  terms_once ids rising there i j d before within e =
+  -- so are terms of different numbers
+  pub terms_once : (ids : List TermId) → AllPairs (λ (i j : TermId). i ≢ j) ids → All (IsIn t) ids → AreOnce (clause_at t ids)
+  terms_once ids once there i j d before within e =
       let jl : j < length ids = omega (arith, within, length-map ids (term_at t)) in
       let il : i < length ids = omega (arith, before, jl) in
       let same : term_at t (get_or ids i no_id) ≡ term_at t (get_or ids j no_id) =
       sym (get_or-map (term_at t) ids i no_id d il) ∙ e ∙ get_or-map (term_at t) ids j no_id d jl in
-      omega (arith, rising i j before jl, differ (get_or ids i no_id).0 (get_or ids j no_id).0 (there i no_id il) (there j no_id jl) same)
+      let number = differ (get_or ids i no_id).0 (get_or ids j no_id).0 (there i no_id il) (there j no_id jl) same in
+      once i j no_id before jl (λ k. record { 0 = number k })
 
   -- no more atoms are held than there are
   pub held_few : (ids : List TermId) → All (IsIn t) ids → (ls : List Lit) → VariablesAreApart ls → ((l : Lit) → Contains ls l → Contains ids l.term) → counted_held t ls ≤ counted_among t ids
@@ -132,20 +139,42 @@ apart_front k ls le apart i j d before within e =
 -- what is paid
 
 -- at the beginning
-pub paid_begun : (a l h : ℕ) → a ≤ paid a l h
-paid_begun a l h = omega arith
+pub paid_begun : (a l r h n : ℕ) → n ≤ paid a l r 0 → n ≤ paid a l r h
+paid_begun a l r h n le = omega (arith, le)
 
 -- where literals came to be held
-pub paid_more : (a l later before after held n m k : ℕ) → n ≤ paid a l before → m + before ≡ n + after → k ≤ m → later ≡ l → held ≡ after → k ≤ paid a later held
-paid_more a l later before after held n m k le e few is same = rw (is, same) (omega (arith, le, e, few))
+pub paid_more : (a l later r before after held n m k : ℕ) → n ≤ paid a l r before → m + before ≡ n + after → k ≤ m → later ≡ l → held ≡ after → k ≤ paid a later r held
+paid_more a l later r before after held n m k le e few is same = rw (is, same) (omega (arith, le, e, few))
 
 -- where a clause is learned after a conflict
-pub paid_learned : (a l later before after held n m k : ℕ) → n ≤ paid a l before → m + before ≡ n + after → after ≤ a → k ≤ suc m → later ≡ l + 1 → k ≤ paid a later held
-paid_learned a l later before after held n m k le e most few is = rw is (omega (arith, le, e, most, few))
+pub paid_learned : (a l later r before after held n m k : ℕ) → n ≤ paid a l r before → m + before ≡ n + after → after ≤ a → k ≤ suc m → later ≡ l + 1 → k ≤ paid a later r held
+paid_learned a l later r before after held n m k le e most few is = rw is (omega (arith, le, e, most, few))
 
--- and wherever a search ends
-pub paid_most : (a l later before after n m k : ℕ) → n ≤ paid a l before → m + before ≡ n + after → after ≤ a → k ≤ suc m → later ≡ l → k ≤ most_runs later a
-paid_most a l later before after n m k le e most few is = rw is (omega (arith, le, e, most, few))
+-- where nothing is found wrong, or a theory stops
+pub paid_quiet : (a b l later r before after n m k : ℕ) → n ≤ paid a l r before → m + before ≡ n + after → after ≤ a → k ≤ m → later ≡ l → b ≡ a → k ≤ paid b later r b
+paid_quiet a b l later r before after n m k le e most few is same = rw (is, same) (omega (arith, le, e, most, few))
+
+-- and where a search ends at a conflict
+pub paid_clash : (a b l later r before after n m k : ℕ) → n ≤ paid a l r before → m + before ≡ n + after → after ≤ a → k ≤ suc m → later ≡ l → b ≡ a → k ≤ 1 + paid b later r b
+paid_clash a b l later r before after n m k le e most few is same = rw (is, same) (omega (arith, le, e, most, few))
+
+pub paid_where : (t : TableView) (x : Search) (r k : ℕ) (end : End) → (end ≡ Saturated → ⊥) → k ≤ 1 + paid_by t x r (atoms_of t x) → k ≤ paid_at t x r end
+paid_where t x r k Saturated not le = absurd (not refl)
+paid_where t x r k (Refuted step) not le = le
+paid_where t x r k (Stopped reason) not le = le
+
+-- where a search grew no more often than there are atoms, the runs are few
+few_with : (l r k : ℕ) → 1 + paid (r + k) l r (r + k) ≤ most_runs l (r + k)
+few_with l r k = omega arith
+
+pub paid_few : (a l r : ℕ) → r ≤ a → 1 + paid a l r a ≤ most_runs l a
+paid_few a l r le =
+    let is : r + (a - r) ≡ a = omega (arith, le) in
+    subst (λ (b : ℕ). 1 + paid b l r b ≤ most_runs l b) is (few_with l r (a - r))
+
+-- where it grows by some atoms, what it holds is paid for by its growth
+pub paid_grown : (a b l r k n : ℕ) → n ≤ paid a l r a → b ≡ a + k → 1 ≤ k → n + k ≤ paid b l (r + 1) 0
+paid_grown a b l r k n le is some = rw is (omega (arith, le))
 
 -- of searches
 

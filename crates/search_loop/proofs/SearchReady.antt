@@ -25,7 +25,7 @@ use Rattle.search_loop.specs.Waiting.{AreOfAtoms, AreWaiting}
 use Rattle.search_loop.specs.Search.{AreAllOf, DerivesClauses, AreDecided, AreAtomsOf, AreCovered, SearchFits, conflict_of}
 use Rattle.search_loop.specs.Rounds.{IsNoted}
 use Rattle.search_loop.proofs.SearchLists.{means_one, of_kept}
-use Rattle.search_loop.proofs.SearchLevels.{leveled_before}
+use Rattle.search_loop.proofs.SearchLevels.{leveled_before, decided_cut}
 use Rattle.search_loop.proofs.SearchWaiting.{waiting_held}
 use Rattle.search_loop.proofs.SearchStored.{derives_same, implied_same, derives_with, derives_on, last_is, longer}
 use Rattle.search_loop.proofs.SearchDecisions.{decided_propagated, decided_more, decided_learned}
@@ -89,6 +89,24 @@ ready_decided t x v ws l n r pushed seen implied quiet of_atoms waiting size = r
   covered = r.covered;
   waiting = subst (λ (ls : List Lit). AreWaiting x.atoms.items ls ws) (sym pushed.literals) waiting;
   sized = size ∙ r.sized ∙ sym pushed.vars;
+  learned = r.learned;
+}
+
+-- the literals of higher levels went
+pub ready_cut : (t : TableView) (x : Search) (v : TrailView) (ws : List Bool) (k n : ℕ) → SearchFits t x → IsCutTo x.trail n v → HasSeen x.store v → AreImplied x.store v → AreWaiting x.atoms.items v.literals ws
+    → length ws ≡ length x.decider → SearchFits t (record x { trail = v; decider = ws; fed = k })
+ready_cut t x v ws k n r cut seen implied waiting size = record {
+  right = r.right;
+  derives = r.derives;
+  known = subst (λ (n : ℕ). All (All (λ (l : Lit). l.term.0 < n)) x.store.clauses) (sym cut.vars) r.known;
+  seen = seen;
+  implied = implied;
+  decided = decided_cut x.atoms.items x.store.clauses x.trail v n cut r.decided;
+  atoms_are = r.atoms_are;
+  variables = subst (λ (k : ℕ). All (λ (id : TermId). id.0 < k) x.terms.items) (sym cut.vars) r.variables;
+  covered = r.covered;
+  waiting = waiting;
+  sized = size ∙ r.sized ∙ sym cut.vars;
   learned = r.learned;
 }
 

@@ -1,5 +1,6 @@
 -- One round of a search after another, and that the rounds end.
-use Rattle.std.proofs.Common.{◌≡◌, ℕ, ◌+◌, ◌-◌, ◌*◌, ◌<◌, ◌≤◌, Bool, List, refl, sym, ap, ◌∙◌, subst, arith}
+use Rattle.std.proofs.Common.{◌≡◌, ℕ, ◌+◌, ◌-◌, ◌*◌, ◌<◌, ◌≤◌, Bool, List, [], ◌++◌, refl, sym, ap, ◌∙◌, subst, arith, append_assoc}
+use Rattle.std.proofs.lemmas.List.{append-nil}
 use Rattle.std.specs.Prelude.{Option, Some}
 use Rattle.term_core.specs.declared.ids.Lit.{Lit}
 use Rattle.term_core.specs.Tables.{TableView}
@@ -18,7 +19,7 @@ use Rattle.search_loop.specs.declared.cdcl.End.TheVariants.{Saturated, Refuted, 
 use Rattle.search_loop.specs.Asking.{state, ResolvesConflict, EndsSearch}
 use Rattle.proof_log.specs.Theories.{TheoryView}
 use Rattle.search_loop.specs.Search.{images}
-use Rattle.search_loop.specs.Rounds.{HasDerived, Continues, ShowsAnswer}
+use Rattle.search_loop.specs.Rounds.{HasDerived, HasWholeClauses, Continues, ShowsAnswer}
 use Rattle.search_loop.proofs.SearchReady.{Ids}
 
 -- the log, the clauses and what was learned are the same
@@ -27,6 +28,8 @@ continues_same t x y log clauses budget vars terms = record {
   table = Extends-self t;
   declared = refl;
   limit = ap (λ (b : BudgetView). b.limit) budget;
+  more = [];
+  learned = ap (λ (b : BudgetView). b.learned) budget ∙ sym (append-nil x.budget.learned);
   vars = vars;
   terms = terms;
   search = λ problem s. record {
@@ -40,6 +43,8 @@ continues_same t x y log clauses budget vars terms = record {
     derived = subst (λ (l : List Logged). HasDerived problem (derivation_in t l) (images t y.store.clauses) (images t y.budget.learned)) (sym log)
         (subst (λ (cs : List (List Lit)). HasDerived problem (derivation_in t x.log) (images t cs) (images t y.budget.learned)) (sym clauses)
         (subst (λ (b : BudgetView). HasDerived problem (derivation_in t x.log) (images t x.store.clauses) (images t b.learned)) (sym budget) s.derived));
+    whole = subst (λ (l : List Logged). HasWholeClauses problem (derivation_in t l) (images t y.store.clauses)) (sym log)
+        (subst (λ (cs : List (List Lit)). HasWholeClauses problem (derivation_in t x.log) (images t cs)) (sym clauses) s.whole);
   };
 }
 
@@ -49,6 +54,8 @@ continues_on s t u a b c h k = record {
   table = Extends-trans s t u h.table k.table;
   declared = k.declared ∙ h.declared;
   limit = k.limit ∙ h.limit;
+  more = h.more ++ k.more;
+  learned = k.learned ∙ ap (λ (ls : List (List Lit)). ls ++ k.more) h.learned ∙ append_assoc a.budget.learned h.more k.more;
   vars = k.vars ∙ h.vars;
   terms = k.terms ∙ h.terms;
   search = λ problem x. k.search problem (h.search problem x);

@@ -1,15 +1,16 @@
 -- That answers show what they should of the problem that the search is asked.
-use Rattle.std.proofs.Common.{◌≡◌, ℕ, List, [], ◌∷◌, ◌++◌, length, get_or, map, All, Contains, refl, sym, ap, ◌∙◌, subst, arith}
+use Rattle.std.proofs.Common.{◌≡◌, ℕ, List, [], ◌∷◌, ◌++◌, length, get_or, map, All, Contains, inr, refl, sym, ap, ◌∙◌, subst, arith}
 use Rattle.std.proofs.lemmas.List.{length-map, map-append}
 use Rattle.std.proofs.lemmas.List.Elements.{All-map, Contains-get_or}
 use Rattle.spec_text.specs.Trees.{none as no_texts}
 use Rattle.spec_text.proofs.Members.{to_image}
-use Rattle.spec_sorts.specs.Literals.{Clause, Literal, literals_of}
+use Rattle.spec_sorts.specs.Literals.{Clause, Literal, complement, literals_of}
 use Rattle.spec_proofs.specs.declared.Rule.TheVariants.{Resolution}
 use Rattle.spec_derivations.specs.Problems.{Problem, terms_of_problem}
 use Rattle.spec_derivations.specs.Derivations.{Inference, Derivation, by_rule, conclusion_at, IsDerivation, AssumesAmong, IsDerivedFrom}
-use Rattle.spec_derivations.specs.Base.{base_clauses}
-use Rattle.spec_derivations.specs.Orders.{whole_terms}
+use Rattle.spec_derivations.specs.Orders.{whole_terms, whole_clauses, first_clauses}
+use Rattle.spec_derivations.specs.ExactChains.{IsExactFrom, AreExactResolvents}
+use Rattle.spec_derivations.specs.Inputs.{IsInput}
 use Rattle.spec_derivations.specs.Learned.{IsNew}
 use Rattle.spec_derivations.specs.Spent.{IsConflict, IsAtomOf, IsOverAtoms, IsLearnedFrom, AreLearned}
 use Rattle.term_core.specs.declared.ids.TermId.{TermId}
@@ -30,20 +31,25 @@ use Rattle.search_loop.specs.declared.search.Search.{Search}
 use Rattle.search_loop.specs.declared.cdcl.Answer.{Answer}
 use Rattle.search_loop.specs.declared.cdcl.Answer.TheVariants.{Unsat, Unknown}
 use Rattle.search_loop.specs.Search.{images, SearchFits, conflict_of}
-use Rattle.search_loop.specs.Rounds.{HasDerived, HasSteps, IsSearch, HasEvidence, HasLogged, IsLearning, IsNoted, ShowsAnswer}
+use Rattle.search_loop.specs.Rounds.{HasDerived, HasWholeClauses, HasSteps, IsSearch, HasEvidence, HasLogged, IsLearning, IsNoted, ShowsAnswer}
 use Rattle.search_loop.proofs.SearchLists.{lits_kept, images_kept}
 use Rattle.search_loop.proofs.SearchReady.{Ids, atom_in, clauses_in, false_at, atom_of, clause_is}
-use Rattle.search_loop.proofs.SearchLogs.{all_back, steps_more, among_more, last_derived, last_concludes, derived_kept, derived_more}
+use Rattle.search_loop.proofs.SearchLogs.{all_back, stated_on, whole_on, steps_more, among_more, last_derived, last_concludes, derived_kept, exact_kept, exact_given, derived_more}
 use Rattle.search_loop.proofs.SearchConflicts.{atom_of as atom_there, one_is_new}
 use Rattle.search_loop.proofs.SearchGrown.{listed_kept, continues_wider}
 
+-- what is derived may be learned
+pub derived_shows : (t : TableView) (problem : Problem) (log : List Logged) (cs : List (List Literal)) (learned : List (List Lit)) (a : Answer) → IsLogOf t log → HasDerived problem (derivation_in t log) cs (images t learned) → HasLogged problem (derivation_in t log) a (images t learned) → IsLearning t problem log a learned
+derived_shows t problem log cs learned a right h logged = record {
+  assumes = all_back (inference_of t) (AssumesAmong (terms_of_problem problem)) log h.assumes;
+  learns = record { right = right.right; derived = h.derived; atoms = h.atoms; new = h.new; exact = h.exact };
+  logged = logged;
+}
+
 -- what was learned may be learned, where the log stays as it is
 pub learning_shows : (t : TableView) (problem : Problem) (x : Search) (a : Answer) → (HasSteps problem (derivation_in t x.log) (images t x.budget.learned) → HasLogged problem (derivation_in t x.log) a (images t x.budget.learned)) → IsLogOf t x.log → IsSearch t problem x → IsLearning t problem x.log a x.budget.learned
-learning_shows t problem x a steps right s = record {
-  assumes = all_back (inference_of t) (AssumesAmong (terms_of_problem problem)) x.log s.derived.assumes;
-  learns = record { right = right.right; derived = s.derived.derived; atoms = s.derived.atoms; new = s.derived.new };
-  logged = steps s.derived.steps_made;
-}
+learning_shows t problem x a steps right s =
+    derived_shows t problem x.log (images t x.store.clauses) x.budget.learned a right s.derived (steps (record { each = s.whole.stated; steps = s.derived.steps }))
 
 -- where the budget is spent at a further conflict, the answer shows it
 pub unknown_shows : (t : TableView) (problem : Problem) (x : Search) (n : ℕ) → IsLogOf t x.log → IsSearch t problem x → length x.budget.learned ≡ x.budget.limit → n ≡ x.budget.limit → IsConflict problem (derivation_in t x.log) (images t x.budget.learned)
@@ -87,10 +93,14 @@ unsat_shows t x y clash id budget l problem s =
           derived = subst (λ e. All (IsLearnedFrom problem e) ls) (sym is) (derived_kept problem d cs ls h ps c right);
           atoms = h.atoms;
           new = h.new;
+          exact = subst (λ e. AreExactResolvents complement (IsInput problem e) ls) (sym is) (exact_kept problem d cs ls h ps c right);
         });
         logged = subst (λ k. HasSteps problem (derivation_in t y.log) (k ++ [] ∷ [])) (sym learned)
             (subst (λ e. HasSteps problem e (ls ++ [] ∷ [])) (sym is)
-            (subst (λ (k : List Literal). HasSteps problem (d ++ by_rule Resolution ps no_texts c ∷ []) (ls ++ k ∷ [])) (ap literals_of empty) (steps_more problem d ls ps c h.steps_made)));
+            (subst (λ (k : List Literal). HasSteps problem (d ++ by_rule Resolution ps no_texts c ∷ []) (ls ++ k ∷ [])) (ap literals_of empty) (record {
+              each = stated_on (whole_clauses problem) d (by_rule Resolution ps no_texts c ∷ []) s.whole.stated;
+              steps = steps_more problem d cs ls h ps c right (inr empty);
+            })));
       },
     )
 
@@ -124,20 +134,24 @@ module _ (t u : TableView) (g : Extends t u) (differ : AreDifferent t.terms) (de
     atoms : All (λ (z : Literal). IsAtomOf problem z.atom) (map (literal_at t) d.clause)
     atoms = All-map (λ (z : Literal). IsAtomOf problem z.atom) (literal_at t) d.clause (λ k e lt.
         let f = false_at t u x r clash log d l (get_or d.clause k e) (Contains-get_or d.clause k e lt) in
-        atom_there t differ x r once leveled consistent problem (derivation_in t x.log) (images t x.budget.learned) h (get_or d.clause k e) f.0 f.1 spoken f.2)
+        atom_there t differ x r once leveled consistent problem (derivation_in t x.log) (images t x.budget.learned) h s.whole (get_or d.clause k e) f.0 f.1 spoken f.2)
 
     right : IsDerivation (derivation_in t x.log ++ inference ∷ [])
     right = subst IsDerivation is l.logged.right.right
 
-    is_new : IsNew (map literals_of (base_clauses problem) ++ images t x.budget.learned) (literals_of clause)
-    is_new = subst (IsNew (map literals_of (base_clauses problem) ++ images t x.budget.learned)) (sym literals_are)
-        (one_is_new t differ x r once leveled consistent problem (derivation_in t x.log) (images t x.budget.learned) h d.clause l.level d.level l.one l.above)
+    is_new : IsNew (map literals_of (first_clauses problem) ++ images t x.budget.learned) (literals_of clause)
+    is_new = subst (IsNew (map literals_of (first_clauses problem) ++ images t x.budget.learned)) (sym literals_are)
+        (one_is_new t differ x r once leveled consistent problem (derivation_in t x.log) (images t x.budget.learned) h s.whole d.clause l.level d.level l.one l.above)
 
     over_atoms : IsOverAtoms problem (literals_of clause)
     over_atoms = subst (IsOverAtoms problem) (sym literals_are) atoms
 
+    -- what it is from, is the same in the table that grew
+    exact : IsExactFrom (derivation_in t x.log) inference
+    exact = subst (λ (e : Derivation). IsExactFrom e inference) same l.exact
+
     more : HasDerived problem (derivation_in t x.log ++ inference ∷ []) (images t x.store.clauses ++ literals_of clause ∷ []) (images t x.budget.learned ++ literals_of clause ∷ [])
-    more = derived_more problem (derivation_in t x.log) (images t x.store.clauses) (images t x.budget.learned) h (numbers_of l.logged.premises) clause right is_new over_atoms
+    more = derived_more problem (derivation_in t x.log) (images t x.store.clauses) (images t x.budget.learned) h (numbers_of l.logged.premises) clause right is_new over_atoms exact
 
     -- so one clause more could be learned
     pub is_conflict : IsConflict problem (derivation_in t x.log) (images t x.budget.learned)
@@ -153,6 +167,7 @@ module _ (t u : TableView) (g : Extends t u) (differ : AreDifferent t.terms) (de
           derived = record { number = length d; derived = last_derived problem d cs ls h ps clause right; same = ap literals_of (last_concludes problem d cs ls h ps clause right) };
           atoms = over_atoms;
           new = is_new;
+          exact = exact_given problem d cs ls h ps clause right exact;
         }
 
   -- which shows that the budget is spent at a further conflict
@@ -193,4 +208,7 @@ module _ (t u : TableView) (g : Extends t u) (differ : AreDifferent t.terms) (di
             (sym (last_image x.store.clauses y.store.clauses stored_in (a.clauses ∙ ap (λ (c : List Lit). x.store.clauses ++ c ∷ []) (clause_is t u g differ_then x y r clash d l noted a))))
             (subst (λ (ls : List (List Literal)). HasDerived problem e (images t x.store.clauses ++ literals_of learned_clause ∷ []) ls)
             (sym (last_image x.budget.learned y.budget.learned r.learned (ap (λ b. b.learned) noted))) (more t u g differ declared x r once leveled consistent same clash y.log d l problem s)));
+        whole = subst (λ (f : Derivation). HasWholeClauses problem f (images u y.store.clauses)) (sym (is t u g differ declared x r once leveled consistent same clash y.log d l))
+            (subst (HasWholeClauses problem e) (sym (last_image x.store.clauses y.store.clauses stored_in (a.clauses ∙ ap (λ (c : List Lit). x.store.clauses ++ c ∷ []) (clause_is t u g differ_then x y r clash d l noted a))))
+            (whole_on problem (derivation_in t x.log) (by_rule Resolution (numbers_of l.logged.premises) no_texts learned_clause ∷ []) (images t x.store.clauses) (literals_of learned_clause ∷ []) s.whole));
       }

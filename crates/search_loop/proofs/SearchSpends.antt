@@ -1,6 +1,6 @@
 -- That a search is the same where a theory made exchanges of its budget, and what is shown of a theory's stop.
 use Rattle.std.specs.Prelude.{◌≡◌, Result, Ok, Err, IfErr, IsErrAnd}
-use Rattle.std.proofs.Common.{ℕ, List, [], refl, sym, ap, subst}
+use Rattle.std.proofs.Common.{ℕ, List, [], refl, sym, ap, ◌∙◌, subst}
 use Rattle.std.proofs.lemmas.List.{append-nil}
 use Rattle.term_core.specs.declared.ids.Lit.{Lit}
 use Rattle.term_core.specs.Tables.{TableView}
@@ -43,6 +43,8 @@ module _ (t : TableView) (x : Search) (b : BudgetView) (spends : Spends x.budget
     table = Extends-self t;
     declared = refl;
     limit = ap (λ (y : BudgetView). y.limit) spends.1;
+    more = [];
+    learned = ap (λ (y : BudgetView). y.learned) spends.1 ∙ sym (append-nil x.budget.learned);
     vars = refl;
     terms = refl;
     search = λ problem s. record {
@@ -55,6 +57,7 @@ module _ (t : TableView) (x : Search) (b : BudgetView) (spends : Spends x.budget
       listed = s.listed;
       derived = subst (λ (ls : List (List Lit)). HasDerived problem (derivation_in t x.log) (images t x.store.clauses) (images t ls))
           (sym (ap (λ (y : BudgetView). y.learned) spends.1)) s.derived;
+      whole = s.whole;
     };
   }
 
@@ -72,6 +75,16 @@ came_handed_on P Q S T (Err s) e is f h = subst (λ (stop : Stop). CameTo (let q
     by : (e : Stop) → CameTo (let q : Result _ Stop = Err e in q) P S → CameTo (let q : Result _ Stop = Err e in q) Q T
     by (Strained s) h = f h
     by Memory h = tt
+
+-- and what follows of what is so where a theory stopped
+pub came_on_stop : {A B : Type 0} (P : A → Type 0) (Q : B → Type 0) (S T H : Type 0) (r : Result B Stop) (e : Stop) → IsErrAnd r (λ s. s ≡ e) → OnStop H e → (H → S → T)
+    → CameTo (let q : Result A Stop = Err e in q) P S → CameTo r Q T
+came_on_stop P Q S T H (Ok x) e is so f h = absurd is
+came_on_stop P Q S T H (Err s) e is so f h = subst (λ (stop : Stop). CameTo (let q : Result _ Stop = Err stop in q) Q T) (sym is) (by e so h)
+  where
+    by : (e : Stop) → OnStop H e → CameTo (let q : Result _ Stop = Err e in q) P S → CameTo (let q : Result _ Stop = Err e in q) Q T
+    by (Strained s) so h = f so h
+    by Memory so h = tt
 
 -- and where memory runs out nothing is stated of it
 pub came_at_memory : {A : Type 0} (P : A → Type 0) (S : Type 0) (r : Result A Stop) → IsErrAnd r (λ s. s ≡ Memory) → CameTo r P S

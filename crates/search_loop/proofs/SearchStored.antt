@@ -2,7 +2,7 @@
 use Rattle.std.proofs.Common.{◌≡◌, ℕ, ◌+◌, ◌<◌, ◌≤◌, List, [], ◌∷◌, ◌++◌, length, get_or, take, Contains, inl, inr, sym, ap, ◌∙◌, subst, arith}
 use Rattle.std.specs.Prelude.{Some}
 use Rattle.std.proofs.lemmas.Bool.{cases_lt}
-use Rattle.std.proofs.lemmas.List.{length-append, get_or_append_left}
+use Rattle.std.proofs.lemmas.List.{length-append, get_or_append_left, append-nil, append_assoc}
 use Rattle.std.proofs.Math.Seq.{get_or-append_seam, take-append_seam}
 use Rattle.spec_sorts.specs.Literals.{literals_of}
 use Rattle.term_core.specs.declared.ids.TermId.{TermId}
@@ -13,10 +13,11 @@ use Rattle.clause_literals.specs.Statuses.{IsFalsified}
 use Rattle.clause_literals.specs.Literals.{LiteralsMean}
 use Rattle.proof_log.specs.declared.premises.StepId.{StepId}
 use Rattle.proof_log.specs.Logs.{Logged, named, logged_at, no_logged, IsLogOf}
-use Rattle.clause_store.specs.Stores.{StoreView, no_step, HasSameClauses, IsAdded}
+use Rattle.clause_store.specs.Stores.{StoreView, no_step, HasSameClauses, HasSeen, IsAdded}
 use Rattle.clause_store.specs.Propagating.{AreImplied, IsClash}
 use Rattle.sat_trail.specs.Trails.{TrailView, no_lit}
 use Rattle.search_loop.specs.Search.{DerivesClauses}
+use Rattle.search_loop.specs.Growing.{StoresAll}
 use Rattle.search_loop.proofs.SearchLists.{of_kept, lits_kept}
 
 -- the clauses are the same
@@ -116,3 +117,40 @@ module _ (log new : List Logged) (x : Logged) (last : new ≡ log ++ x ∷ []) w
 -- a step that was put last is taken off
 pub log_back : (log new : List Logged) (x : Logged) (n : ℕ) → new ≡ log ++ x ∷ [] → n ≡ length log → (after : List Logged) → after ≡ take n new → after ≡ log
 log_back log new x n last is after e = e ∙ (λ i. take (is i) (last i)) ∙ take-append_seam log (x ∷ [])
+
+-- no clause came
+pub stores_none : (t : TableView) (log : List Logged) (s : StoreView) → StoresAll t log [] s s
+stores_none t log s = record {
+  more = [];
+  clauses = sym (append-nil s.clauses);
+  steps_are = sym (append-nil s.steps);
+  derives = λ h. h;
+  seen = λ v h. h;
+  implied = λ v paired h. h;
+}
+
+-- what is known of a clause that is added, of what was seen and of reasons
+abbrev StaysSeen : Type 0
+StaysSeen = (x : TableView) (log : List Logged) (id : StepId) (s n : StoreView) (v : TrailView) → HasSeen s v → IsAdded x log id s n → HasSeen n v
+
+abbrev StaysImplied : Type 0
+StaysImplied = (x : TableView) (log : List Logged) (id : StepId) (s n : StoreView) (v : TrailView) → length s.steps ≡ length s.clauses → AreImplied s v → IsAdded x log id s n → AreImplied n v
+
+-- there are as many steps and clauses, where there were
+abbrev pub StayPaired : StoreView → StoreView → Type 0
+StayPaired old new = length old.steps ≡ length old.clauses → length new.steps ≡ length new.clauses
+
+-- clauses came, and one more
+module _ (seen : StaysSeen) (implied : StaysImplied) (t : TableView) (log : List Logged) (steps : List StepId) (id : StepId) (a b c : StoreView) (in_log : id.0 < length log) (y : IsAdded t log id b c) where
+  pub pairs_more : StayPaired a b → StayPaired a c
+  pairs_more h p = omega (arith, ap length y.steps, ap length y.clauses, h p, length-append b.steps (id ∷ []), length-append b.clauses (y.clause ∷ []))
+
+  pub stores_more : StayPaired a b → StoresAll t log steps a b → StoresAll t log (steps ++ id ∷ []) a c
+  stores_more h s = record {
+    more = s.more ++ y.clause ∷ [];
+    clauses = y.clauses ∙ ap (λ (cs : List (List Lit)). cs ++ y.clause ∷ []) s.clauses ∙ append_assoc a.clauses s.more (y.clause ∷ []);
+    steps_are = y.steps ∙ ap (λ (xs : List StepId). xs ++ id ∷ []) s.steps_are ∙ append_assoc a.steps steps (id ∷ []);
+    derives = λ d. derives_with t log id b c (s.derives d) y in_log;
+    seen = λ v was. seen t log id b c v (s.seen v was) y;
+    implied = λ v p was. implied t log id b c v (h p) (s.implied v p was) y;
+  }

@@ -1,8 +1,8 @@
 -- How a theory keeps up with a trail: as literals come, with a decision, and where levels are taken back.
-use Rattle.std.proofs.Common.{◌≡◌, ℕ, zero, suc, ◌+◌, ◌-◌, ◌<◌, ◌≤◌, List, [], ◌∷◌, ◌++◌, length, get_or, take, All, Contains, inl, inr, refl, sym, ap, ◌∙◌, subst, arith}
+use Rattle.std.proofs.Common.{◌≡◌, ◌≢◌, ℕ, zero, suc, ◌+◌, ◌-◌, ◌<◌, ◌≤◌, List, [], ◌∷◌, ◌++◌, length, get_or, take, drop, All, AllPairs, Contains, inl, inr, refl, sym, ap, ◌∙◌, subst, arith}
 use Rattle.std.specs.Prelude.{Option, None}
 use Rattle.std.proofs.lemmas.Bool.{cases_lt}
-use Rattle.std.proofs.lemmas.List.{length-append, length-take-le, get_or_default, get_or_append_left, get_or-append-add, get_or-take, take-append-le, take-take, take_all}
+use Rattle.std.proofs.lemmas.List.{append_assoc, take_more, take-append-drop, length-append, length-take-le, get_or_default, get_or_append_left, get_or-append-add, get_or-take, take-append-le, take-take, take_all}
 use Rattle.std.proofs.lemmas.List.Elements.{All-nil, All-push, All-take}
 use Rattle.std.proofs.Math.Seq.{get_or-append_seam, take-length}
 use Rattle.term_core.specs.declared.ids.TermId.{TermId}
@@ -257,14 +257,20 @@ new_at ls once k lt i =
 abbrev pub watching : TheoryView → List TermId → TheoryView
 watching v ids = record { held = v.held; watched = ids; marks = v.marks }
 
--- a number of a place is none of those before it, where they rise
-pub rises_past : (ids : List TermId) → ((i j : ℕ) → i < j → j < length ids → (get_or ids i no_id).0 < (get_or ids j no_id).0) → (k : ℕ) → k < length ids → Contains (take k ids) (get_or ids k no_id) → ⊥
-rises_past ids rising k lt i =
-    let short : length (take k ids) ≡ k = length-take-le k ids (omega (arith, lt)) in
-    let early : i.0 < k = omega (arith, i.1, short) in
-    let same : get_or ids i.0 no_id ≡ get_or ids k no_id = sym (get_or-take k ids i.0 no_id early) ∙ sym (get_or_default (take k ids) i.0 (get_or ids k no_id) no_id i.1) ∙ i.2 in
-    let up = rising i.0 k early lt in
-    omega (arith, up, ap (λ (x : TermId). x.0) same)
+-- a number of a place is none of those before it, where none stands twice
+pub new_after : (before ids : List TermId) → AllPairs (λ (i j : TermId). i ≢ j) (before ++ ids) → (k : ℕ) → k < length ids → Contains (before ++ take k ids) (get_or ids k no_id) → ⊥
+new_after before ids once k lt i =
+    let id = get_or ids k no_id in
+    let front = before ++ take k ids in
+    let short : length front ≡ length before + k = length-append before (take k ids) ∙ ap (λ (n : ℕ). length before + n) (length-take-le k ids (omega (arith, lt))) in
+    let whole : front ++ drop k ids ≡ before ++ ids = append_assoc before (take k ids) (drop k ids) ∙ ap (λ (xs : List TermId). before ++ xs) (take-append-drop k ids) in
+    let early : get_or (before ++ ids) i.0 no_id ≡ id =
+    ap (λ (xs : List TermId). get_or xs i.0 no_id) (sym whole) ∙ get_or_append_left front (drop k ids) no_id i.0 i.1 ∙ sym (get_or_default front i.0 id no_id i.1) ∙ i.2 in
+    once i.0 (length before + k) no_id (omega (arith, i.1, short)) (omega (arith, length-append before ids, lt)) (early ∙ sym (get_or-append-add before ids k no_id))
+
+-- one term more, after those before
+pub watched_more : (before ids : List TermId) (k : ℕ) → k < length ids → (before ++ take k ids) ++ get_or ids k no_id ∷ [] ≡ before ++ take (k + 1) ids
+watched_more before ids k lt = append_assoc before (take k ids) (get_or ids k no_id ∷ []) ∙ ap (λ (xs : List TermId). before ++ xs) (sym (take_more ids k no_id lt))
 
 -- over all marks of levels above one
 pub went_back : (v w : TheoryView) (a : TrailView) (n m : ℕ) → KeepsUp v a → n < a.level → m ≡ a.level - n → w ≡ gone_back m v → w ≡ at_mark v n

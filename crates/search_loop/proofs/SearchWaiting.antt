@@ -14,7 +14,6 @@ use Rattle.sat_trail.specs.Trails.{TrailView, no_lit, HasValue, IsCutTo}
 use Rattle.clause_store.specs.Propagating.{IsPropagated}
 use Rattle.conflict_learn.proofs.Places.{early_place}
 use Rattle.variable_order.specs.Orders.{IsIn, IsEmpty, IsRemoved}
-use Rattle.term_clauses.specs.SpokenTerms.{no_id}
 use Rattle.search_loop.specs.Waiting.{IsAssigned, AreAssigned, AreWaiting, one_if, count}
 use Rattle.search_loop.specs.Search.{AreSatisfied, AreCovered}
 use Rattle.search_loop.proofs.SearchLists.{in_front}
@@ -147,34 +146,38 @@ waiting_cut atoms v after n place waiting cut within ends = waiting_held atoms (
     ]
 
 -- a variable more that does not wait
-pub none_more : (waiting : List Bool) → IsEmpty waiting → IsEmpty (waiting ++ false ∷ [])
-none_more waiting empty v i = elim (cases_lt v.0 (length waiting)) [
-  | inl lt ↦ empty v (sym (get_or_append_left waiting (false ∷ []) false v.0 lt) ∙ i)
-  | inr le ↦ elim (cases_eq v.0 (length waiting)) [
-    | inl e ↦ false≢true (sym (get_or_push waiting false false v.0 (sym e)) ∙ i)
-    | inr ne ↦ false≢true (sym (get_or_past (waiting ++ false ∷ []) v.0 false (omega (arith, length_push waiting false, le, ne))) ∙ i)
+module _ (waiting : List Bool) where
+  in_longer : (v : TermId) → IsIn waiting v → IsIn (waiting ++ false ∷ []) v
+  in_longer v i = get_or_append_left waiting (false ∷ []) false v.0 (waits_below waiting v i) ∙ i
+
+  in_shorter : (v : TermId) → IsIn (waiting ++ false ∷ []) v → IsIn waiting v
+  in_shorter v i = elim (cases_lt v.0 (length waiting)) [
+    | inl lt ↦ sym (get_or_append_left waiting (false ∷ []) false v.0 lt) ∙ i
+    | inr le ↦ elim (cases_eq v.0 (length waiting)) [
+      | inl e ↦ absurd (false≢true (sym (get_or_push waiting false false v.0 (sym e)) ∙ i))
+      | inr ne ↦ absurd (false≢true (sym (get_or_past (waiting ++ false ∷ []) v.0 false (omega (arith, length_push waiting false, le, ne))) ∙ i))
+    ]
   ]
-]
 
--- atoms wait at the beginning, one after the other
-pub waiting_none : (waiting : List Bool) → IsEmpty waiting → AreWaiting [] [] waiting
-waiting_none waiting empty = record { each = λ v m. absurd (none v m); only = λ v i. absurd (empty v i) }
+  pub waiting_longer : (atoms : List TermId) (held : List Lit) → AreWaiting atoms held waiting → AreWaiting atoms held (waiting ++ false ∷ [])
+  waiting_longer atoms held h = record {
+    each = λ v m. elim (h.each v m) [ inl i ↦ inl (in_longer v i) | inr x ↦ inr x ];
+    only = λ v i. h.only v (in_shorter v i);
+  }
 
-pub waiting_more : (atoms : List TermId) (k : ℕ) (waiting : List Bool) → k < length atoms → (get_or atoms k no_id).0 < length waiting
-    → AreWaiting (take k atoms) [] waiting → AreWaiting (take (k + 1) atoms) [] (set waiting (get_or atoms k no_id).0 true)
-waiting_more atoms k waiting lt known h = record {
-  each = λ v m. elim (Contains-push_cases (take k atoms) a v (subst (λ (xs : List TermId). Contains xs v) longer m)) [
+-- where there are no atoms, none waits
+pub waiting_none : (held : List Lit) → AreWaiting [] held []
+waiting_none held = record { each = λ v m. absurd (none v m); only = λ v i. absurd (omega (arith, waits_below [] v i)) }
+
+-- an atom more waits
+pub waiting_more : (atoms : List TermId) (held : List Lit) (a : TermId) (waiting : List Bool) → a.0 < length waiting → AreWaiting atoms held waiting → AreWaiting (atoms ++ a ∷ []) held (set waiting a.0 true)
+waiting_more atoms held a waiting known h = record {
+  each = λ v m. elim (Contains-push_cases atoms a v m) [
     | inl early ↦ elim (h.each v early) [ inl i ↦ inl (still_in waiting a known v i) | inr x ↦ inr x ]
     | inr e ↦ inl (subst (IsIn (set waiting a.0 true)) e (now_in waiting a known))
   ];
-  only = λ v i. subst (λ (xs : List TermId). Contains xs v) (sym longer) (elim (was_in waiting a known v i) [
-    | inl j ↦ Contains-append_left (take k atoms) (a ∷ []) v (h.only v j)
-    | inr e ↦ subst (Contains (take k atoms ++ a ∷ [])) e (Contains-push (take k atoms) a)
-  ]);
+  only = λ v i. elim (was_in waiting a known v i) [
+    | inl j ↦ Contains-append_left atoms (a ∷ []) v (h.only v j)
+    | inr e ↦ subst (Contains (atoms ++ a ∷ [])) e (Contains-push atoms a)
+  ];
 }
-  where
-    a : TermId
-    a = get_or atoms k no_id
-
-    longer : take (k + 1) atoms ≡ take k atoms ++ a ∷ []
-    longer = take_more atoms k no_id lt

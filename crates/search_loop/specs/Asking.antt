@@ -55,8 +55,8 @@ pub record HasSaturated (t : TableView) (x : Search) (v : TheoryView) (agreed : 
   pub ready : SearchFits t x
   -- the theory holds what the trail does
   pub held : v.held ≡ x.trail.literals
-  -- and watches the search's terms
-  pub terms : v.watched ≡ x.terms.items
+  -- it keeps up, and watches the search's terms
+  pub asked : IsAsked v x
   -- each atom has a value
   pub assigned : AreAssigned x.atoms.items x.trail.literals
   -- of each clause a literal holds

@@ -5,4 +5,5 @@ pub mod Search
 pub mod Stops
 pub mod Rounds
 pub mod Asking
+pub mod Growing
 pub mod Paying

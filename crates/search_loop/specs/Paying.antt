@@ -1,12 +1,13 @@
 -- How a search pays for runs of exchanges: one for each atom of linear arithmetic that is watched, one for each that is
--- held,
--- and for each learned clause one more than there are atoms.
+-- held, for each learned clause one more than there are atoms, and as many as these where it grows.
 use Rattle.std.specs.Prelude.{◌≡◌, ◌+◌, ◌*◌, ◌≤◌, ℕ, List, length, map}
-use Rattle.spec_causes.specs.Counts.{arithmetic_in, most_runs}
+use Rattle.spec_causes.specs.Counts.{arithmetic_in}
 use Rattle.term_core.specs.declared.ids.TermId.{TermId}
 use Rattle.term_core.specs.declared.ids.Lit.{Lit}
 use Rattle.term_core.specs.Tables.{TableView, term_at, clause_at}
 use Rattle.search_loop.specs.declared.search.Search.{Search}
+use Rattle.search_loop.specs.declared.cdcl.End.{End}
+use Rattle.search_loop.specs.declared.cdcl.End.TheVariants.{Saturated}
 use Rattle.search_loop.specs.Asking.{SearchState}
 
 -- how many of these terms are atoms of linear arithmetic
@@ -21,13 +22,18 @@ counted_held t ls = length (arithmetic_in (map (λ (l : Lit). term_at t l.term) 
 abbrev pub atoms_of : TableView → Search → ℕ
 atoms_of t x = counted_among t x.terms.items
 
--- what is paid over a atoms where l clauses are learned, and h of the atoms are held
-abbrev pub paid : (a l h : ℕ) → ℕ
-paid a l h = a + l * (1 + a) + h
+-- what is paid over a atoms where l clauses are learned, the search grew r times, and h of the atoms are held
+abbrev pub paid : (a l r h : ℕ) → ℕ
+paid a l r h = a + l * (1 + a) + r * a + h
 
--- the most that is paid where a search went on, by the terms that it began with
-abbrev pub most : TableView → Search → Search → ℕ
-most t x y = most_runs (length y.budget.learned) (atoms_of t x)
+-- what a search has paid that grew r times and holds h of its atoms
+abbrev pub paid_by : TableView → Search → (r h : ℕ) → ℕ
+paid_by t x r h = paid (atoms_of t x) (length x.budget.learned) r h
+
+-- at most so much, where it ends: each of its atoms may be held, and after a conflict one run more is made
+abbrev pub paid_at : TableView → Search → (r : ℕ) → End → ℕ
+paid_at t x r Saturated = paid_by t x r (atoms_of t x)
+paid_at t x r end = 1 + paid_by t x r (atoms_of t x)
 
 -- it is so by a number of at most so many
 abbrev pub IsPaid : (ℕ → Type 0) → ℕ → Type 0

@@ -1,16 +1,16 @@
 -- What the rounds of a search keep, and what its answers show.
-use Rattle.std.specs.Prelude.{◌≡◌, ◌⊎◌, ◌+◌, ◌<◌, ◌≤◌, ℕ, List, [], ◌∷◌, ◌++◌, length, map, All, Contains}
-use Rattle.spec_sorts.specs.Literals.{Clause, Literal, literals_of}
+use Rattle.std.specs.Prelude.{◌≡◌, ◌⊎◌, ◌+◌, List, [], ◌∷◌, ◌++◌, length, map, All, Contains}
+use Rattle.spec_sorts.specs.Literals.{Clause, Literal, complement, literals_of}
 use Rattle.spec_proofs.specs.Resolution.{IsWithin}
 use Rattle.spec_proofs.specs.declared.Rule.TheVariants.{Resolution}
-use Rattle.spec_sorts.specs.Terms.{Term}
 use Rattle.spec_derivations.specs.Problems.{Problem, terms_of_problem, known_terms}
 use Rattle.search_loop.specs.Answered.{AreAnswered}
-use Rattle.spec_derivations.specs.Derivations.{Inference, «assumption», by_rule, Derivation, inference_at, conclusion}
-use Rattle.spec_derivations.specs.Derivations.{conclusion_at, AssumesAmong, IsDerivedFrom}
-use Rattle.spec_derivations.specs.Base.{base_clauses}
-use Rattle.spec_derivations.specs.Orders.{whole_terms, whole_clauses}
-use Rattle.spec_derivations.specs.Lemmas.{IsLemma}
+use Rattle.spec_derivations.specs.Derivations.{Inference, «assumption», by_rule, Derivation, conclusion}
+use Rattle.spec_derivations.specs.Derivations.{AssumesAmong, IsDerivedFrom}
+use Rattle.spec_derivations.specs.Orders.{whole_terms, whole_clauses, first_clauses}
+use Rattle.spec_derivations.specs.Lemmas.{IsLemma, HasLemma}
+use Rattle.spec_derivations.specs.Inputs.{IsInput}
+use Rattle.spec_derivations.specs.ExactChains.{IsExactFrom, AreExactResolvents}
 use Rattle.spec_derivations.specs.Learned.{AreNew}
 use Rattle.spec_derivations.specs.Spent.{IsLearnedFrom, IsOverAtoms, AreLearned, IsConflictBudgetSpent, IsConflict}
 use Rattle.term_core.specs.declared.ids.TermId.{TermId}
@@ -31,7 +31,7 @@ use Rattle.search_loop.specs.declared.search.Search.{Search}
 use Rattle.search_loop.specs.declared.cdcl.Answer.{Answer}
 use Rattle.search_loop.specs.declared.cdcl.Answer.TheVariants.{Sat, Unsat, Unknown}
 use Rattle.search_loop.specs.Search.{images, SearchFits}
-use Rattle.search_loop.specs.Stops.{IsOverflowed}
+use Rattle.search_loop.specs.Stops.{HasExchanged, IsOverflowed}
 use Rattle.search_model.specs.Models.{IsModel}
 
 -- it follows from other clauses by resolution
@@ -39,61 +39,41 @@ abbrev pub IsByResolution : Inference → Type 0
 IsByResolution («assumption» u) = ⊥
 IsByResolution (by_rule r ps arguments c) = r ≡ Resolution
 
--- Inferences after the first so many, and the clauses that were learned in them, oldest first. The others are lemmas of
--- a theory, over
--- some terms, each batch of which depends on itself alone.
-pub data AreSteps (ts : List Term) (n : ℕ) : Derivation → List (List Literal) → Type 0 where
+-- it gives what a chain of resolutions does, and no more; or nothing is left
+abbrev pub IsNoWeaker : Derivation → Inference → Type 0
+IsNoWeaker earlier x = IsExactFrom earlier x ⊎ (conclusion x ≡ [])
+
+-- The inferences of a search of a problem, and the clauses that were learned in them, oldest first.
+pub data AreSteps (p : Problem) : Derivation → List (List Literal) → Type 0 where
   -- none yet
-  nothing : AreSteps ts n [] []
-  -- lemmas come
-  lemmas : (xs ys : Derivation) (cs : List (List Literal)) → AreSteps ts n xs cs → All (IsLemma ts (n + length xs)) ys
-      → AreSteps ts n (xs ++ ys) cs
+  nothing : AreSteps p [] []
+  -- a clause is stated with which a search of the problem begins
+  stating : (xs : Derivation) (x : Inference) (cs : List (List Literal)) → AreSteps p xs cs
+      → Contains (whole_clauses p) (conclusion x) → AreSteps p (xs ++ x ∷ []) cs
+  -- lemmas of a theory come, which depend on each other alone
+  lemmas : (xs ys : Derivation) (cs : List (List Literal)) → AreSteps p xs cs
+      → All (IsLemma (whole_terms p) (length xs)) ys → AreSteps p (xs ++ ys) cs
   -- a clause is learned, by resolution
-  learning : (xs : Derivation) (x : Inference) (cs : List (List Literal)) → AreSteps ts n xs cs → IsByResolution x
-      → AreSteps ts n (xs ++ x ∷ []) (cs ++ literals_of (conclusion x) ∷ [])
+  learning : (xs : Derivation) (x : Inference) (cs : List (List Literal)) → AreSteps p xs cs → IsByResolution x
+      → IsNoWeaker xs x → AreSteps p (xs ++ x ∷ []) (cs ++ literals_of (conclusion x) ∷ [])
 
--- The derivation states the clauses that a search of a problem begins with, all of them and no others, in as many
--- inferences; and
--- after them each of these clauses, in order, by resolution, with lemmas of a theory in between.
+-- The derivation states the clauses with which a search of a problem begins, and these clauses, in order, by
+-- resolution, with lemmas of a theory in between.
 pub record HasSteps (p : Problem) (d : Derivation) (clauses : List (List Literal)) : Type 0 where
-  -- the inferences of the first clauses, and those after them
-  pub base : Derivation
-  pub more : Derivation
-  -- these are all
-  pub all : d ≡ base ++ more
-  -- there are as many as clauses
-  pub count : length base ≡ length (whole_clauses p)
-  -- each states one of them
-  pub stated : All (λ x. Contains (whole_clauses p) (conclusion x)) base
-  -- each of them is stated
-  pub each : IsWithin (whole_clauses p) (map conclusion base)
-  -- and those after them state these clauses
-  pub steps : AreSteps (whole_terms p) (length base) more clauses
-
--- A derivation has a lemma of this clause, which depends on none of the clauses that a search begins with.
-pub record HasLemma (p : Problem) (d : Derivation) (c : List Literal) : Type 0 where
-  -- the number of its inference
-  pub number : ℕ
-  pub there : number < length d
-  -- its premises have numbers from one on, which comes after those of the first clauses
-  pub since : ℕ
-  pub after : length (whole_clauses p) ≤ since
-  -- it is a lemma over the terms that a search speaks of
-  pub is_lemma : IsLemma (whole_terms p) since (inference_at d number)
-  -- of this clause
-  pub same : literals_of (conclusion_at d number) ≡ c
+  -- each clause with which it begins is stated
+  pub each : IsWithin (whole_clauses p) (map conclusion d)
+  -- and all that is stated is such a one, a lemma, or one of these clauses
+  pub steps : AreSteps p d clauses
 
 -- a search begins with the clause, or learned it, or it is that of a lemma
 abbrev pub ComesFrom : Problem → Derivation → List (List Literal) → List Literal → Type 0
-ComesFrom p d learned c = Contains (map literals_of (whole_clauses p) ++ learned) c ⊎ HasLemma p d c
+ComesFrom p d learned c = Contains (map literals_of (whole_clauses p) ++ learned) c ⊎ HasLemma (whole_terms p) d c
 
--- What a search has derived of a problem: the clauses by their literals, and those that it learned.
+-- What was derived of a problem: the clauses by their literals, and those that were learned.
 pub record HasDerived (p : Problem) (d : Derivation) (clauses learned : List (List Literal)) : Type 0 where
   -- the derivation assumes the problem's terms alone
   pub assumes : All (AssumesAmong (terms_of_problem p)) d
-  -- each clause that a search begins with is one of the clauses
-  pub base : (c : Clause) → Contains (whole_clauses p) c → Contains clauses (literals_of c)
-  -- each clause is such a one, or was learned, or is that of a lemma
+  -- each clause is one with which a search begins, or was learned, or is that of a lemma
   pub only : (c : List Literal) → Contains clauses c → ComesFrom p d learned c
   -- what was learned is among the clauses
   pub kept : IsWithin learned clauses
@@ -101,10 +81,19 @@ pub record HasDerived (p : Problem) (d : Derivation) (clauses learned : List (Li
   pub derived : All (IsLearnedFrom p d) learned
   -- it is over its atoms
   pub atoms : All (IsOverAtoms p) learned
-  -- and was new
-  pub new : AreNew (map literals_of (base_clauses p)) learned
-  -- the derivation has the first clauses, and after them what was learned
-  pub steps_made : HasSteps p d learned
+  -- it was new
+  pub new : AreNew (map literals_of (first_clauses p)) learned
+  -- and is what a chain of resolutions gives, and no more
+  pub exact : AreExactResolvents complement (IsInput p d) learned
+  -- the derivation states clauses with which a search begins, lemmas, and what was learned
+  pub steps : AreSteps p d learned
+
+-- All clauses with which a search of a problem begins are derived, and among these.
+pub record HasWholeClauses (p : Problem) (d : Derivation) (clauses : List (List Literal)) : Type 0 where
+  -- each is one of the clauses
+  pub base : (c : Clause) → Contains (whole_clauses p) c → Contains clauses (literals_of c)
+  -- and is stated
+  pub stated : IsWithin (whole_clauses p) (map conclusion d)
 
 -- What is in hand is that of a search that is asked a problem.
 pub record IsSearch (t : TableView) (p : Problem) (x : Search) : Type 0 where
@@ -122,6 +111,8 @@ pub record IsSearch (t : TableView) (p : Problem) (x : Search) : Type 0 where
   pub listed : AreSearchTerms t p x.terms.items
   -- so much is derived of it
   pub derived : HasDerived p (derivation_in t x.log) (images t x.store.clauses) (images t x.budget.learned)
+  -- and all with which it begins
+  pub whole : HasWholeClauses p (derivation_in t x.log) (images t x.store.clauses)
 
 -- the budget has the limit of a search on conflicts
 abbrev pub HasLimit : Limits → BudgetView → Type 0
@@ -130,21 +121,6 @@ HasLimit l b = b.limit ≡ l.conflicts
 -- the limit of a budget is as it was
 abbrev pub KeepsLimit : BudgetView → BudgetView → Type 0
 KeepsLimit old new = new.limit ≡ old.limit
-
--- A search that is asked a problem begins, under these limits.
-pub record BeginsSearch (t : TableView) (p : Problem) (limits : Limits) (x : Search) : Type 0 where
-  -- it fits together
-  pub ready : SearchFits t x
-  -- it has no literals yet
-  pub empty : x.trail.literals ≡ []
-  pub level : x.trail.level ≡ 0
-  pub fed : x.fed ≡ 0
-  -- it is asked the problem
-  pub search : IsSearch t p x
-  -- the budget has the limit
-  pub limit_is : HasLimit limits x.budget
-  -- no exchange was made
-  pub unspent : x.budget.exchanges ≡ []
 
 -- the clauses that a search adds to a log: those that it learned, and after them at unsat the answer's, which has no
 -- literals
@@ -165,11 +141,15 @@ HasEvidence t p log budget (Unknown (Conflicts n)) =
     IsConflictBudgetSpent p (derivation_in t log) budget.limit n (map (map (literal_at t)) budget.learned)
     × IsConflict p (derivation_in t log) (map (map (literal_at t)) budget.learned)
 
--- what came into a log: the clauses that a search begins with, and after them those that it added; nothing where an
--- operation left the
--- bound before it began
+-- where an answer is no overflow, whose evidence names them, the exchanges of the budget were made, in few runs
+abbrev pub HasMade : Problem → BudgetView → Answer → Type 0
+HasMade p budget (Unknown (Overflow s)) = Unit {0}
+HasMade p budget a = HasExchanged (whole_terms p) (length budget.learned) budget.exchanges
+
+-- what came into a log: the clauses with which a search begins, all of them but where an operation left the bound, and
+-- those that it added
 abbrev pub HasLogged : Problem → Derivation → Answer → List (List Literal) → Type 0
-HasLogged p d (Unknown (Overflow s)) learned = HasSteps p d learned ⊎ ((d ≡ []) × (learned ≡ []))
+HasLogged p d (Unknown (Overflow s)) learned = AreSteps p d learned
 HasLogged p d a learned = HasSteps p d (added_by a learned)
 
 -- What goes with each answer: the log assumes the problem's terms alone, what was learned may be, and is what the
@@ -180,7 +160,7 @@ pub record IsLearning (t : TableView) (p : Problem) (log : List Logged) (a : Ans
   pub assumes : All (λ l. AssumesAmong (terms_of_problem p) (inference_of t l)) log
   -- the clauses may be learned
   pub learns : AreLearned p (derivation_in t log) (map (map (literal_at t)) learned)
-  -- they are what came into the log after the base clauses, but for the answer's own
+  -- they are what came into the log beside first clauses and lemmas, but for the answer's own
   pub logged : HasLogged p (derivation_in t log) a (map (map (literal_at t)) learned)
 
 -- the clause is learned last
@@ -201,8 +181,10 @@ pub record Continues (t u : TableView) (old new : Search) : Type 0 where
   pub table : Extends t u
   -- the sorts and symbols are the same
   pub declared : declared_in u ≡ declared_in t
-  -- the limit is the same
+  -- the limit is the same, and what was learned stays
   pub limit : KeepsLimit old.budget new.budget
+  pub more : List (List Lit)
+  pub learned : new.budget.learned ≡ old.budget.learned ++ more
   -- there are as many variables
   pub vars : new.trail.vars ≡ old.trail.vars
   -- it speaks of the same terms

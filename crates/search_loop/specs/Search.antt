@@ -1,17 +1,17 @@
 -- What a search keeps: clauses by their steps, and literals that hold with the reasons why.
-use Rattle.std.specs.Prelude.{◌≡◌, ◌<◌, ℕ, List, [], length, take, get_or, map, All, Contains, None}
+use Rattle.std.specs.Prelude.{◌≡◌, ◌≢◌, ◌<◌, ◌≤◌, ℕ, List, [], length, take, get_or, map, All, Contains, None}
+use Rattle.std.specs.List.{AllPairs}
 use Rattle.spec_sorts.specs.Literals.{Literal}
 use Rattle.spec_sorts.specs.Subsets.{IsClosed}
 use Rattle.term_core.specs.declared.ids.TermId.{TermId}
 use Rattle.term_core.specs.declared.ids.Lit.{Lit}
 use Rattle.term_core.specs.Tables.{TableView, clause_at, literal_at}
 use Rattle.clause_literals.specs.Statuses.{IsSatisfied}
-use Rattle.term_clauses.specs.SpokenTerms.{AreRising}
 use Rattle.clause_literals.specs.Literals.{AreLiteralsIn, LiteralsMean}
 use Rattle.proof_log.specs.declared.premises.StepId.{StepId}
 use Rattle.proof_log.specs.Logs.{Logged, named, logged_at, IsLogOf}
 use Rattle.proof_log.specs.Theories.{IsTermIn, IsAtomIn}
-use Rattle.sat_trail.specs.Trails.{TrailView, no_lit, HasSame, empty as no_trail}
+use Rattle.sat_trail.specs.Trails.{TrailView, no_lit, HasSame}
 use Rattle.clause_store.specs.Stores.{StoreView, no_step, LiteralsAreBelow, HasSeen}
 use Rattle.clause_store.specs.Propagating.{AreImplied, IsPropagated}
 use Rattle.conflict_learn.specs.Conflicts.{Conflict}
@@ -40,21 +40,15 @@ pub record DerivesClauses (t : TableView) (log : List Logged) (s : StoreView) : 
   pub same : (k : ℕ) → k < length s.clauses
       → LiteralsMean t (get_or s.clauses k []) (clause_at t (named (logged_at log (get_or s.steps k no_step))))
 
--- The store has the clauses of these steps.
-pub record IsStoreOf (t : TableView) (log : List Logged) (steps : List StepId) (s : StoreView) : Type 0 where
-  -- the steps are these
-  pub by : s.steps ≡ steps
-  -- its clauses are theirs
-  pub derives : DerivesClauses t log s
-
--- The trail has a variable for each term of the table, and no literal.
-pub record IsBegun (t : TableView) (v : TrailView) : Type 0 where
-  -- it has no literal
-  pub same : HasSame no_trail v
-  -- there are as many variables as terms
-  pub vars : v.vars ≡ length t.terms
-  -- nothing is marked as propagated
-  pub propagated : v.propagated ≡ 0
+-- A trail came to have a variable for each term of the table, at least, and is the same else.
+pub record Reaches (t : TableView) (v w : TrailView) : Type 0 where
+  -- the literals are the same
+  pub same : HasSame v w
+  -- there are no fewer variables, and as many as terms
+  pub more : v.vars ≤ w.vars
+  pub vars : length t.terms ≤ w.vars
+  -- the same are marked as propagated
+  pub propagated : w.propagated ≡ v.propagated
 
 -- Where a literal was decided, propagation was quiet, and it is one of an atom.
 pub record AreDecided (atoms : List TermId) (clauses : List (List Lit)) (v : TrailView) : Type 0 where
@@ -80,8 +74,8 @@ pub record AreAtomsOf (t : TableView) (terms atoms : List TermId) : Type 0 where
   pub there : All (IsTermIn t) terms
   -- the arguments of each are among them
   pub closed : IsClosed (clause_at t terms)
-  -- a later number is greater
-  pub rising : AreRising terms
+  -- no number stands twice
+  pub once : AllPairs (λ (i j : TermId). i ≢ j) terms
   -- the atoms are these
   pub chosen : AreAtomsAmong t terms atoms
 

@@ -1,6 +1,6 @@
 //! What comes of a conflict.
 
-ghost use Rattle.std.specs.Prelude.{◌≡◌, ◌<◌, List, length, IfOk, OnOk, ℕ};
+ghost use Rattle.std.specs.Prelude.{◌≡◌, ◌<◌, List, length, IfOk, IfSome, OnOk, ℕ};
 ghost use Rattle.spec_sorts.specs.Terms.{Term};
 ghost use Rattle.term_core.specs.Tables.{declared_in, Extends};
 ghost use Rattle.proof_log.specs.Logs.{IsLogOf};
@@ -55,6 +55,8 @@ impl Search {
             → T.came_by theory.new table.new ts n self.new.budget.exchanges) }
         ensures right { IfOk result (λ _. IsLogOf table.new self.new.log) }
         ensures limit { IfOk result (λ _. KeepsLimit self.old.budget self.new.budget) }
+        ensures ended { IfOk result (λ end. IfSome end (λ _. (self.new.terms ≡ self.old.terms)
+            × (self.new.budget ≡ self.old.budget))) }
         ensures resolves_conflict { IfOk result (ResolvesConflict (state table.old self.old) (state table.new self.new)
             (T.view theory.new)) }
     {
@@ -80,6 +82,7 @@ impl Search {
         requires of_zero { IsOfZero (conflict_of table.now self.old clash) }
         ensures right { IfOk result (λ _. IsLogOf table.now self.new.log) }
         ensures budget { self.new.budget ≡ self.old.budget }
+        ensures terms { self.new.terms ≡ self.old.terms }
         ensures step { IfOk result (LogsEmptyClause (conflict_of table.now self.old clash) self.new.log) }
         ensures shows { IfOk result (λ step. ShowsAnswer table.now table.now self.old self.new (Unsat step)) }
     {

@@ -1,10 +1,10 @@
 //! The order of decisions: which variables wait, how active they are, and the signs that they had last.
 
-ghost use Rattle.std.specs.Prelude.{◌≡◌, ◌<◌, [], length, List, All, IfOk, IfSome};
+ghost use Rattle.std.specs.Prelude.{◌≡◌, ◌<◌, ◌≤◌, [], ◌∷◌, ◌++◌, false, length, List, All, IfSome, OnOk, OnErr};
 ghost use Rattle.term_core.specs.declared.ids.TermId.{TermId as Number};
+ghost use Rattle.term_core.specs.declared.ids.Lit.{Lit as Literal};
 ghost use Rattle.proof_log.specs.Logs.{IsLogOf};
 ghost use Rattle.sat_trail.specs.Trails.{TrailView, IsCutTo};
-ghost use Rattle.variable_order.specs.Orders.{IsEmpty};
 ghost use Rattle.search_loop.specs.Waiting.{AreWaiting, AreOfAtoms, IsOpen, Chooses};
 
 use crate::activity::bump_conflict;
@@ -40,48 +40,63 @@ impl Model for Decider {
     ghost invariant = { λ d. length d.phases.items ≡ length d.order };
 }
 
-/// Makes the order of so many variables, none of which waits.
-fn idle(alloc: Global, vars: u64) -> Result<VariableOrder, NoMemory>
-    ensures { IfOk result (λ o. IsEmpty o × (length o ≡ vars)) }
-{
-    let mut order = VariableOrder::new(alloc);
-    'variables: while order.vars() < vars {
-        order.add_var()?;
-    }
-    Ok(order)
-}
-
-/// Makes the order of so many variables, of which the atoms wait.
-fn order_of(alloc: Global, atoms: &[TermId], vars: u64) -> Result<VariableOrder, NoMemory>
-    requires known { All (λ v. v.0 < vars) atoms.now }
-    ensures { IfOk result (λ o. AreWaiting atoms.now [] o × (length o ≡ vars)) }
-{
-    let mut order = idle(alloc, vars)?;
-    insert_all(&mut order, atoms);
-    Ok(order)
-}
-
-/// Puts signs in the place of others, as many as there are of both.
-fn copy_signs(phases: &mut [bool], signs: &[bool])
-    ensures { length phases.new ≡ length phases.old }
-{
-    'signs: for at in 0..signs.len() {
-        if at >= phases.len() {
-            return;
-        }
-        phases[at] = signs[at];
-    }
-}
-
 impl Decider {
-    /// Begins with so many variables, of which the atoms wait.
-    pub(crate) fn new(alloc: Global, atoms: &[TermId], vars: u64) -> Result<Decider, NoMemory>
-        requires known { All (λ v. v.0 < vars) atoms.now }
-        ensures { IfOk result (λ d. AreWaiting atoms.now [] d × (length d ≡ vars)) }
+    /// Knows no variable yet. It takes no memory.
+    pub(crate) fn new(alloc: Global) -> Decider
+        ensures { result ≡ [] }
     {
-        let order = order_of(alloc, atoms, vars)?;
-        let phases = vec![in alloc; false; vars as usize]?;
-        Ok(Decider { order, phases })
+        Decider {
+            order: VariableOrder::new(alloc),
+            phases: Vec::new(alloc),
+        }
+    }
+
+    /// Adds a variable, which does not wait. Its first sign is false.
+    ///
+    /// `NoMemory` comes where its place finds no memory; then all is as it was.
+    fn add_var(&mut self) -> Result<(), NoMemory>
+        ensures ok { OnOk result (self.new ≡ self.old ++ false ∷ []) }
+        ensures err { OnErr result (self.new ≡ self.old) }
+    {
+        self.phases.reserve(1)?;
+        self.order.add_var()?;
+        self.phases.push_reserved(false);
+        Ok(())
+    }
+
+    /// Adds variables until there are so many, and lets these atoms wait, besides those that do.
+    ///
+    /// `NoMemory` comes where variables find no memory; those that came stay.
+    pub(crate) fn wait_for(&mut self, atoms: &[TermId], vars: u64) -> Result<(), NoMemory>
+        requires fewer { length self.old ≤ vars }
+        requires known { All (λ v. v.0 < vars) atoms.now }
+        ensures size { OnOk result (length self.new ≡ vars) }
+        ensures waiting { OnOk result ((before : List Number) (held : List Literal) → AreWaiting before held self.old
+            → AreWaiting (before ++ atoms.now) held self.new) }
+    {
+        'variables: while self.order.vars() < vars {
+            self.add_var()?;
+        }
+        insert_all(&mut self.order, atoms);
+        Ok(())
+    }
+
+    /// Gives variables the sign that affirms them, and makes the first of them more active: so the search tries soon that its equality
+    /// is true. With all of them in front it is slow where most equalities are false. It takes no memory.
+    pub(crate) fn affirm(&mut self, ids: &[TermId])
+        ensures { self.new ≡ self.old }
+    {
+        'ids: for id in ids.iter() {
+            if id.0 >= self.order.vars() {
+                continue;
+            }
+            self.phases[id.0 as usize] = true;
+        }
+        if let Some(first) = ids.first() {
+            if first.0 < self.order.vars() {
+                self.order.bump(*first);
+            }
+        }
     }
 
     /// Takes the next decision, which then waits no more; nothing where each of the atoms has a value. It takes no memory.
@@ -93,18 +108,6 @@ impl Decider {
             → Chooses atoms trail.now.literals self.new result }
     {
         next_decision(&mut self.order, &self.phases, trail)
-    }
-
-    /// Takes signs that variables had in another search, one for each variable from the first on. It takes no memory.
-    pub fn recall(&mut self, signs: &[bool])
-        ensures { self.new ≡ self.old }
-    {
-        copy_signs(self.phases.as_mut_slice(), signs);
-    }
-
-    /// Gives the signs that the variables had last, one for each.
-    pub fn into_signs(self) -> Vec<bool> {
-        self.phases
     }
 
     /// Lets the variables wait whose literals are of higher levels than this, and keeps their signs: those that lose their value where the

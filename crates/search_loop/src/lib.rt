@@ -7,15 +7,16 @@
 
 mod activity;
 mod atoms;
-pub mod begin;
 mod cdcl;
 mod conflict;
 mod decider;
 mod decision;
 mod feeding;
+mod growing;
 mod lemmas;
 mod looking;
 mod restarts;
+mod resting;
 mod search;
 mod waiting;
 mod watching;

@@ -1,21 +1,21 @@
 //! Which variables wait to be decided.
 
-ghost use Rattle.std.specs.Prelude.{◌≡◌, ◌<◌, [], length, List, All};
+ghost use Rattle.std.specs.Prelude.{◌≡◌, ◌<◌, ◌++◌, length, List, All};
 ghost use Rattle.term_core.specs.declared.ids.TermId.{TermId as Number};
+ghost use Rattle.term_core.specs.declared.ids.Lit.{Lit as Literal};
 ghost use Rattle.sat_trail.specs.Trails.{TrailView, IsCutTo};
-ghost use Rattle.variable_order.specs.Orders.{IsEmpty};
 ghost use Rattle.search_loop.specs.Waiting.{AreWaiting, AreOfAtoms};
 
 use sat_trail::SatTrail;
 use term_core::TermId;
 use variable_order::VariableOrder;
 
-/// Lets these atoms wait, where nothing waits yet.
+/// Lets these atoms wait, besides others.
 pub(crate) fn insert_all(order: &mut VariableOrder, atoms: &[TermId])
-    requires empty { IsEmpty order.old }
     requires known { All (λ v. v.0 < length order.old) atoms.now }
     ensures size { length order.new ≡ length order.old }
-    ensures waiting { AreWaiting atoms.now [] order.new }
+    ensures waiting { (before : List Number) (held : List Literal) → AreWaiting before held order.old
+        → AreWaiting (before ++ atoms.now) held order.new }
 {
     for atom in atoms {
         order.insert(*atom);

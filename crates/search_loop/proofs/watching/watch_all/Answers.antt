@@ -1,6 +1,6 @@
 -- Term by term, and that a stop at one is over the terms up to it.
 use Rattle.std.proofs.Common.{◌≡◌, ◌+◌, ◌<◌, ◌∙◌, ◌++◌, ◌∷◌, [], ℕ, List, take, get_or, length, sym, ap, subst, arith}
-use Rattle.std.proofs.lemmas.List.{take_all, take_more}
+use Rattle.std.proofs.lemmas.List.{append-nil, take_all, take_more}
 use Rattle.std.proofs.lemmas.List.Elements.{Contains-get_or}
 use Rattle.spec_text.proofs.Members.{to_image}
 use Rattle.spec_sorts.specs.Terms.{Term}
@@ -13,57 +13,81 @@ use Rattle.proof_log.specs.Theories.{TheoryView, with_watched}
 use Rattle.spec_causes.specs.Counts.{counted}
 use Rattle.term_clauses.specs.SpokenTerms.{no_id}
 use Rattle.search_loop.specs.Paying.{counted_among, IsPaid}
-use Rattle.search_loop.proofs.SearchPays.{among_more, among_first}
+use Rattle.search_loop.proofs.SearchPays.{among_more, among_first, sum_more}
 use Rattle.search_loop.proofs.SearchSpends.{handed_on, came_handed_on}
-use Rattle.search_loop.proofs.SearchTheories.{watching}
+use Rattle.search_loop.proofs.SearchTheories.{watching, new_after, watched_more}
 use Rattle.search_loop.proofs.watching.watch_all.Goals as goal
 
 pub terms-init : goal.terms-init
 terms-init g c =
     let v = g.T.Theory.view c.args.theory.now in
-    record { view = λ i. record { held = v.held; watched = c.requires.none i; marks = v.marks }; goes = c.requires.with; came = λ ts es among h. h }
+    record {
+      view = λ i. record { held = v.held; watched = sym (append-nil v.watched) i; marks = v.marks };
+      goes = c.requires.with;
+      came = λ ts n es among h. subst (λ k. g.T.Theory.came_by c.args.theory.now c.args.table.now ts k es) (omega arith) h;
+    }
+
+pub watch_term-requires-clause-new : goal.watch_term-requires-clause-new
+watch_term-requires-clause-new g c =
+    let v = g.T.Theory.view c.args.theory.now in
+    let ids = c.args.terms.now in
+    let k = c.terms.id-index in
+    rw c.terms.invariant.view (new_after v.watched ids c.requires.once k c.terms-test.true)
 
 pub terms-preserved : goal.terms-preserved
 terms-preserved g c =
     let t = c.args.table.now in
+    let v = g.T.Theory.view c.args.theory.now in
     let ids = c.args.terms.now in
     let k = c.terms.id-index in
     let id = get_or ids k no_id in
+    let more = c.terms-test.true in
     record {
-      view = c.in_ok-watch_term.ensures.watches ∙ ap (λ (v : TheoryView). with_watched v id) c.terms.invariant.view ∙ ap (watching (g.T.Theory.view c.args.theory.now)) (sym (take_more ids k no_id c.terms-test.true));
+      view = c.in_ok-watch_term.ensures.watches ∙ ap (λ (w : TheoryView). with_watched w id) c.terms.invariant.view ∙ ap (watching v) (watched_more v.watched ids k more);
       goes = c.watch_term.ensures.with;
-      came = λ ts es among h.
-          subst (λ n. g.T.Theory.came_by c.watch_term.new.self t ts n es) (sym (ap (counted_among t) (take_more ids k no_id c.terms-test.true) ∙ among_more t (take k ids) id))
-          (c.in_ok-watch_term.ensures.came ts (counted_among t (take k ids)) es (among (term_at t id) (to_image (term_at t) ids id (Contains-get_or ids k no_id c.terms-test.true)))
-          (c.terms.invariant.came ts es among h));
+      came = λ ts n es among h.
+          let here = counted_among t (take k ids) in
+          subst (λ m. g.T.Theory.came_by c.watch_term.new.self t ts m es)
+          (sum_more (term_at t id) n here ∙ ap (λ m. n + m) (sym (ap (counted_among t) (take_more ids k no_id more) ∙ among_more t (take k ids) id)))
+          (c.in_ok-watch_term.ensures.came ts (n + here) es (among (term_at t id) (to_image (term_at t) ids id (Contains-get_or ids k no_id more)))
+          (c.terms.invariant.came ts n es among h));
     }
 
-pub returns-clause-came : goal.returns-clause-came
-returns-clause-came g c ts es among h =
+pub returns-clause-watches : goal.returns-clause-watches
+returns-clause-watches g c =
+    let v = g.T.Theory.view c.args.theory.now in
     let ids = c.args.terms.now in
-    subst (λ (xs : List TermId). g.T.Theory.came_by c.terms.theory c.args.table.now ts (counted_among c.args.table.now xs) es) (take_all c.terms.id-index ids (omega (arith, c.terms-test.false)))
-    (c.terms.invariant.came ts es among h)
+    c.terms.invariant.view ∙ ap (λ (xs : List TermId). watching v (v.watched ++ xs)) (take_all c.terms.id-index ids (omega (arith, c.terms-test.false)))
+
+pub returns-clause-came : goal.returns-clause-came
+returns-clause-came g c ts n es among h =
+    let ids = c.args.terms.now in
+    subst (λ (xs : List TermId). g.T.Theory.came_by c.terms.theory c.args.table.now ts (n + counted_among c.args.table.now xs) es) (take_all c.terms.id-index ids (omega (arith, c.terms-test.false)))
+    (c.terms.invariant.came ts n es among h)
 
 pub returns-in_err-watch_term-clause-came : goal.returns-in_err-watch_term-clause-came
-returns-in_err-watch_term-clause-came g c ts es among h =
+returns-in_err-watch_term-clause-came g c ts n es among h =
     let t = c.args.table.now in
     let ids = c.args.terms.now in
     let k = c.terms.id-index in
     let id = get_or ids k no_id in
-    let n = counted_among t (take k ids) in
+    let here = counted_among t (take k ids) in
+    let all = counted_among t ids in
     let came : ℕ → Type 0 = λ m. g.T.Theory.came_by c.watch_term.new.self t ts m es in
     let stopped : ℕ → Type 0 = λ m. g.T.Theory.stopped_by c.watch_term.new.self t ts m es in
-    came_handed_on (λ _. came (counted (term_at t id) n)) (λ _. came (counted_among t ids)) (stopped n) (IsPaid stopped (counted_among t ids))
-    c.from_residual.result c.in_err-watch_term.field-0.0 c.from_residual.ensures.1 (λ s. (n, among_first t k ids, s))
-    (c.in_err-watch_term.ensures.came ts n es (among (term_at t id) (to_image (term_at t) ids id (Contains-get_or ids k no_id c.terms-test.true))) (c.terms.invariant.came ts es among h))
+    came_handed_on (λ _. came (counted (term_at t id) (n + here))) (λ _. came (n + all)) (stopped (n + here)) (IsPaid stopped (n + all))
+    c.from_residual.result c.in_err-watch_term.field-0.0 c.from_residual.ensures.1 (λ s. (n + here, omega (arith, among_first t k ids), s))
+    (c.in_err-watch_term.ensures.came ts (n + here) es (among (term_at t id) (to_image (term_at t) ids id (Contains-get_or ids k no_id c.terms-test.true))) (c.terms.invariant.came ts n es among h))
 
 pub returns-in_err-watch_term-clause-stops : goal.returns-in_err-watch_term-clause-stops
 returns-in_err-watch_term-clause-stops g c =
+    let v = g.T.Theory.view c.args.theory.now in
     let ids = c.args.terms.now in
     let k = c.terms.id-index in
     let may_overflow : List Term → Strain → Type 0 = g.T.Theory.may_overflow c.watch_term.new.self c.args.table.now in
     let shown : List TermId → Stop → Type 0 = λ watched stop. StopsBy (may_overflow (clause_at c.args.table.now watched)) stop in
-    let up_to = ap (λ (v : TheoryView). v.watched ++ get_or ids k no_id ∷ []) c.terms.invariant.view ∙ sym (take_more ids k no_id c.terms-test.true) in
-    let before = ap (λ (v : TheoryView). v.watched) c.in_err-watch_term.ensures.watches ∙ ap (λ (v : TheoryView). v.watched) c.terms.invariant.view in
-    handed_on (λ stop. (n : ℕ) × (n < length ids) × ((g.T.Theory.view c.watch_term.new.self).watched ≡ take n ids) × shown (take (n + 1) ids) stop) c.from_residual.result c.in_err-watch_term.field-0.0 c.from_residual.ensures.1
+    let up_to = ap (λ (w : TheoryView). w.watched ++ get_or ids k no_id ∷ []) c.terms.invariant.view ∙ watched_more v.watched ids k c.terms-test.true in
+    let before = ap (λ (w : TheoryView). w.watched) c.in_err-watch_term.ensures.watches ∙ ap (λ (w : TheoryView). w.watched) c.terms.invariant.view in
+    handed_on (λ stop. (n : ℕ) × (n < length ids) × ((g.T.Theory.view c.watch_term.new.self).watched ≡ v.watched ++ take n ids) × shown (v.watched ++ take (n + 1) ids) stop)
+    c.from_residual.result c.in_err-watch_term.field-0.0 c.from_residual.ensures.1
     (k, c.terms-test.true, before, subst (λ watched. shown watched c.in_err-watch_term.field-0.0) up_to c.in_err-watch_term.ensures.stops)

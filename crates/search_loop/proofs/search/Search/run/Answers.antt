@@ -9,11 +9,10 @@ use Rattle.term_core.specs.declared.ids.TermId.{TermId}
 use Rattle.term_core.specs.declared.ids.Lit.{Lit}
 use Rattle.proof_log.specs.Theories.{TheoryView, terms_watched, paid_after}
 use Rattle.search_loop.specs.declared.cdcl.End.{End}
-use Rattle.search_loop.specs.declared.cdcl.End.TheVariants.{Saturated}
 use Rattle.search_loop.specs.Asking.{KeepsUp, HasStopped, OnStop, state, ResolvesConflict}
-use Rattle.search_loop.specs.Paying.{counted_held, atoms_of, most, IsPaid}
-use Rattle.search_loop.proofs.SearchPays.{paid_begun, paid_more, paid_learned, paid_most, atoms_stay, held_stay, held_among}
-use Rattle.search_loop.proofs.SearchSpends.{handed_on, came_handed_on, on_stop_weaker}
+use Rattle.search_loop.specs.Paying.{counted_held, atoms_of, paid_by, paid_at, IsPaid}
+use Rattle.search_loop.proofs.SearchPays.{paid_begun, paid_more, paid_learned, paid_quiet, paid_clash, paid_where, atoms_stay, held_stay, held_among}
+use Rattle.search_loop.proofs.SearchSpends.{handed_on, came_on_stop, on_stop_weaker}
 use Rattle.search_loop.proofs.SearchLooks.{stopped_on}
 use Rattle.search_loop.proofs.SearchReady.{ready_waiting, ready_decided}
 use Rattle.term_core.proofs.TermsExtend.{Extends-trans}
@@ -27,9 +26,9 @@ rounds-init g c = record {
   ready = c.requires.ready;
   asked = c.requires.asked;
   with = c.requires.with;
-  came = λ ts h.
+  came = λ ts r h.
       let a = atoms_of c.args.table.now c.args.self.now in
-      (a, paid_begun a (length c.args.self.now.budget.learned) (counted_held c.args.table.now (g.T.Theory.view c.args.theory.now).held), h);
+      (h.0, paid_begun a (length c.args.self.now.budget.learned) r (counted_held c.args.table.now (g.T.Theory.view c.args.theory.now).held) h.0 h.1, h.2);
   continues = continues_same c.args.table.now c.args.self.now c.args.self.now refl refl refl refl refl;
 }
 
@@ -44,7 +43,7 @@ returns-in_default-clause-ends g c =
       record {
         ready = ready_waiting u y c.next.new.self l.ready chosen.1 c.next.ensures.size;
         held = looks.2;
-        terms = l.asked.terms;
+        asked = record { keeps = l.asked.keeps; terms = l.asked.terms; fed = l.asked.fed };
         assigned = chosen.0;
         satisfied = satisfied_by y.atoms.items y.store.clauses y.trail.literals l.ready.covered looks.1 chosen.0;
         agrees = looks.3;
@@ -76,8 +75,8 @@ rounds-preserved-in-Fine g c =
         fed = l.asked.fed ∙ ap (λ (v : TheoryView). length v.held) (sym c.in_ok-mark-in-Fine.ensures.marks);
       };
       with = c.mark.ensures.with u c.in_ok-look.ensures.with;
-      came = λ ts h.
-          let n = c.rounds.invariant.came ts h in
+      came = λ ts r h.
+          let n = c.rounds.invariant.came ts r h in
           let m = rw c.in-Fine.is at (c.in_ok-look.ensures.came ts n.0 n.2) in
           let k = m.3 in
           let v = g.T.Theory.view c.look.new.theory in
@@ -86,7 +85,7 @@ rounds-preserved-in-Fine g c =
           ∙ held_stay c.rounds.table c.rounds.self c.rounds.invariant.ready u l.continues.table v.held (λ d i.
           subst (λ (ids : Vec TermId Global). Contains ids.items d.term) l.continues.terms (held_among u y l.ready v l.asked d i)) in (
             k.0,
-            paid_more (atoms_of c.args.table.now c.args.self.now) (length c.rounds.self.budget.learned) (length y.budget.learned)
+            paid_more (atoms_of c.args.table.now c.args.self.now) (length c.rounds.self.budget.learned) (length y.budget.learned) r
                 (counted_held c.rounds.table (g.T.Theory.view c.rounds.theory).held) (counted_held c.rounds.table v.held) (counted_held u (g.T.Theory.view c.mark.new.self).held)
                 n.0 m.0 k.0 n.1 m.1 k.1 (ap length c.look.ensures.learned) held,
             c.mark.ensures.came u ts k.0 y.budget.exchanges k.2,
@@ -133,12 +132,12 @@ rounds-preserved g c =
       ready = resolves_conflict.0.ready;
       asked = resolves_conflict.1;
       with = c.in_ok-end-in-Clash.ensures.with;
-      came = λ ts h.
-          let n = c.rounds.invariant.came ts h in
+      came = λ ts r h.
+          let n = c.rounds.invariant.came ts r h in
           let m = rw c.in-Clash.is at (c.in_ok-look.ensures.came ts n.0 n.2) in
           let k = m.3 in (
             k.0,
-            paid_learned (atoms_of t c.args.self.now) (length c.rounds.self.budget.learned) (length c.resolve_conflict.new.self.budget.learned)
+            paid_learned (atoms_of t c.args.self.now) (length c.rounds.self.budget.learned) (length c.resolve_conflict.new.self.budget.learned) r
                 (counted_held c.rounds.table (g.T.Theory.view c.rounds.theory).held) (counted_held c.rounds.table (g.T.Theory.view c.look.new.theory).held)
                 (counted_held c.resolve_conflict.new.table (g.T.Theory.view c.resolve_conflict.new.theory).held) n.0 m.0 k.0 n.1 m.1 (subst (λ a. counted_held c.rounds.table (g.T.Theory.view c.look.new.theory).held ≤ a) (atoms_stay t c.args.self.now c.requires.ready c.rounds.table c.rounds.invariant.continues.table c.rounds.self c.rounds.invariant.continues.terms) m.2) k.1
                 (resolves_conflict.0.learned ∙ ap (λ (xs : List (List Lit)). length xs + 1) c.look.ensures.learned),
@@ -164,47 +163,94 @@ pub returns-in_err-look-clause-grown : goal.returns-in_err-look-clause-grown
 returns-in_err-look-clause-grown g c = Extends-trans c.args.table.now c.rounds.table c.look.new.table c.rounds.invariant.continues.table c.look.ensures.grown
 
 pub returns-in_default-clause-came : goal.returns-in_default-clause-came
-returns-in_default-clause-came g c ts h saturated_here =
-    let n = c.rounds.invariant.came ts h in
+returns-in_default-clause-came g c ts r h =
+    let n = c.rounds.invariant.came ts r h in
+    let looks = rw c.in-Fine.is at c.in_ok-look.ensures.looks in
     let m = rw c.in-Fine.is at (c.in_ok-look.ensures.came ts n.0 n.2) in
     let k = m.3 in
     let x = c.args.self.now in
     let t = c.args.table.now in
     let y = c.rounds.self in
     let u = c.rounds.table in
+    let z = c.look.new.self in
+    let s = c.look.new.table in
     let v = g.T.Theory.view c.rounds.theory in
-    let w = g.T.Theory.view c.look.new.theory in (
+    let w = g.T.Theory.view c.look.new.theory in
+    let on = continues_on t u s x y z c.rounds.invariant.continues looks.0.continues in (
       k.0,
-      paid_most (atoms_of t x) (length y.budget.learned) (length c.look.new.self.budget.learned) (counted_held u v.held) (counted_held u w.held) n.0 m.0 k.0 n.1 m.1
-          (subst (λ a. counted_held u w.held ≤ a) (atoms_stay t x c.requires.ready u c.rounds.invariant.continues.table y c.rounds.invariant.continues.terms) m.2) (omega (arith, k.1))
-          (ap length c.look.ensures.learned),
+      paid_quiet (atoms_of t x) (atoms_of s z) (length y.budget.learned) (length z.budget.learned) r (counted_held u v.held) (counted_held u w.held) n.0 m.0 k.0 n.1 m.1
+          (subst (λ a. counted_held u w.held ≤ a) (atoms_stay t x c.requires.ready u c.rounds.invariant.continues.table y c.rounds.invariant.continues.terms) m.2) k.1
+          (ap length c.look.ensures.learned) (atoms_stay t x c.requires.ready s on.table z on.terms),
       k.2,
     )
 
+pub returns-in_default-clause-terms : goal.returns-in_default-clause-terms
+returns-in_default-clause-terms g c =
+    let looks = rw c.in-Fine.is at c.in_ok-look.ensures.looks in
+    looks.0.continues.terms ∙ c.rounds.invariant.continues.terms
+
+pub returns-in-Some-2-clause-terms : goal.returns-in-Some-2-clause-terms
+returns-in-Some-2-clause-terms g c =
+    let looks = rw c.in-Clash.is at c.in_ok-look.ensures.looks in
+    let ended = rw c.in-Some-2.is at c.in_ok-end-in-Clash.ensures.ended in
+    ended.0 ∙ looks.0.continues.terms ∙ c.rounds.invariant.continues.terms
+
 pub returns-in-Some-2-clause-came : goal.returns-in-Some-2-clause-came
-returns-in-Some-2-clause-came g c ts h saturated_here =
-    absurd (subst (λ (e : End). ResolvesConflict (state c.look.new.table c.look.new.self) (state c.resolve_conflict.new.table c.resolve_conflict.new.self) (g.T.Theory.view c.resolve_conflict.new.theory) (Some e)) saturated_here
-    (rw c.in-Some-2.is at c.in_ok-end-in-Clash.ensures.resolves_conflict))
+returns-in-Some-2-clause-came g c ts r h =
+    let n = c.rounds.invariant.came ts r h in
+    let looks = rw c.in-Clash.is at c.in_ok-look.ensures.looks in
+    let m = rw c.in-Clash.is at (c.in_ok-look.ensures.came ts n.0 n.2) in
+    let k = m.3 in
+    let x = c.args.self.now in
+    let t = c.args.table.now in
+    let y = c.rounds.self in
+    let u = c.rounds.table in
+    let z = c.resolve_conflict.new.self in
+    let s = c.resolve_conflict.new.table in
+    let v = g.T.Theory.view c.rounds.theory in
+    let w = g.T.Theory.view c.look.new.theory in
+    let end = c.in-Some-2.end in
+    let on = continues_on t u c.look.new.table x y c.look.new.self c.rounds.invariant.continues looks.0.continues in
+    let resolves = rw c.in-Some-2.is at c.in_ok-end-in-Clash.ensures.resolves_conflict in
+    let ended = rw c.in-Some-2.is at c.in_ok-end-in-Clash.ensures.ended in
+    let learned : length z.budget.learned ≡ length y.budget.learned = ap (λ (b : BudgetView). length b.learned) ended.1 ∙ ap length c.look.ensures.learned in
+    let same : atoms_of s z ≡ atoms_of t x = atoms_stay t x c.requires.ready s (Extends-trans t c.look.new.table s on.table c.resolve_conflict.ensures.grown) z (ended.0 ∙ on.terms) in (
+      k.0,
+      paid_where s z r k.0 end
+          (λ e. subst (λ (q : End). ResolvesConflict (state c.look.new.table c.look.new.self) (state s z) (g.T.Theory.view c.resolve_conflict.new.theory) (Some q)) e resolves)
+          (paid_clash (atoms_of t x) (atoms_of s z) (length y.budget.learned) (length z.budget.learned) r (counted_held u v.held) (counted_held u w.held) n.0 m.0 k.0 n.1 m.1
+          (subst (λ a. counted_held u w.held ≤ a) (atoms_stay t x c.requires.ready u c.rounds.invariant.continues.table y c.rounds.invariant.continues.terms) m.2) k.1
+          learned same),
+      c.in_ok-end-in-Clash.ensures.came ts k.0 k.2,
+    )
 
 pub returns-in_err-look-clause-came : goal.returns-in_err-look-clause-came
-returns-in_err-look-clause-came g c ts h =
-    let n = c.rounds.invariant.came ts h in
+returns-in_err-look-clause-came g c ts r h =
+    let n = c.rounds.invariant.came ts r h in
     let m = c.in_err-look.ensures.came ts n.0 n.2 in
     let x = c.args.self.now in
     let t = c.args.table.now in
     let y = c.rounds.self in
     let u = c.rounds.table in
+    let z = c.look.new.self in
+    let s = c.look.new.table in
     let v = g.T.Theory.view c.rounds.theory in
     let w = g.T.Theory.view c.look.new.theory in
-    let es = c.look.new.self.budget.exchanges in
-    let came : ℕ → Type 0 = λ k. g.T.Theory.came_by c.look.new.theory c.look.new.table ts k es in
-    let stopped : ℕ → Type 0 = λ k. g.T.Theory.stopped_by c.look.new.theory c.look.new.table ts k es in
-    let all = most t x c.look.new.self in
-    let within : m.0 ≤ all = paid_most (atoms_of t x) (length y.budget.learned) (length c.look.new.self.budget.learned) (counted_held u v.held) (counted_held u w.held)
-    n.0 m.0 m.0 n.1 m.1 (subst (λ a. counted_held u w.held ≤ a) (atoms_stay t x c.requires.ready u c.rounds.invariant.continues.table y c.rounds.invariant.continues.terms) m.2) (omega arith)
-    (ap length c.look.ensures.learned) in
-    came_handed_on (λ verdict. IsPaid came (paid_after verdict m.0)) (λ (end : End). end ≡ Saturated → IsPaid came all) (stopped m.0) (IsPaid stopped all)
-    c.from_residual.result c.in_err-look.field-0.0 c.from_residual.ensures.1 (λ s. (m.0, within, s)) m.3
+    let es = z.budget.exchanges in
+    let came : ℕ → Type 0 = λ k. g.T.Theory.came_by c.look.new.theory s ts k es in
+    let stopped : ℕ → Type 0 = λ k. g.T.Theory.stopped_by c.look.new.theory s ts k es in
+    let with : Type 0 = g.T.Theory.goes_with c.look.new.theory s in
+    let shown : Type 0 = with × HasStopped (state u y) (state s z) w in
+    came_on_stop (λ verdict. IsPaid came (paid_after verdict m.0)) (λ (end : End). IsPaid came (paid_at s z r end)) (stopped m.0) (IsPaid stopped (paid_by s z r (atoms_of s z))) shown
+    c.from_residual.result c.in_err-look.field-0.0 c.from_residual.ensures.1 c.in_err-look.ensures.stopped
+    (λ q p.
+    let on = continues_on t u s x y z c.rounds.invariant.continues q.1.continues in (
+      m.0,
+      paid_quiet (atoms_of t x) (atoms_of s z) (length y.budget.learned) (length z.budget.learned) r (counted_held u v.held) (counted_held u w.held) n.0 m.0 m.0 n.1 m.1
+          (subst (λ a. counted_held u w.held ≤ a) (atoms_stay t x c.requires.ready u c.rounds.invariant.continues.table y c.rounds.invariant.continues.terms) m.2) (omega arith)
+          (ap length c.look.ensures.learned) (atoms_stay t x c.requires.ready s on.table z on.terms),
+      p,
+    )) m.3
 
 pub returns-in_err-look-clause-stops : goal.returns-in_err-look-clause-stops
 returns-in_err-look-clause-stops g c =

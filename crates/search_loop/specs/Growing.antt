@@ -1,0 +1,96 @@
+-- How a search grows: terms come in of which it did not speak, with their clauses.
+use Rattle.std.specs.Prelude.{◌≡◌, List, [], ◌++◌, length}
+use Rattle.spec_derivations.specs.Problems.{Problem}
+use Rattle.term_core.specs.declared.ids.TermId.{TermId}
+use Rattle.term_core.specs.declared.ids.Lit.{Lit}
+use Rattle.term_core.specs.Tables.{TableView, declared_in, clause_at, Extends}
+use Rattle.proof_log.specs.Logs.{Logged}
+use Rattle.proof_log.specs.declared.premises.StepId.{StepId}
+use Rattle.term_clauses.specs.SpokenTerms.{problem_in}
+use Rattle.sat_budget.specs.declared.limits.Limits.{Limits}
+use Rattle.sat_trail.specs.Trails.{TrailView, HasSame}
+use Rattle.clause_store.specs.Stores.{StoreView, HasSeen}
+use Rattle.clause_store.specs.Propagating.{AreImplied}
+use Rattle.search_loop.specs.declared.search.Search.{Search}
+use Rattle.search_loop.specs.Search.{SearchFits, DerivesClauses}
+use Rattle.search_loop.specs.Rounds.{IsSearch, HasLimit}
+use Rattle.search_loop.specs.Asking.{SearchState}
+
+-- A search speaks of nothing yet.
+pub record IsBlank (x : Search) : Type 0 where
+  -- nothing is derived
+  pub log : x.log ≡ []
+  pub clauses : x.store.clauses ≡ []
+  -- there is no term
+  pub terms : x.terms.items ≡ []
+  -- and nothing was learned
+  pub learned : x.budget.learned ≡ []
+
+-- An empty search, under these limits.
+pub record IsEmptySearch (limits : Limits) (x : Search) : Type 0 where
+  -- it speaks of nothing
+  pub blank : IsBlank x
+  -- it fits together over each table
+  pub ready : (t : TableView) → SearchFits t x
+  -- it has no literals
+  pub empty : x.trail.literals ≡ []
+  pub level : x.trail.level ≡ 0
+  pub fed : x.fed ≡ 0
+  -- the budget has the limit
+  pub limit_is : HasLimit limits x.budget
+  -- no exchange was made
+  pub unspent : x.budget.exchanges ≡ []
+
+-- A search that is asked a problem begins.
+pub record IsBegun (t : TableView) (p : Problem) (x : Search) : Type 0 where
+  -- it fits together
+  pub ready : SearchFits t x
+  -- it has no literals yet
+  pub empty : x.trail.literals ≡ []
+  pub level : x.trail.level ≡ 0
+  pub fed : x.fed ≡ 0
+  -- it is asked the problem
+  pub search : IsSearch t p x
+  -- nothing was learned, and no exchange made
+  pub unlearned : x.budget.learned ≡ []
+  pub unspent : x.budget.exchanges ≡ []
+
+-- The problem of a search that grows by roots, which are asserted, and by interface equalities.
+pub data GrowsTo (t : TableView) (x : Search) (roots interface : List TermId) (p : Problem) : Type 0 where
+  -- it spoke of nothing
+  begins : IsBlank x → p ≡ problem_in t roots interface → GrowsTo t x roots interface p
+  -- it was asked a problem, and grows by interface equalities alone
+  goes_on : (q : Problem) → IsSearch t q x → roots ≡ []
+      → p ≡ record { asserted = q.asserted; assumed = q.assumed; interface = q.interface ++ clause_at t interface }
+      → GrowsTo t x roots interface p
+
+-- Terms came into a search, and their clauses; what was learned stays, and so do the literals.
+pub record HasGrown (old new : SearchState) (roots interface : List TermId) : Type 0 where
+  -- the table has all that it had
+  pub table : Extends old.table new.table
+  -- the sorts and symbols are the same
+  pub declared : declared_in new.table ≡ declared_in old.table
+  -- it fits together
+  pub ready : SearchFits new.table new.search
+  -- the same literals hold, since the same levels
+  pub trail : HasSame old.search.trail new.search.trail
+  pub fed : new.search.fed ≡ old.search.fed
+  -- nothing was spent
+  pub budget : new.search.budget ≡ old.search.budget
+  -- the new terms come last
+  pub more : List TermId
+  pub terms : new.search.terms.items ≡ old.search.terms.items ++ more
+  -- it is asked the problem that it grew to
+  pub search : (p : Problem) → GrowsTo old.table old.search roots interface p → IsSearch new.table p new.search
+
+-- The clauses of steps came into a store, last, in their order.
+pub record StoresAll (t : TableView) (log : List Logged) (steps : List StepId) (old new : StoreView) : Type 0 where
+  -- these clauses
+  pub more : List (List Lit)
+  pub clauses : new.clauses ≡ old.clauses ++ more
+  -- are those of the steps
+  pub steps_are : new.steps ≡ old.steps ++ steps
+  pub derives : DerivesClauses t log old → DerivesClauses t log new
+  -- what is marked as propagated was seen, and reasons stay such
+  pub seen : (v : TrailView) → HasSeen old v → HasSeen new v
+  pub implied : (v : TrailView) → length old.steps ≡ length old.clauses → AreImplied old v → AreImplied new v

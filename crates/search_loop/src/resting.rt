@@ -1,0 +1,40 @@
+//! Back to level 0, so that a search can grow.
+
+ghost use Rattle.std.specs.Prelude.{◌≡◌, ℕ, List};
+ghost use Rattle.spec_sorts.specs.Terms.{Term};
+ghost use Rattle.term_core.specs.Tables.{TableView};
+ghost use Rattle.search_loop.specs.Search.{SearchFits};
+ghost use Rattle.search_loop.specs.Rounds.{Continues};
+ghost use Rattle.search_loop.specs.Asking.{IsAsked};
+
+use crate::feeding::go_back;
+use crate::search::Search;
+use clause_store::laws::{reasons_stay_right, what_is_marked_was_seen};
+use proof_log::Theory;
+
+impl Search {
+    /// Goes back to level 0, and lets the theory do so. What has its value since level 0 keeps it, and signs and activities stay. It takes
+    /// no memory.
+    pub fn rest<T: Theory>(&mut self, theory: &mut T)
+        requires ready { (t : TableView) × SearchFits t self.old }
+        requires asked { IsAsked (T.view theory.old) self.old }
+        ensures ready { (t : TableView) → SearchFits t self.old → SearchFits t self.new }
+        ensures level { self.new.trail.level ≡ 0 }
+        ensures budget { self.new.budget ≡ self.old.budget }
+        ensures continues { (t : TableView) → Continues t t self.old self.new }
+        ensures asked { IsAsked (T.view theory.new) self.new }
+        ensures with { (t : TableView) → T.goes_with theory.old t → T.goes_with theory.new t }
+        ensures came { (t : TableView) (ts : List Term) (n : ℕ) (es : List (ℕ × ℕ)) → T.came_by theory.old t ts n es
+            → T.came_by theory.new t ts n es }
+    {
+        what_is_marked_was_seen();
+        reasons_stay_right();
+        self.trail.is_sound();
+        if self.trail.level() == 0 {
+            return;
+        }
+        self.decider.put_back(&self.trail, 0);
+        go_back(theory, &mut self.trail, 0);
+        self.fed = self.trail.len();
+    }
+}
