@@ -15,7 +15,7 @@ use Rattle.spec_proof_texts.specs.Plans.{IsPrinted, in_clause, as_argument}
 use Rattle.spec_arithmetic.specs.Numbers.{IsLinear}
 use Rattle.spec_proof_texts.specs.Readable.{HasDecimals, IsReadableWhole}
 use Rattle.spec_proof_texts.proofs.Search.{argument_readable}
-use Rattle.search_loop.specs.Rounds.{AreSteps, nothing, lemmas, learning, HasSteps}
+use Rattle.search_loop.specs.Rounds.{AreSteps, nothing, stating, lemmas, learning, HasSteps}
 
 -- a term can be read where what it negates can
 bare_readable : (t : Term) → IsReadableWhole (literal_of t).atom → IsReadableWhole t
@@ -53,36 +53,41 @@ module _ (made : AreMadeReadable) (atoms_in : AreAtomsReadable) (p : Problem) (w
   abbrev AreReadableLists : List (List Literal) → Type 0
   AreReadableLists cs = (c : List Literal) → Contains cs c → (l : Literal) → Contains c l → IsReadableWhole l.atom
 
-  -- lemmas, and what was learned where its literals are over such terms, are of terms that can be read
-  steps_readable : (n : ℕ) (xs : Derivation) (cs : List (List Literal)) → AreSteps (whole_terms p) n xs cs → AreReadableLists cs
-      → (x : Inference) → Contains xs x → (u : Term) → Contains (conclusion x) u → IsReadableWhole u
-  steps_readable n _ _ nothing over y i = absurd (none y i)
-  steps_readable n _ _ (lemmas xs ys cs steps each) over y i = elim (Contains-append_cases xs ys y i) [
-    | inl old ↦ steps_readable n xs cs steps over y old
-    | inr new ↦ lemma_readable (n + length xs) y (All-contains (IsLemma (whole_terms p) (n + length xs)) ys y each new)
-  ]
-  steps_readable n _ _ (learning xs x cs steps resolved) over y i = elim (Contains-append_cases xs (x ∷ []) y i) [
-    | inl old ↦ steps_readable n xs cs steps (λ c k. over c (Contains-append_left cs (literals_of (conclusion x) ∷ []) c k)) y old
-    | inr new ↦ subst (λ (z : Inference). (u : Term) → Contains (conclusion z) u → IsReadableWhole u) (only x y new) (clause_readable (conclusion x)
-        (over (literals_of (conclusion x)) (Contains-append_right cs (literals_of (conclusion x) ∷ []) (literals_of (conclusion x)) (first (literals_of (conclusion x)) []))))
-  ]
+  -- clauses with which a search begins, lemmas, and what was learned where its literals are over such terms, are of terms that can be read
+  module _ (over : AreOverSearchTerms) where
+    whole_readable : (c : Clause) → Contains (whole_clauses p) c → (l : Literal) → Contains (literals_of c) l → IsReadableWhole l.atom
+    whole_readable c i l j = made_readable l.atom (given l.atom (over p c l i j))
+
+    -- of one inference
+    abbrev IsOfReadable : Inference → Type 0
+    IsOfReadable x = (u : Term) → Contains (conclusion x) u → IsReadableWhole u
+
+    steps_readable : (xs : Derivation) (cs : List (List Literal)) → AreSteps p xs cs → AreReadableLists cs → (x : Inference) → Contains xs x → IsOfReadable x
+    steps_readable _ _ nothing learned y i = absurd (none y i)
+    steps_readable _ _ (stating xs x cs steps whole_one) learned y i = elim (Contains-append_cases xs (x ∷ []) y i) [
+      | inl old ↦ steps_readable xs cs steps learned y old
+      | inr new ↦ subst IsOfReadable (only x y new) (clause_readable (conclusion x) (whole_readable (conclusion x) whole_one))
+    ]
+    steps_readable _ _ (lemmas xs ys cs steps each) learned y i = elim (Contains-append_cases xs ys y i) [
+      | inl old ↦ steps_readable xs cs steps learned y old
+      | inr new ↦ lemma_readable (length xs) y (All-contains (IsLemma (whole_terms p) (length xs)) ys y each new)
+    ]
+    steps_readable _ _ (learning xs x cs steps resolved no_weaker) learned y i = elim (Contains-append_cases xs (x ∷ []) y i) [
+      | inl old ↦ steps_readable xs cs steps (λ c k. learned c (Contains-append_left cs (literals_of (conclusion x) ∷ []) c k)) y old
+      | inr new ↦ subst IsOfReadable (only x y new) (clause_readable (conclusion x)
+          (learned (literals_of (conclusion x)) (Contains-append_right cs (literals_of (conclusion x) ∷ []) (literals_of (conclusion x)) (first (literals_of (conclusion x)) []))))
+    ]
 
   module _ (over : AreOverSearchTerms) (d : Derivation) (learned : List (List Literal)) (atoms : All (IsOverAtoms p) learned) (h : HasSteps p d (learned ++ [] ∷ [])) where
-    base_readable : (c : Clause) → Contains (whole_clauses p) c → (l : Literal) → Contains (literals_of c) l → IsReadableWhole l.atom
-    base_readable c i l j = made_readable l.atom (given l.atom (over p c l i j))
-
     learned_readable : AreReadableLists (learned ++ [] ∷ [])
     learned_readable c i l j = elim (Contains-push_cases learned [] c i) [
       | inl k ↦ atoms_in p whole l.atom (All-contains (λ (m : Literal). IsAtomOf p m.atom) c l (All-contains (IsOverAtoms p) learned c atoms k) j)
       | inr e ↦ absurd (none l (subst (λ (ls : List Literal). Contains ls l) (sym e) j))
     ]
 
-    -- each inference states a clause that the search began with, a lemma, a clause that was learned, or the empty one
+    -- each inference states a clause with which the search began or went on, a lemma, a clause that was learned, or the empty one
     inference_readable : (x : Inference) → Contains d x → (u : Term) → Contains (conclusion x) u → IsReadableWhole u
-    inference_readable x i = elim (Contains-append_cases h.base h.more x (subst (λ (xs : Derivation). Contains xs x) h.all i)) [
-      | inl b ↦ clause_readable (conclusion x) (base_readable (conclusion x) (All-contains (λ (y : Inference). Contains (whole_clauses p) (conclusion y)) h.base x h.stated b))
-      | inr m ↦ steps_readable (length h.base) h.more (learned ++ [] ∷ []) h.steps learned_readable x m
-    ]
+    inference_readable = steps_readable over d (learned ++ [] ∷ []) h.steps learned_readable
 
     stated_readable : (m : ℕ) (u : Term) → Contains (conclusion_at d m) u → IsReadableWhole u
     stated_readable m u i = elim (cases_lt m (length d)) [

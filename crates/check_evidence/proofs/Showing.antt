@@ -18,7 +18,9 @@ use Rattle.sat_budget.specs.declared.limits.Reason.{Reason}
 use Rattle.sat_budget.specs.declared.limits.Reason.TheVariants as reasons
 use Rattle.search_loop.specs.declared.cdcl.Answer.TheVariants.{Sat, Unknown}
 use Rattle.solve_core.specs.declared.outcome.Outcome.{Outcome}
-use Rattle.ratio128.specs.Meant.{overflow}
+use Rattle.spec_numbers.specs.Bounds.{fits}
+use Rattle.ratio128.specs.declared.ratio.Ratio.{Ratio}
+use Rattle.ratio128.specs.Meant.{fraction, overflow}
 use Rattle.search_loop.specs.Stops.{IsOverflowed}
 use Rattle.search_loop.specs.Rounds.{HasEvidence}
 use Rattle.spec_derivations.specs.Problems.{Problem, terms_of_problem, problem_of}
@@ -91,15 +93,15 @@ module _ (limits : Limits) (t : TableView) (c : Check) (symbols : symbols_in (si
       learns = d.justified.learning.learns;
     })
 
-    pub reason_shown : AreOverflows → (r : Reason) → o.answer ≡ Unknown r → HasEvidence t decided o.log o.budget (Unknown r) → IsShown limits t c (found.Reason r) o
-    reason_shown overflows (reasons.Conflicts n) is h = conflicts_shown n is h
-    reason_shown overflows (reasons.Overflow x) is h =
+    pub reason_shown : AreOverflows → ((a : Ratio) → fits (fraction a) ≡ true) → (r : Reason) → o.answer ≡ Unknown r → HasEvidence t decided o.log o.budget (Unknown r) → IsShown limits t c (found.Reason r) o
+    reason_shown overflows bounded (reasons.Conflicts n) is h = conflicts_shown n is h
+    reason_shown overflows bounded (reasons.Overflow x) is h =
         let es = o.budget.exchanges in
         let l = length kept.learned in
         let cause = overflowed_too decided problem same refl (asserts_no_more c d.interface) l es (overflow x.wide)
         (cause_of decided l es x (subst (λ (m : ℕ). IsOverflowed decided m es x) (sym many) h)) in (
           overflowed (overflow x.wide) kept,
-          (overflows problem l es (overflow x.wide) cause, (problem, problem_is, kept_within, cause)),
+          (overflows problem l es (overflow x.wide) cause, (bounded x.wide.left, bounded x.wide.right), (problem, problem_is, kept_within, cause)),
           (derivation_in t o.log, refl),
           (x, is, refl, refl),
         )

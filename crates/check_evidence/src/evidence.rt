@@ -20,6 +20,7 @@ use assertion_stack::Stack;
 use assertion_stack::laws::stacks_hold_in_grown_tables;
 use no_memory::NoMemory;
 use proof_log::ProofLog;
+use ratio128::laws::ratios_are_fractions;
 use sat_budget::{Budget, Limits, Reason};
 use solve_core::{Answer, Outcome, decide};
 use spec_causes::laws::causes_are_overflows;
@@ -113,6 +114,7 @@ fn evidence_of(
     search_makes_readable_terms();
     linear_terms_with_decimals_are_readable();
     causes_are_overflows();
+    ratios_are_fractions();
     whole_clauses_are_over_whole_terms();
     well_sorted_terms_are_printable();
     logs_are_over_their_terms();

@@ -32,7 +32,7 @@ use term_core::TermTable;
 impl Simplex {
     /// Makes the stop of an overflow, with the basic variables and the values. It is out of memory where their lists find
     /// none.
-    pub(crate) fn stop_of(&self, wide: Wide) -> Stop
+    pub fn stop_of(&self, wide: Wide) -> Stop
         ensures { StopsBy (λ s. (s.wide ≡ wide) × IsBasisOf self.now.assignment s.basis) result }
     {
         match self.assignment.basis() {

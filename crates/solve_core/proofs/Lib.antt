@@ -3,6 +3,7 @@ pub mod SearchForms
 pub mod SearchRelated
 pub mod SearchTruths
 pub mod SearchNumbers
+pub mod SearchRuns
 pub mod SearchStops
 pub mod SearchMet
 pub mod SearchTruthsAlone
@@ -10,7 +11,12 @@ pub mod SearchModelled
 pub mod SearchOverflowed
 pub mod SharedTerms
 pub mod SearchAgreed
+pub mod SearchAsked
+pub mod SearchWatching
 pub mod Missing
-pub mod SearchRounds
+pub mod SearchRests
+pub mod SearchGoing
+pub mod SearchSpeaking
+pub mod SearchOutcome
 pub mod SearchEnds
 pub mod SearchTogether

@@ -6,7 +6,7 @@ use Rattle.spec_sorts.specs.Terms.{Equal, Term, pair}
 use Rattle.spec_sorts.specs.Subterms.{has_term}
 use Rattle.spec_sorts.specs.Subsets.{AreAmong}
 use Rattle.spec_sorts.proofs.Members.{has_term-Decides}
-use Rattle.solve_core.specs.Rounds.{equalities_of, missing}
+use Rattle.solve_core.specs.Unspoken.{equalities_of, missing}
 
 -- what is listed counts nothing, and what is not counts one
 module _ (us vs : List Term) (among : AreAmong us vs) (t : Term) where

@@ -225,7 +225,7 @@ module _ (t : TableView) (differ : AreDifferent t.terms) (x : Search) (v : Theor
   -- which the theory watches
   pub shared_watched : (w : TheoryView) → v ≡ w → (u : Term) → Contains (clause_at t ids) u → IsSharedAmong (terms_watched t w) u
   shared_watched w same u i =
-      shared_among_more (subterms_in p) (terms_watched t w) (λ z j. subst (λ (is : List TermId). Contains (clause_at t is) z) (sym h.terms ∙ ap (λ (y : TheoryView). y.watched) same) (subterms_listed z j)) u (a.shared.only u i)
+      shared_among_more (subterms_in p) (terms_watched t w) (λ z j. subst (λ (is : List TermId). Contains (clause_at t is) z) (sym h.asked.terms ∙ ap (λ (y : TheoryView). y.watched) same) (subterms_listed z j)) u (a.shared.only u i)
 
   -- and linear numbers
   pub shared_linear : ((q : Problem) → All IsLinear (known_terms q) → (u : Term) → Contains (whole_terms q) u → IsLinear u) → (u : Term) → Contains (clause_at t ids) u → IsLinearOver t.symbols u
@@ -266,7 +266,7 @@ module _ (t : TableView) (differ : AreDifferent t.terms) (x : Search) (v : Theor
     by_classes : (u w : Term) → Contains terms u → Contains terms w → (class_in terms classes u ≡ class_in terms classes w) ↔ Congruent u w
     by_classes u w i j =
         let both = related t differ x v agreed h consistent fine classes tell p a.asked place linear_in number reduced kept u w i j in
-        let terms_are : terms_watched t v ≡ terms = ap (clause_at t) h.terms in
+        let terms_are : terms_watched t v ≡ terms = ap (clause_at t) h.asked.terms in
         let held_are : literals_held t v ≡ map (literal_at t) x.trail.literals = ap (map (literal_at t)) h.held in
         subst (λ (ts : List Term). (class_in terms classes u ≡ class_in terms classes w) ↔ IsCongruent ts (literals_held t v) u w) (sym terms_are)
         (subst (λ ls. (class_in terms classes u ≡ class_in terms classes w) ↔ IsCongruent terms ls u w) (sym held_are) both)

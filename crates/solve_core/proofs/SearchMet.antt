@@ -86,7 +86,7 @@ module _ (t : TableView) (differ : AreDifferent t.terms) (x : Search) (v : Theor
   -- each clause that a search begins with is met
   pub met : (c : Clause) → Contains (whole_clauses problem) c → list_any (term_true_by truths) c ≡ true
   met c i =
-      let d = from_image (map (literal_at t)) x.store.clauses (literals_of c) (s.derived.base c i) in
+      let d = from_image (map (literal_at t)) x.store.clauses (literals_of c) (s.whole.base c i) in
       let means : LiteralsMean t d.0 c = record { same = d.2; there = λ k e lt. clauses_in t x h.ready d.0 (get_or d.0 k e) d.1 (Contains-get_or d.0 k e lt) } in
       clause_met t x.trail.literals differ all_held consistent c d.0 means (h.satisfied d.0 d.1)
 

@@ -52,7 +52,7 @@ module _ (t : TableView) (differ : AreDifferent t.terms) (x : Search) (v : Theor
         let term : (n : ℕ) (u : Term) → n < length terms → get_or terms n u ≡ u → term_at t (get_or ids n no_term_id) ≡ u
         = λ n u lt e. sym (get_or-map (term_at t) ids n no_term_id u (short n lt)) ∙ e in
         let both = tell k.0 m.0 (short k.0 k.1) (short m.0 m.1) in
-        let terms_are : terms_watched t v ≡ terms = ap (clause_at t) h.terms in
+        let terms_are : terms_watched t v ≡ terms = ap (clause_at t) h.asked.terms in
         let held_are : literals_held t v ≡ held = ap (map (literal_at t)) h.held in (
           λ e. subst (λ (ts : List Term). IsCongruent ts held a b) terms_are (subst (λ (ls : List Literal). IsCongruent (terms_watched t v) ls a b) held_are
               (subst (λ (w : Term). IsCongruent (terms_watched t v) (literals_held t v) w b) (term k.0 a k.1 k.2) (subst (IsCongruent (terms_watched t v) (literals_held t v) (term_at t (get_or ids k.0 no_term_id))) (term m.0 b m.1 m.2)
@@ -74,7 +74,7 @@ module _ (t : TableView) (differ : AreDifferent t.terms) (x : Search) (v : Theor
       linear = λ u i. linear_in problem s.answered u (s.listed.only u i);
       met = met t differ x v agreed h consistent problem s;
       truths = atom_held t differ x v agreed h consistent problem s;
-      fine = subst (λ (ts : List Term). IsFine ts held) (ap (clause_at t) h.terms) (subst (IsFine (terms_watched t v)) (ap (map (literal_at t)) h.held) fine);
+      fine = subst (λ (ts : List Term). IsFine ts held) (ap (clause_at t) h.asked.terms) (subst (IsFine (terms_watched t v)) (ap (map (literal_at t)) h.held) fine);
       classes = related;
       reduced = reduced;
       kept = kept;

@@ -59,8 +59,8 @@ module _ (t : TableView) (x : Search) (v : TheoryView) (agreed : Type 0) (h : Ha
   -- what the theory holds and watches is over the table
   pub over_saturated : IsTheoryOver t v
   over_saturated = record {
-    terms = subst (All (IsTermIn t)) (sym h.terms) h.ready.atoms_are.there;
-    closed = subst (λ (is : List TermId). IsClosed (clause_at t is)) (sym h.terms) h.ready.atoms_are.closed;
+    terms = subst (All (IsTermIn t)) (sym h.asked.terms) h.ready.atoms_are.there;
+    closed = subst (λ (is : List TermId). IsClosed (clause_at t is)) (sym h.asked.terms) h.ready.atoms_are.closed;
     atoms = subst (λ (ls : List Lit). All (λ (l : Lit). IsAtomIn t l.term) ls) (sym h.held) (λ k d lt. atom_in t x h.ready (get_or x.trail.literals k d).term (all_of_atoms t x h.ready (get_or x.trail.literals k d) (Contains-get_or x.trail.literals k d lt)));
   }
 

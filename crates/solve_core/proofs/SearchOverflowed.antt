@@ -1,5 +1,5 @@
 -- That an operation which leaves the bound before a search begins justifies that nothing was found out.
-use Rattle.std.proofs.Common.{◌⊎◌, inl, inr, List, [], length, refl, sym, ap, subst, arith}
+use Rattle.std.proofs.Common.{◌⊎◌, inl, inr, List, [], length, sym, ap, subst, arith}
 use Rattle.std.specs.Prelude.{Some, None}
 use Rattle.std.proofs.lemmas.List.Elements.{All-nil}
 use Rattle.spec_derivations.specs.Problems.{Problem, terms_of_problem, subterms_in}
@@ -19,7 +19,7 @@ use Rattle.proof_log.specs.Logs.{Logged, inference_of, derivation_in, IsLogOf}
 use Rattle.search_loop.specs.declared.cdcl.Answer.{Answer}
 use Rattle.search_loop.specs.declared.cdcl.Answer.TheVariants.{Unknown}
 use Rattle.search_loop.specs.Stops.{IsOverflowed, forming, ordering}
-use Rattle.search_loop.specs.Rounds.{HasEvidence, IsLearning}
+use Rattle.search_loop.specs.Rounds.{nothing, HasEvidence, IsLearning, HasMade}
 use Rattle.solve_core.specs.declared.outcome.Outcome.{Outcome}
 use Rattle.solve_core.specs.Forms.{FindsOverflow}
 use Rattle.solve_core.specs.Decisions.{IsJustified, IsOverflowedBy}
@@ -35,8 +35,9 @@ module _ (t : TableView) (p : Problem) (limits : Limits) (empty : IsLogOf t []) 
       derived = All-nil (IsLearnedFrom p (derivation_in t []));
       atoms = All-nil (IsOverAtoms p);
       new = tt;
+      exact = tt;
     };
-    logged = inr (refl, refl);
+    logged = nothing;
   }
 
   pub overflowed_justified : (w : Wide) (d : Outcome) → IsOverflowedBy limits w d → FindsOverflow t p (Some w) ⊎ (FindsOverflow t p None × IsOverflowAmong (whole_terms p) (overflow w)) → IsJustified t p limits d
@@ -57,4 +58,5 @@ module _ (t : TableView) (p : Problem) (limits : Limits) (empty : IsLogOf t []) 
         learning = subst (λ (a : Answer). IsLearning t p d.log a d.budget.learned) (sym h.answer)
             (subst (λ (log : List Logged). IsLearning t p log (Unknown (Overflow h.strain)) d.budget.learned) (sym h.log)
             (subst (IsLearning t p [] (Unknown (Overflow h.strain))) (sym none) (nothing_learned h.strain)));
+        exchanged = subst (HasMade p d.budget) (sym h.answer) tt;
       }

@@ -1,4 +1,4 @@
--- That a search begins still where clauses between bounds came into its store.
+-- That a search goes on where clauses between bounds came into its store, and begins still.
 use Rattle.std.proofs.Common.{Result, Ok, Err, ◌≡◌, [], ◌∷◌, List, Contains, inl, inr, refl, sym, ap, ◌∙◌, subst}
 use Rattle.std.specs.Prelude.{MatchResult, OnOk}
 use Rattle.std.proofs.lemmas.List.Elements.{All-contains, Contains-push_cases}
@@ -7,33 +7,33 @@ use Rattle.spec_sorts.specs.Terms.{Term}
 use Rattle.spec_derivations.specs.Problems.{Problem}
 use Rattle.no_memory.specs.declared.NoMemory.{NoMemory}
 use Rattle.term_core.specs.declared.ids.Lit.{Lit}
-use Rattle.term_core.specs.Tables.{TableView, term_at, clause_at}
-use Rattle.sat_budget.specs.declared.limits.Limits.{Limits}
+use Rattle.term_core.specs.Tables.{TableView, Extends, declared_in, term_at, clause_at}
 use Rattle.proof_log.specs.declared.premises.StepId.{StepId}
-use Rattle.proof_log.specs.Logs.{Logged}
+use Rattle.proof_log.specs.Logs.{Logged, IsLogOf, derivation_in}
 use Rattle.proof_log.specs.Theories.{IsAtomIn, DerivesLemmas}
 use Rattle.search_loop.specs.declared.search.Search.{Search}
 use Rattle.search_loop.specs.Waiting.{AreOfAtoms}
 use Rattle.search_loop.specs.Search.{SearchFits}
-use Rattle.search_loop.specs.Rounds.{BeginsSearch, Continues, HasKept}
+use Rattle.search_loop.specs.Rounds.{Continues, HasKept}
+use Rattle.search_loop.specs.Growing.{IsBegun}
 use Rattle.search_loop.proofs.SearchReady.{Ids}
 use Rattle.search_loop.proofs.SearchRounds.{continues_same, continues_on}
-use Rattle.search_loop.proofs.SearchGrown.{continues_derived, begins_derived}
+use Rattle.search_loop.proofs.SearchGrown.{ready_wider, ready_derived, continues_derived, continues_wider}
 use Rattle.bound_lemmas.specs.declared.pair.BoundPair.{BoundPair}
 use Rattle.bound_lemmas.specs.Literals.{IsAtomOf}
 use Rattle.bound_lemmas.specs.Pairs.{IsPairOf}
 use Rattle.solve_core.specs.Relating.{HasRelated}
 
 -- nothing came
-pub related_same : (t : TableView) (x : Search) → HasRelated t t x x
-related_same t x = record { continues = continues_same t x x refl refl refl refl refl; begins = λ p limits b. b; atoms = refl }
+pub related_same : (t : TableView) (x : Search) → SearchFits t x → HasRelated t t x x
+related_same t x ready = record { continues = continues_same t x x refl refl refl refl refl; ready = ready; same = refl }
 
 -- one after the other
 pub related_on : (s t u : TableView) (a b c : Search) → HasRelated s t a b → HasRelated t u b c → HasRelated s u a c
 related_on s t u a b c h k = record {
   continues = continues_on s t u a b c h.continues k.continues;
-  begins = λ p limits z. k.begins p limits (h.begins p limits z);
-  atoms = k.atoms ∙ h.atoms;
+  ready = k.ready;
+  same = k.same ∙ ap (λ (z : Search). record z { log = c.log; store = c.store }) h.same;
 }
 
 -- lemmas came into the log
@@ -41,11 +41,7 @@ pub related_lemmas : (t u : TableView) (x : Search) (log : List Logged) (ts : Li
     → DerivesLemmas ts (record { table = t; log = x.log }) (record { table = u; log = log }) → HasRelated t u x (record x { log = log })
 related_lemmas t u x log ts is ready derives =
     let came = subst (λ (us : List Term). DerivesLemmas us (record { table = t; log = x.log }) (record { table = u; log = log })) is derives in
-    record {
-      continues = continues_derived t u x ready log came;
-      begins = λ p limits b. begins_derived t u x ready log came p limits b;
-      atoms = refl;
-    }
+    record { continues = continues_derived t u x ready log came; ready = ready_derived t u x ready log came; same = refl }
 
 -- the literals of atoms are of terms of the search
 pub of_atoms : (t : TableView) (x : Search) (ts : List Term) (l : Lit) → ts ≡ clause_at t x.terms.items → SearchFits t x → Contains x.atoms.items l.term → IsAtomOf ts t l
@@ -65,10 +61,36 @@ pair_of_atoms x p h l i = elim (Contains-push_cases (p.first ∷ []) p.second l 
 
 -- and then the clause of a step came into the store
 pub kept_related : (t u : TableView) (x y z : Search) (step : StepId) (r : Result (Unit {0}) NoMemory) → HasRelated t u x y → MatchResult r (λ _. HasKept u step y z) (λ _. z ≡ y)
-    → OnOk r (Continues u u y z) → OnOk r ((p : Problem) (limits : Limits) → BeginsSearch u p limits y → BeginsSearch u p limits z) → OnOk r (HasRelated t u x z)
-kept_related t u x y z step (Ok a) h kept on begins = related_on t u u x y z h (record { continues = on; begins = begins; atoms = ap (λ (s : Search). s.atoms) kept.0 })
-kept_related t u x y z step (Err e) h kept on begins = tt
+    → OnOk r (Continues u u y z) → OnOk r (SearchFits u z) → OnOk r (HasRelated t u x z)
+kept_related t u x y z step (Ok a) h kept on ready =
+    let log : y.log ≡ z.log = sym (ap (λ (s : Search). s.log) kept.0) in
+    related_on t u u x y z h (record { continues = on; ready = ready; same = kept.0 ∙ (λ i. record y { log = log i; store = z.store }) })
+kept_related t u x y z step (Err e) h kept on ready = tt
 
 -- a pair of the atoms is one of those of a search that has the same
 pub pair_later : (t u : TableView) (x y : Search) (p : BoundPair) → HasRelated t u x y → IsPairOf x.atoms.items p → IsPairOf y.atoms.items p
-pair_later t u x y p h pair = subst (λ (ids : Ids). IsPairOf ids.items p) (sym h.atoms) pair
+pair_later t u x y p h pair = subst (λ (ids : Ids). IsPairOf ids.items p) (sym (ap (λ (s : Search). s.atoms) h.same)) pair
+
+-- a search that begins does so still
+pub begun_related : (t u : TableView) (p : Problem) (x y : Search) → HasRelated t u x y → IsBegun t p x → IsBegun u p y
+begun_related t u p x y h b = record {
+  ready = h.ready;
+  empty = ap (λ (s : Search). s.trail.literals) h.same ∙ b.empty;
+  level = ap (λ (s : Search). s.trail.level) h.same ∙ b.level;
+  fed = ap (λ (s : Search). s.fed) h.same ∙ b.fed;
+  search = h.continues.search p b.search;
+  unlearned = ap (λ (s : Search). s.budget.learned) h.same ∙ b.unlearned;
+  unspent = ap (λ (s : Search). s.budget.exchanges) h.same ∙ b.unspent;
+}
+
+-- so it does over a table that has more
+pub begun_wider : (t u : TableView) → Extends t u → declared_in u ≡ declared_in t → (p : Problem) (x : Search) → IsLogOf u x.log → derivation_in u x.log ≡ derivation_in t x.log → IsBegun t p x → IsBegun u p x
+begun_wider t u g declared p x right same b = record {
+  ready = ready_wider t u g declared x right same b.ready;
+  empty = b.empty;
+  level = b.level;
+  fed = b.fed;
+  search = (continues_wider t u g declared x right same b.ready).search p b.search;
+  unlearned = b.unlearned;
+  unspent = b.unspent;
+}

@@ -1,8 +1,11 @@
 -- What a search shows with its theories, from the beginning to an answer.
-use Rattle.std.specs.Prelude.{◌≡◌, ◌↔◌, ℕ, true, List, length, map, All, Contains}
+use Rattle.std.specs.Prelude.{◌≡◌, ◌↔◌, ℕ, true, List, length, map, All, Contains, Result, Ok, Err}
 use Rattle.spec_numbers.specs.Fractions.{Fraction, IsReduced}
 use Rattle.spec_sorts.specs.Terms.{Number, Term, sort_of}
-use Rattle.spec_sorts.specs.Subsets.{AreAmong}
+use Rattle.spec_derivations.specs.Problems.{subterms_in}
+use Rattle.spec_derivations.specs.Examples.{asserting, speaking}
+use Rattle.spec_causes.specs.Shared.{IsSharedEquality}
+use Rattle.no_memory.specs.declared.NoMemory.{NoMemory}
 use Rattle.spec_sorts.specs.Literals.{Literal}
 use Rattle.spec_equality.specs.Congruence.{IsFine}
 use Rattle.spec_arithmetic.specs.Numbers.{number_at}
@@ -13,22 +16,19 @@ use Rattle.spec_simplex.specs.Numbers.{HoldsAt}
 use Rattle.term_core.specs.declared.ids.TermId.{TermId}
 use Rattle.term_core.specs.Tables.{TableView, clause_at}
 use Rattle.sat_budget.specs.declared.limits.Stop.{Stop}
+use Rattle.sat_budget.specs.declared.limits.Stop.TheVariants as stops
 use Rattle.sat_budget.specs.declared.limits.Reason.TheVariants as reasons
 use Rattle.sat_budget.specs.Budgets.{StopsBy}
 use Rattle.proof_log.specs.Logs.{IsLogOf}
 use Rattle.proof_log.specs.Theories.{TheoryView, literals_held}
 use Rattle.congruence_closure.specs.Closure.{TellClasses}
 use Rattle.congruence.specs.Views.{AreEqualBy}
-use Rattle.simplex.specs.Views.{SimplexView}
 use Rattle.simplex.specs.Checks.{KeepsBounds}
-use Rattle.simplex.specs.Coming.{CameBy}
 use Rattle.combined.specs.Views.{CombinedView}
-use Rattle.search_loop.specs.declared.search.Search.{Search}
 use Rattle.search_loop.specs.declared.cdcl.Answer.{Answer}
 use Rattle.search_loop.specs.declared.cdcl.Answer.TheVariants.{Unknown}
-use Rattle.search_loop.specs.Rounds.{KeepsLimit, ShowsAnswer}
+use Rattle.search_loop.specs.Rounds.{HasEvidence, IsLearning, HasMade}
 use Rattle.search_loop.specs.Asking.{SearchState}
-use Rattle.search_loop.specs.Paying.{most, IsPaid}
 
 -- One of the terms is a number.
 pub record HasNumber (ts : List Term) : Type 0 where
@@ -73,22 +73,28 @@ abbrev pub AgreeBoth : List Term → List Literal → CombinedView → Type 0
 AgreeBoth ts ls v = (IsFine ts ls × (v.congruence.now.saturated ≡ true))
     × (HaveForms ls × IsFeasible ls × KeepsBounds v.simplex)
 
--- linear arithmetic came of all terms that the search speaks of, among any others, by the exchanges that are kept, in
--- no more runs
--- than are paid for
-abbrev pub HasCome : TableView → Search → SimplexView → Type 0
-HasCome t x v = (ts : List Term) → AreAmong (clause_at t x.terms.items) ts
-    → IsPaid (λ n. CameBy t ts n x.budget.exchanges v) (most t x x)
-
--- An answer is shown, over a log that is right, and the limit is kept.
-pub record IsAnswered (old new : SearchState) (a : Answer) : Type 0 where
+-- An answer is shown of terms that are asserted, with some interface equalities, over a log that is right.
+pub record IsAnswered (ts : List Term) (limit : ℕ) (s : SearchState) (a : Answer) : Type 0 where
   -- each step of the log is right
-  pub right : IsLogOf new.table new.search.log
-  -- the limit of the budget is the same
-  pub limit : KeepsLimit old.search.budget new.search.budget
+  pub right : IsLogOf s.table s.search.log
+  -- the limit of the budget is this
+  pub limit_is : s.search.budget.limit ≡ limit
+  -- those equalities
+  pub interface : List Term
+  pub equalities : All (IsSharedEquality (subterms_in (asserting ts))) interface
   -- it shows what it should of the terms
-  pub shows : ShowsAnswer old.table new.table old.search new.search a
+  pub evidence : HasEvidence s.table (speaking ts interface) s.search.log s.search.budget a
+  -- and so do the log and what was learned
+  pub learning : IsLearning s.table (speaking ts interface) s.search.log a s.search.budget.learned
+  -- the exchanges are those of the search
+  pub exchanged : HasMade (speaking ts interface) s.search.budget a
 
 -- so is the reason of a stop
-abbrev pub IsStoppedBy : (old new : SearchState) → Stop → Type 0
-IsStoppedBy old new stop = StopsBy (λ s. IsAnswered old new (Unknown (reasons.Overflow s))) stop
+abbrev pub IsStoppedBy : List Term → ℕ → SearchState → Stop → Type 0
+IsStoppedBy ts limit s stop = StopsBy (λ e. IsAnswered ts limit s (Unknown (reasons.Overflow e))) stop
+
+-- what is answered to a stop: its reason, or that memory ran out
+abbrev pub AnswersStop : Stop → Result Answer NoMemory → Type 0
+AnswersStop (stops.Strained s) (Ok a) = a ≡ Unknown (reasons.Overflow s)
+AnswersStop stops.Memory (Err e) = Unit {0}
+AnswersStop stop result = ⊥

@@ -14,7 +14,7 @@ use Rattle.sat_budget.specs.Budgets.{BudgetView}
 use Rattle.search_loop.specs.declared.cdcl.Answer.{Answer}
 use Rattle.search_loop.specs.declared.cdcl.Answer.TheVariants.{Unknown}
 use Rattle.search_loop.specs.Stops.{IsNoBasis}
-use Rattle.search_loop.specs.Rounds.{HasLimit, HasEvidence, IsLearning}
+use Rattle.search_loop.specs.Rounds.{HasLimit, HasEvidence, IsLearning, HasMade}
 use Rattle.solve_core.specs.Forms.{FindsOverflow}
 use Rattle.solve_core.specs.declared.outcome.Outcome.{Outcome}
 
@@ -44,6 +44,8 @@ pub record IsJustified (t : TableView) (p : Problem) (limits : Limits) (d : Outc
   pub evidence : HasEvidence t p d.log d.budget d.answer
   -- and so do the log and what was learned
   pub learning : IsLearning t p d.log d.answer d.budget.learned
+  -- the exchanges are those of the check
+  pub exchanged : HasMade p d.budget d.answer
 
 -- Terms that are asserted are decided: with interface equalities, the answer has its evidence.
 pub record HasDecision (t : TableView) (ts : List Term) (limits : Limits) (d : Outcome) : Type 0 where

@@ -4,6 +4,6 @@ pub mod Relating
 pub mod Answering
 pub mod Sharing
 pub mod Agreeing
-pub mod Ending
-pub mod Rounds
+pub mod Unspoken
+pub mod GoingOn
 pub mod Decisions

@@ -47,7 +47,7 @@ fn joined(alloc: Global, front: &[TermId], back: &[TermId]) -> Result<Vec<TermId
 }
 
 /// Tells whether a term is marked.
-fn is_marked(marks: &[bool], id: TermId) -> bool {
+pub(crate) fn is_marked(marks: &[bool], id: TermId) -> bool {
     match marks.get(id.0 as usize) {
         None => false,
         Some(mark) => *mark,
@@ -55,7 +55,7 @@ fn is_marked(marks: &[bool], id: TermId) -> bool {
 }
 
 /// Marks terms, by their numbers.
-fn mark_all(marks: &mut Vec<bool>, ids: &[TermId]) {
+pub(crate) fn mark_all(marks: &mut Vec<bool>, ids: &[TermId]) {
     'ids: for id in ids.iter() {
         if (id.0 as usize) < marks.len() {
             marks[id.0 as usize] = true;

@@ -1,29 +1,27 @@
-//! The search with its theories, from the beginning to an answer, or to where they do not agree.
+//! The search with its theories, from the beginning to an answer.
 
-ghost use Rattle.std.specs.Prelude.{◌≡◌, ◌≢◌, [], List, All, Contains, IfOk, IfErr, MatchBool};
+ghost use Rattle.std.specs.Prelude.{◌≡◌, ◌≢◌, [], List, All, Contains, IfOk, MatchBool, MatchResult};
 ghost use Rattle.spec_sorts.specs.Terms.{Number, Term, sort_of};
-ghost use Rattle.spec_derivations.specs.Problems.{Problem};
-ghost use Rattle.term_core.specs.Tables.{declared_in, Extends, clause_at};
-ghost use Rattle.sat_budget.specs.declared.limits.Limits.{Limits};
-ghost use Rattle.sat_budget.specs.declared.limits.Reason.TheVariants.{Overflow};
-ghost use Rattle.sat_budget.specs.Budgets.{StopsBy};
-ghost use Rattle.proof_log.specs.Theories.{IsTermIn, terms_watched, literals_held};
+ghost use Rattle.spec_sorts.specs.Subterms.{subterms_of};
+ghost use Rattle.spec_derivations.specs.Examples.{speaking};
+ghost use Rattle.term_core.specs.Tables.{declared_in, Extends, AreIn, clause_at};
+ghost use Rattle.proof_log.specs.Theories.{IsTermIn};
 ghost use Rattle.congruence_relation.specs.Relation.{AreFactsOf};
 ghost use Rattle.congruence.specs.Views.{theory_of};
 ghost use Rattle.simplex.specs.Checks.{Suits};
 ghost use Rattle.simplex.specs.Coming.{CameBy};
-ghost use Rattle.search_loop.specs.declared.cdcl.Answer.TheVariants.{Unknown};
-ghost use Rattle.search_loop.specs.Rounds.{BeginsSearch, ShowsAnswer};
-ghost use Rattle.search_loop.specs.Asking.{HasSaturated, state};
-ghost use Rattle.solve_core.specs.Sharing.{IsAskedOf};
-ghost use Rattle.solve_core.specs.Answering.{HasNumber, AgreeBoth, HasCome, IsAnswered, IsStoppedBy};
-ghost use Rattle.solve_core.specs.Ending.{EndsRound, SaturatesRound, AnswersStop};
+ghost use Rattle.search_loop.specs.Asking.{state};
+ghost use Rattle.search_loop.specs.Growing.{IsBegun};
+ghost use Rattle.solve_core.specs.Sharing.{AreSharedOf};
+ghost use Rattle.solve_core.specs.Answering.{HasNumber, IsAnswered, IsStoppedBy, AnswersStop};
+ghost use Rattle.solve_core.specs.GoingOn.{CanGoOn};
 
 use crate::agreeing::{AgreementFound, agreement};
 use crate::bounding::relate_bounds;
 use crate::modelling::{TheoryAssignment, model, zeros};
 use crate::propositional::{answer_propositional, are_propositional};
-use crate::sharing::is_number;
+use crate::sharing::{is_number, shared_terms};
+use crate::speaking::speak_of;
 use crate::truths::truth_values;
 use combined::Combined;
 use congruence::Congruence;
@@ -33,21 +31,12 @@ use sat_budget::{Reason, Stop};
 use search_loop::{Answer, End, Search, watch_all};
 use term_core::{TermId, TermTable};
 
-/// What comes of a search.
-#[derive(Drop)]
-pub(crate) enum Round {
-    /// It is answered.
-    Answered(Answer),
-    /// It is saturated, and the theories do not agree on these pairs of shared terms, of whose equalities it does not speak.
-    Differ(Vec<(TermId, TermId)>),
-}
-
 /// Answers a stop of a theory: `Unknown` with the reason, or that memory ran out.
-fn answer_to(stop: Stop) -> Result<Round, NoMemory>
+fn answer_to(stop: Stop) -> Result<Answer, NoMemory>
     ensures { AnswersStop stop result }
 {
     match stop {
-        Stop::Strained(strain) => Ok(Round::Answered(Answer::Unknown(Reason::Overflow(strain)))),
+        Stop::Strained(strain) => Ok(Answer::Unknown(Reason::Overflow(strain))),
         Stop::Memory => Err(NoMemory),
     }
 }
@@ -67,37 +56,38 @@ fn have_numbers(table: &TermTable, terms: &[TermId]) -> bool
 }
 
 /// Searches with no theory where all terms are propositional, else with the theory of equality and functions, and with that of linear
-/// arithmetic as well where some term is a number. It goes on from the beginning to an answer, or to where it is saturated and the theories
-/// do not agree on shared terms.
+/// arithmetic as well where some term is a number. The search begins, for these roots.
 pub(crate) fn answer(
     search: &mut Search,
     table: &mut TermTable,
-    shared: &[TermId],
-) -> Result<Round, NoMemory>
-    requires begins { (p : Problem) × (limits : Limits) × BeginsSearch table.old p limits search.old }
-    requires asked { (p : Problem) × IsAskedOf table.old shared.now p search.old }
+    roots: &[TermId],
+) -> Result<Answer, NoMemory>
+    ghost asked: { List Term }
+    requires asked { asked ≡ clause_at table.old roots.now }
+    requires roots { AreIn table.old roots.now }
+    requires begun { IsBegun table.old (speaking asked []) search.old }
     ensures grown { Extends table.old table.new }
     ensures declared { declared_in table.new ≡ declared_in table.old }
-    ensures ends { IfOk result (EndsRound (state table.old search.old) (state table.new search.new) shared.now) }
+    ensures answered { IfOk result (IsAnswered asked search.old.budget.limit (state table.new search.new)) }
 {
     if are_propositional(table, &search.terms) {
-        let answer = answer_propositional(search, table)?;
-        return Ok(Round::Answered(answer));
+        return answer_propositional(search, table);
     }
     if have_numbers(table, &search.terms) {
-        return answer_numbers(search, table, shared);
+        let shared = shared_terms(search.alloc, table, roots)?;
+        return answer_numbers(search, table, &shared);
     }
-    let answer = answer_classes(search, table)?;
-    Ok(Round::Answered(answer))
+    answer_classes(search, table)
 }
 
 /// Searches with the theory of equality and functions alone, where no term is a number.
 fn answer_classes(search: &mut Search, table: &mut TermTable) -> Result<Answer, NoMemory>
-    requires begins { (p : Problem) × (limits : Limits) × BeginsSearch table.old p limits search.old }
+    ghost asked: { List Term }
+    requires begun { IsBegun table.old (speaking asked []) search.old }
     requires plain { (u : Term) → Contains (clause_at table.old search.old.terms.items) u → sort_of u ≢ Number }
     ensures grown { Extends table.old table.new }
     ensures declared { declared_in table.new ≡ declared_in table.old }
-    ensures answered { IfOk result (IsAnswered (state table.old search.old) (state table.new search.new)) }
+    ensures answered { IfOk result (IsAnswered asked search.old.budget.limit (state table.new search.new)) }
 {
     logs_hold_in_grown_tables();
     let truths = truth_values(search.alloc, table)?;
@@ -111,13 +101,14 @@ fn search_classes(
     table: &mut TermTable,
     theory: &mut Congruence,
 ) -> Result<Answer, NoMemory>
-    requires begins { (p : Problem) × (limits : Limits) × BeginsSearch table.old p limits search.old }
+    ghost asked: { List Term }
+    requires begun { IsBegun table.old (speaking asked []) search.old }
     requires plain { (u : Term) → Contains (clause_at table.old search.old.terms.items) u → sort_of u ≢ Number }
     requires empty { theory_of theory.old ≡ record { held = []; watched = []; marks = [] } }
     requires with { AreFactsOf table.old theory.old.now.facts }
     ensures grown { Extends table.old table.new }
     ensures declared { declared_in table.new ≡ declared_in table.old }
-    ensures answered { IfOk result (IsAnswered (state table.old search.old) (state table.new search.new)) }
+    ensures answered { IfOk result (IsAnswered asked search.old.budget.limit (state table.new search.new)) }
 {
     // This theory stops for memory alone, as it computes with no numbers.
     let Ok(()) = watch_all(theory, table, &search.terms) else {
@@ -147,19 +138,20 @@ fn answer_numbers(
     search: &mut Search,
     table: &mut TermTable,
     shared: &[TermId],
-) -> Result<Round, NoMemory>
-    requires begins { (p : Problem) × (limits : Limits) × BeginsSearch table.old p limits search.old }
-    requires asked { (p : Problem) × IsAskedOf table.old shared.now p search.old }
+) -> Result<Answer, NoMemory>
+    ghost asked: { List Term }
+    requires begun { IsBegun table.old (speaking asked []) search.old }
+    requires shared { AreSharedOf table.old (subterms_of asked) shared.now }
     ensures grown { Extends table.old table.new }
     ensures declared { declared_in table.new ≡ declared_in table.old }
-    ensures ends { IfOk result (EndsRound (state table.old search.old) (state table.new search.new) shared.now) }
+    ensures answered { IfOk result (IsAnswered asked search.old.budget.limit (state table.new search.new)) }
 {
-    relate_bounds(search, table)?;
+    relate_bounds(search, table, 0)?;
     logs_hold_in_grown_tables();
     let truths = truth_values(search.alloc, table)?;
     let mut theory = Combined::new(search.alloc, table, truths)?;
-    match search_with(search, table, &mut theory, shared) {
-        Ok(round) => Ok(round),
+    match begin_with(search, table, &mut theory, shared) {
+        Ok(answer) => Ok(answer),
         Err(stop) => answer_to(stop),
     }
 }
@@ -167,65 +159,66 @@ fn answer_numbers(
 /// Searches with both theories, which hold and watch nothing yet.
 ///
 /// `Memory` comes where memory ran out, here or in a theory, and `Strained` from linear arithmetic.
-fn search_with(
+fn begin_with(
     search: &mut Search,
     table: &mut TermTable,
     theory: &mut Combined,
     shared: &[TermId],
-) -> Result<Round, Stop>
-    requires begins { (p : Problem) × (limits : Limits) × BeginsSearch table.old p limits search.old }
-    requires asked { (p : Problem) × IsAskedOf table.old shared.now p search.old }
+) -> Result<Answer, Stop>
+    ghost asked: { List Term }
+    requires begun { IsBegun table.old (speaking asked []) search.old }
+    requires shared { AreSharedOf table.old (subterms_of asked) shared.now }
     requires empty { theory_of theory.old.congruence ≡ record { held = []; watched = []; marks = [] } }
     requires congruence { AreFactsOf table.old theory.old.congruence.now.facts }
     requires simplex { Suits theory.old.simplex table.old }
     requires came { (ts : List Term) → CameBy table.old ts 0 [] theory.old.simplex }
     ensures grown { Extends table.old table.new }
     ensures declared { declared_in table.new ≡ declared_in table.old }
-    ensures ends { IfOk result (EndsRound (state table.old search.old) (state table.new search.new) shared.now) }
-    ensures stopped { IfErr result (IsStoppedBy (state table.old search.old) (state table.new search.new)) }
+    ensures answers { MatchResult result (IsAnswered asked search.old.budget.limit (state table.new search.new))
+        (IsStoppedBy asked search.old.budget.limit (state table.new search.new)) }
 {
     table.ids_are_unique();
     if let Err(stop) = watch_all(theory, table, &search.terms) {
         theory.parts_hold_the_same();
         return Err(stop);
     }
-    let ended = search.run(table, theory);
     theory.parts_hold_the_same();
-    match ended {
-        Ok(End::Saturated) => answer_saturated(search, table, theory, shared),
-        Ok(End::Refuted(step)) => Ok(Round::Answered(Answer::Unsat(step))),
-        Ok(End::Stopped(reason)) => Ok(Round::Answered(Answer::Unknown(reason))),
-        Err(stop) => Err(stop),
-    }
+    search_with(search, table, theory, shared)
 }
 
-/// Makes the model of a saturated search with both theories, where they agree.
+/// Searches with both theories. Where it rests and they do not agree on pairs of shared terms, the equalities of these come in, and it
+/// goes on.
 ///
-/// `Memory` comes where memory runs out, and `Strained` where an operation leaves 128 bits that computes a number.
-fn answer_saturated(
-    search: &Search,
-    table: &TermTable,
-    theory: &Combined,
+/// `Memory` comes where memory ran out, here or in a theory, and `Strained` where a number leaves 128 bits.
+/// Source: Nelson and Oppen, Simplification by Cooperating Decision Procedures, TOPLAS 1979.
+fn search_with(
+    search: &mut Search,
+    table: &mut TermTable,
+    theory: &mut Combined,
     shared: &[TermId],
-) -> Result<Round, Stop>
-    requires search_saturated { HasSaturated table.now search.now (theory_of theory.now.congruence)
-        (AgreeBoth (terms_watched table.now (theory_of theory.now.congruence))
-        (literals_held table.now (theory_of theory.now.congruence)) theory.now) }
-    requires congruence { AreFactsOf table.now theory.now.congruence.now.facts }
-    requires simplex { Suits theory.now.simplex table.now }
-    requires came { HasCome table.now search.now theory.now.simplex }
-    requires asked { (p : Problem) × IsAskedOf table.now shared.now p search.now }
-    ensures ends { IfOk result (SaturatesRound table.now search.now shared.now) }
-    ensures overflowed { IfErr result (StopsBy (λ s. ShowsAnswer table.now table.now search.now search.now
-        (Unknown (Overflow s)))) }
+) -> Result<Answer, Stop>
+    ghost asked: { List Term }
+    requires ready { CanGoOn asked shared.now (state table.old search.old) theory.old }
+    ensures grown { Extends table.old table.new }
+    ensures declared { declared_in table.new ≡ declared_in table.old }
+    ensures answers { MatchResult result (IsAnswered asked search.old.budget.limit (state table.new search.new))
+        (IsStoppedBy asked search.old.budget.limit (state table.new search.new)) }
 {
-    theory.parts_hold_the_same();
-    table.ids_are_unique();
-    match agreement(search, table, theory, shared)? {
-        AgreementFound::Differ(pairs) => Ok(Round::Differ(pairs)),
-        AgreementFound::Agreed(assigned_values) => {
-            let model = model(search, table, &assigned_values)?;
-            Ok(Round::Answered(Answer::Sat(model)))
+    'rests: loop {
+        table.ids_are_unique();
+        match search.run(table, theory)? {
+            End::Saturated => {}
+            End::Refuted(step) => return Ok(Answer::Unsat(step)),
+            End::Stopped(reason) => return Ok(Answer::Unknown(reason)),
+        }
+        table.ids_are_unique();
+        theory.parts_hold_the_same();
+        match agreement(search, table, theory, shared)? {
+            AgreementFound::Differ(pairs) => speak_of(search, table, theory, &pairs)?,
+            AgreementFound::Agreed(assigned_values) => {
+                let model = model(search, table, &assigned_values)?;
+                return Ok(Answer::Sat(model));
+            }
         }
     }
 }

@@ -14,6 +14,7 @@ mod outcome;
 mod propositional;
 mod sharing;
 mod solver;
+mod speaking;
 mod truths;
 
 pub use outcome::{Outcome, decide};

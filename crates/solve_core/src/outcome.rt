@@ -5,19 +5,15 @@ ghost use Rattle.search_loop.specs.Answered.{AreAnswered};
 ghost use Rattle.term_core.specs.Tables.{declared_in, Extends, clause_at};
 ghost use Rattle.proof_log.specs.Logs.{AreFormulasIn};
 ghost use Rattle.solve_core.specs.Decisions.{IsOverflowedBy, HasDecision};
-ghost use Rattle.solve_core.specs.Rounds.{IsOpenFor, IsRound};
 
-use crate::answering::{Round, answer};
-use crate::equalities::{add_equalities, affirm};
+use crate::answering::answer;
 use crate::forms::first_overflow;
-use crate::sharing::shared_terms;
 use clausify::ClauseStop;
 use no_memory::NoMemory;
 use proof_log::ProofLog;
 use proof_log::laws::empty_logs_are_right;
 use ratio128::Wide;
 use sat_budget::{Basis, Budget, Limits, Reason, Strain};
-use search_loop::begin::begin;
 use search_loop::{Answer, Search};
 use std::alloc::Global;
 use term_core::{TermId, TermTable};
@@ -36,10 +32,9 @@ pub struct Outcome {
 /// Decides whether some interpretation makes all of the terms true, or says why it was not found out. They must be formulas that the
 /// search answers for: products and quotients are linear.
 ///
-/// The forms of their arithmetic atoms are taken first, in ascending order of the atoms' numbers. Then it searches, in rounds. Where a
-/// search is saturated and its theories do not agree on shared terms, the next round begins anew and speaks of equalities of these terms
-/// too. Log and budget are those of the last round. The table grows by the terms of the clauses that define the terms and those equalities.
-/// It stays as it was where memory runs out, the one failure.
+/// The forms of their arithmetic atoms are taken first, in ascending order of the atoms' numbers. Then it searches. Where the search
+/// rests and its theories do not agree on shared terms, equalities of these come in, and it goes on. The table grows by the terms of the
+/// clauses that define the terms and those equalities. It stays as it was where memory runs out, the one failure.
 /// Source: Nelson and Oppen, Simplification by Cooperating Decision Procedures, TOPLAS 1979.
 pub fn decide(
     alloc: Global,
@@ -80,64 +75,6 @@ fn overflowed(alloc: Global, wide: Wide, limits: &Limits) -> Result<Outcome, NoM
     })
 }
 
-/// What a round passes on to the next one.
-#[derive(Drop)]
-struct PassedOn {
-    /// The equalities of shared terms of which the next one speaks.
-    interface: Vec<TermId>,
-    /// For each variable the sign that it had last. No answer depends on signs.
-    signs: Vec<bool>,
-}
-
-/// Searches once, with the interface equalities that there are. Where the theories do not agree, it gives `None`, and equalities of shared
-/// terms come as well of which this search did not speak.
-fn round(
-    alloc: Global,
-    table: &mut TermTable,
-    roots: &[TermId],
-    shared: &[TermId],
-    passed: &mut PassedOn,
-    limits: &Limits,
-) -> Result<Option<Outcome>, NoMemory>
-    requires ready { IsOpenFor roots.now shared.now (record {
-      table = table.old;
-      interface = passed.old.interface.items;
-    }) }
-    ensures grown { Extends table.old table.new }
-    ensures declared { declared_in table.new ≡ declared_in table.old }
-    ensures round { IfOk result (IsRound roots.now shared.now limits.now
-        (record { table = table.old; interface = passed.old.interface.items })
-        (record { table = table.new; interface = passed.new.interface.items })) }
-{
-    empty_logs_are_right();
-    let mut search = match begin(alloc, table, roots, &passed.interface, limits) {
-        Ok(search) => search,
-        Err(ClauseStop::Wide(wide)) => {
-            let outcome = overflowed(alloc, wide, limits)?;
-            return Ok(Some(outcome));
-        }
-        Err(ClauseStop::Memory) => return Err(NoMemory),
-    };
-    search.decider.recall(&passed.signs);
-    match answer(&mut search, table, shared)? {
-        Round::Differ(pairs) => {
-            add_equalities(alloc, table, &pairs, &mut passed.interface)?;
-            passed.signs = search.decider.into_signs();
-            affirm(&mut passed.signs, &passed.interface)?;
-            Ok(None)
-        }
-        Round::Answered(answer) => {
-            let Search { log, budget, .. } = search;
-            budget.is_within();
-            Ok(Some(Outcome {
-                answer,
-                log,
-                budget,
-            }))
-        }
-    }
-}
-
 /// Decides it; where memory runs out, the terms that it has put stay.
 fn decided(
     alloc: Global,
@@ -155,14 +92,18 @@ fn decided(
     if let Some(wide) = first_overflow(alloc, table, roots)? {
         return overflowed(alloc, wide, limits);
     }
-    let shared = shared_terms(alloc, table, roots)?;
-    let mut passed = PassedOn {
-        interface: Vec::new(alloc),
-        signs: Vec::new(alloc),
-    };
-    'rounds: loop {
-        if let Some(outcome) = round(alloc, table, roots, &shared, &mut passed, limits)? {
-            return Ok(outcome);
-        }
+    let mut search = Search::new(alloc, limits)?;
+    match search.grow(table, roots, &[]) {
+        Ok(()) => {}
+        Err(ClauseStop::Wide(wide)) => return overflowed(alloc, wide, limits),
+        Err(ClauseStop::Memory) => return Err(NoMemory),
     }
+    let answer = answer(&mut search, table, roots)?;
+    let Search { log, budget, .. } = search;
+    budget.is_within();
+    Ok(Outcome {
+        answer,
+        log,
+        budget,
+    })
 }

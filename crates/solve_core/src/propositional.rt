@@ -1,14 +1,14 @@
 //! The search without a theory, where its terms are propositional.
 
-ghost use Rattle.std.specs.Prelude.{◌≡◌, ◌≢◌, ◌↔◌, true, All, IfOk, MatchBool};
-ghost use Rattle.spec_sorts.specs.Terms.{Truth, sort_of};
-ghost use Rattle.spec_derivations.specs.Problems.{Problem};
+ghost use Rattle.std.specs.Prelude.{◌≡◌, ◌≢◌, ◌↔◌, true, List, [], All, IfOk, MatchBool};
+ghost use Rattle.spec_sorts.specs.Terms.{Truth, Term, sort_of};
+ghost use Rattle.spec_derivations.specs.Examples.{speaking};
 ghost use Rattle.spec_valuations.specs.Propositional.{AppliesNothing, IsPropositional};
 ghost use Rattle.term_core.specs.Tables.{declared_in, Extends, IsIn, AreIn, term_at, clause_at};
-ghost use Rattle.sat_budget.specs.declared.limits.Limits.{Limits};
 ghost use Rattle.proof_log.specs.Theories.{TheoryView};
 ghost use Rattle.search_loop.specs.declared.cdcl.Answer.TheVariants.{Sat};
-ghost use Rattle.search_loop.specs.Rounds.{BeginsSearch, ShowsAnswer};
+ghost use Rattle.search_loop.specs.Rounds.{ShowsAnswer};
+ghost use Rattle.search_loop.specs.Growing.{IsBegun};
 ghost use Rattle.search_loop.specs.Asking.{HasSaturated, state};
 ghost use Rattle.solve_core.specs.Answering.{IsAnswered};
 
@@ -72,11 +72,12 @@ pub(crate) fn answer_propositional(
     search: &mut Search,
     table: &mut TermTable,
 ) -> Result<Answer, NoMemory>
-    requires begins { (p : Problem) × (limits : Limits) × BeginsSearch table.old p limits search.old }
+    ghost asked: { List Term }
+    requires begun { IsBegun table.old (speaking asked []) search.old }
     requires propositional { All IsPropositional (clause_at table.old search.old.terms.items) }
     ensures grown { Extends table.old table.new }
     ensures declared { declared_in table.new ≡ declared_in table.old }
-    ensures answered { IfOk result (IsAnswered (state table.old search.old) (state table.new search.new)) }
+    ensures answered { IfOk result (IsAnswered asked search.old.budget.limit (state table.new search.new)) }
 {
     let mut theory = PropositionalTheory::new(search.alloc);
     // This theory stops for memory alone.

@@ -65,5 +65,5 @@ pub returns-in-Unknown-clause-shown : goal.returns-in-Unknown-clause-shown
 returns-in-Unknown-clause-shown c = λ limits k kept readable symbols h.
     let t = c.args.table.now in
     let o = c.args.outcome in
-    reason_shown limits t k symbols o h c.causes_are_overflows.ensures.search c.in-Unknown.reason c.in-Unknown.is
+    reason_shown limits t k symbols o h c.causes_are_overflows.ensures.search c.ratios_are_fractions.ensures.bounded c.in-Unknown.reason c.in-Unknown.is
     (subst (HasEvidence t (all_asserted k h.interface) o.log o.budget) c.in-Unknown.is h.justified.evidence)

@@ -1,109 +1,166 @@
--- From the beginning to an answer, with both theories.
-use Rattle.std.proofs.Common.{◌+◌, ◌≤◌, List, take, length, sym, ap, subst}
-use Rattle.std.proofs.lemmas.Result.{IfOk-weaker, IfErr-weaker}
-use Rattle.spec_sorts.specs.Terms.{Term}
-use Rattle.spec_sorts.specs.Subsets.{AreAmong}
-use Rattle.spec_causes.specs.Counts.{arithmetic_in, most_runs}
-use Rattle.term_core.specs.declared.ids.TermId.{TermId}
-use Rattle.term_core.specs.Tables.{clause_at}
-use Rattle.term_core.proofs.TermsExtend.{Extends-self}
-use Rattle.sat_budget.specs.declared.limits.Reason.TheVariants.{Overflow}
-use Rattle.sat_budget.specs.Budgets.{StopsBy}
-use Rattle.congruence_relation.specs.Relation.{AreFactsOf}
-use Rattle.congruence.specs.Views.{theory_of}
-use Rattle.simplex.specs.Checks.{Suits}
-use Rattle.simplex.specs.Coming.{CameBy, IsOverflowAt}
-use Rattle.search_loop.specs.declared.cdcl.Answer.TheVariants.{Unknown}
-use Rattle.search_loop.specs.Rounds.{ShowsAnswer}
+-- From rest to rest, until the search is answered.
+use Rattle.std.proofs.Common.{◌<◌, refl, ◌∙◌, sym, subst}
+use Rattle.spec_derivations.specs.Examples.{speaking}
+use Rattle.term_core.proofs.TermsExtend.{Extends-self, Extends-trans}
+use Rattle.search_loop.specs.declared.cdcl.Answer.{Answer}
+use Rattle.search_loop.specs.declared.cdcl.Answer.TheVariants.{Sat, Unsat, Unknown}
 use Rattle.search_loop.specs.Asking.{state}
-use Rattle.search_loop.specs.Paying.{counted_among, atoms_of, most}
+use Rattle.search_loop.proofs.SearchRounds.{shows_on}
 use Rattle.solve_core.specs.Answering.{IsStoppedBy}
-use Rattle.solve_core.specs.Ending.{EndsRound, SaturatesRound}
-use Rattle.solve_core.proofs.SearchRounds.{asked_on}
-use Rattle.solve_core.proofs.SearchEnds.{saturated_ends}
-use Rattle.solve_core.proofs.SearchNumbers.{same_terms}
-use Rattle.solve_core.proofs.SearchStops.{watching_stops, watching_paid, numbers_stop, rounds_stop, rounds_paid}
+use Rattle.solve_core.specs.Unspoken.{unspoken_in}
+use Rattle.solve_core.specs.GoingOn.{HasRested}
+use Rattle.solve_core.proofs.SearchRests.{unspoken_same, searching_on, handed_answers, ended_by, run_stopped, numbers_stopped}
 use Rattle.solve_core.proofs.answering.search_with.Goals as goal
 
-pub returns-in-Err-clause-grown : goal.returns-in-Err-clause-grown
-returns-in-Err-clause-grown c = Extends-self c.args.table.now
+pub rests-init : goal.rests-init
+rests-init g c = record { grown = Extends-self c.args.table.now; declared = refl; limit = refl; ready = c.requires }
 
-pub returns-in-Err-clause-stopped : goal.returns-in-Err-clause-stopped
-returns-in-Err-clause-stopped c =
-    let t = c.args.table.now in
-    let x = c.args.search.now in
-    let es = x.budget.exchanges in
-    let begun = c.requires.begins.2 in
-    let theory = c.watch_all.new.theory in
-    let stop = c.in-Err.stop in
-    let h = rw c.in-Err.is at c.watch_all.ensures.stops in
-    let more = ap (λ (ids : List TermId). clause_at t (take (h.0 + 1) ids)) c.deref.ensures.value in
-    let l = length x.budget.learned in
-    let count = ap (λ (ids : List TermId). counted_among t ids) c.deref.ensures.value in
-    watching_stops t x c.ids_are_unique.ensures begun.ready theory.simplex (h.0 + 1) stop
-    (λ ts among. watching_paid _ t ts theory.simplex es (counted_among t c.deref.result.now) l (atoms_of t x) count stop
-    (rw c.in-Err.is at (c.watch_all.ensures.came ts es (subst (λ (ids : List TermId). AreAmong (clause_at t ids) ts) (sym c.deref.ensures.value) among)
-    (subst (λ made. CameBy t ts 0 made c.args.theory.now.simplex) (sym begun.unspent) (c.requires.came ts)))))
-    (subst (λ ts. StopsBy (λ e. IsOverflowAt t ts e theory.simplex) stop) more h.3)
+pub returns-in_err-run-clause-answers : goal.returns-in_err-run-clause-answers
+returns-in_err-run-clause-answers g c =
+    let t = c.rests.table in
+    let w = c.run.new.table in
+    let x = c.rests.search in
+    let y = c.run.new.self in
+    let v = c.rests.theory in
+    let z = c.run.new.theory in
+    let ids = c.args.shared.now in
+    let limit = c.args.search.now.budget.limit in
+    let h = c.rests.invariant.ready in
+    let stop = c.in_err-run.field-0.0 in
+    handed_answers _ (IsStoppedBy g.asked limit (state w y)) c.from_residual.result stop c.from_residual.ensures.1
+    (run_stopped g.asked ids t w x y v z h c.ids_are_unique.ensures limit c.rests.invariant.limit _ _ stop c.in_err-run.ensures.stopped c.in_err-run.ensures.stops c.in_err-run.ensures.came)
 
--- where the search is saturated
-pub answer_saturated-requires-clause-came : goal.answer_saturated-requires-clause-came
-answer_saturated-requires-clause-came c ts among =
-    let t = c.args.table.now in
-    let w = c.run-ended.new.table in
-    let x = c.args.search.now in
-    let y = c.run-ended.new.self in
-    let begun = c.requires.begins.2 in
-    let ends = rw c.in-Ok-Saturated.field-0-is at c.in-Ok-Saturated.ensures.ends in
-    let before = subst (λ (us : List Term). AreAmong us ts) (same_terms t w ends.1.table x y begun.ready ends.1.terms) among in
-    let came = c.in_default.ensures.came ts x.budget.exchanges (subst (λ (ids : List TermId). AreAmong (clause_at t ids) ts) (sym c.deref.ensures.value) before)
-    (subst (λ made. CameBy t ts 0 made c.args.theory.now.simplex) (sym begun.unspent) (c.requires.came ts)) in
-    let paid = c.in-Ok-Saturated.ensures.came ts (subst (λ (ids : List TermId). CameBy t ts (counted_among t ids) x.budget.exchanges c.watch_all.new.theory.simplex) c.deref.ensures.value came) c.in-Ok-Saturated.field-0-is in
-    let same = ap (λ us. length (arithmetic_in us)) (same_terms t w ends.1.table x y begun.ready ends.1.terms) in
-    (paid.0, subst (λ a. paid.0 ≤ most_runs (length y.budget.learned) a) (sym same) paid.1, paid.2)
+pub returns-in-Refuted-clause-answers : goal.returns-in-Refuted-clause-answers
+returns-in-Refuted-clause-answers g c =
+    let t = c.rests.table in
+    let w = c.run.new.table in
+    let x = c.rests.search in
+    let y = c.run.new.self in
+    let v = c.rests.theory in
+    let z = c.run.new.theory in
+    let ids = c.args.shared.now in
+    let limit = c.args.search.now.budget.limit in
+    let h = c.rests.invariant.ready in
+    ended_by g.asked ids t w x y v z h c.run.ensures.grown c.in_ok-run.ensures.terms c.ids_are_unique.ensures limit (c.in_ok-run.ensures.limit ∙ c.rests.invariant.limit) c.in_ok-run.ensures.right _ (Unsat c.in-Refuted.step)
+    (rw c.in-Refuted.is at c.in_ok-run.ensures.ends) c.in_ok-run.ensures.came
 
-pub answer_saturated-requires-clause-asked : goal.answer_saturated-requires-clause-asked
-answer_saturated-requires-clause-asked c =
-    let t = c.args.table.now in
-    let w = c.run-ended.new.table in
-    let x = c.args.search.now in
-    let y = c.run-ended.new.self in
-    let ends = rw c.in-Ok-Saturated.field-0-is at c.in-Ok-Saturated.ensures.ends in
-    (c.requires.asked.0, asked_on t w ends.1.table c.args.shared.now c.requires.asked.0 x y (ends.1.search c.requires.asked.0) c.requires.asked.1)
+pub returns-in-Stopped-clause-answers : goal.returns-in-Stopped-clause-answers
+returns-in-Stopped-clause-answers g c =
+    let t = c.rests.table in
+    let w = c.run.new.table in
+    let x = c.rests.search in
+    let y = c.run.new.self in
+    let v = c.rests.theory in
+    let z = c.run.new.theory in
+    let ids = c.args.shared.now in
+    let limit = c.args.search.now.budget.limit in
+    let h = c.rests.invariant.ready in
+    ended_by g.asked ids t w x y v z h c.run.ensures.grown c.in_ok-run.ensures.terms c.ids_are_unique.ensures limit (c.in_ok-run.ensures.limit ∙ c.rests.invariant.limit) c.in_ok-run.ensures.right _ (Unknown c.in-Stopped.reason)
+    (rw c.in-Stopped.is at c.in_ok-run.ensures.ends) c.in_ok-run.ensures.came
 
-pub returns-in-Ok-Saturated-clause-ends : goal.returns-in-Ok-Saturated-clause-ends
-returns-in-Ok-Saturated-clause-ends c =
-    let t = c.args.table.now in
-    let w = c.run-ended.new.table in
-    let x = c.args.search.now in
-    let y = c.run-ended.new.self in
-    let ends = rw c.in-Ok-Saturated.field-0-is at c.in-Ok-Saturated.ensures.ends in
-    IfOk-weaker c.answer_saturated.result (SaturatesRound w y c.args.shared.now) (EndsRound (state t x) (state w y) c.args.shared.now) (saturated_ends t w x y ends.1 c.in-Ok-Saturated.ensures.right c.args.shared.now)
-    c.answer_saturated.ensures.ends
+pub agreement-requires-clause-asked : goal.agreement-requires-clause-asked
+agreement-requires-clause-asked g c =
+    let t = c.rests.table in
+    let w = c.run.new.table in
+    let x = c.rests.search in
+    let y = c.run.new.self in
+    let v = c.rests.theory in
+    let z = c.run.new.theory in
+    let ids = c.args.shared.now in
+    let limit = c.args.search.now.budget.limit in
+    let h = c.rests.invariant.ready in
+    let ends = rw c.in-Saturated.is at c.in_ok-run.ensures.ends in
+    let under_way = searching_on g.asked ids t w x y v z h ends.1 ends.0.ready ends.0.asked c.in_ok-run.ensures.with.0 c.in_ok-run.ensures.with.1 (λ us r paid. rw c.in-Saturated.is at (c.in_ok-run.ensures.came us r paid)) in
+    (speaking g.asked under_way.terms.interface, under_way.terms.asked)
 
-pub returns-in-Ok-Saturated-clause-stopped : goal.returns-in-Ok-Saturated-clause-stopped
-returns-in-Ok-Saturated-clause-stopped c =
-    let t = c.args.table.now in
-    let w = c.run-ended.new.table in
-    let x = c.args.search.now in
-    let y = c.run-ended.new.self in
-    let theory = c.run-ended.new.theory in
-    let ends = rw c.in-Ok-Saturated.field-0-is at c.in-Ok-Saturated.ensures.ends in
-    IfErr-weaker c.answer_saturated.result (StopsBy (λ s. ShowsAnswer w w y y (Unknown (Overflow s)))) (IsStoppedBy (state t x) (state w y))
-    (λ stop h. numbers_stop t w x y ends.1 c.in-Ok-Saturated.ensures.right stop h) c.answer_saturated.ensures.overflowed
+pub returns-in_err-pairs-clause-answers : goal.returns-in_err-pairs-clause-answers
+returns-in_err-pairs-clause-answers g c =
+    let t = c.rests.table in
+    let w = c.run.new.table in
+    let x = c.rests.search in
+    let y = c.run.new.self in
+    let v = c.rests.theory in
+    let z = c.run.new.theory in
+    let ids = c.args.shared.now in
+    let limit = c.args.search.now.budget.limit in
+    let h = c.rests.invariant.ready in
+    let ends = rw c.in-Saturated.is at c.in_ok-run.ensures.ends in
+    let under_way = searching_on g.asked ids t w x y v z h ends.1 ends.0.ready ends.0.asked c.in_ok-run.ensures.with.0 c.in_ok-run.ensures.with.1 (λ us r paid. rw c.in-Saturated.is at (c.in_ok-run.ensures.came us r paid)) in
+    let stop = c.in_err-pairs.field-0.0 in
+    handed_answers _ (IsStoppedBy g.asked limit (state w y)) c.from_residual-in_err-pairs.result stop c.from_residual-in_err-pairs.ensures.1
+    (numbers_stopped g.asked ids w y z under_way c.ids_are_unique-in-rests.ensures ends.0.ready.right limit (c.in_ok-run.ensures.limit ∙ c.rests.invariant.limit) c.parts_hold_the_same.ensures stop c.in_err-pairs.ensures.stops)
 
--- and where its rounds stop
-pub returns-in-Err-ended-clause-stopped : goal.returns-in-Err-ended-clause-stopped
-returns-in-Err-ended-clause-stopped c =
-    let t = c.args.table.now in
-    let w = c.run-ended.new.table in
-    let x = c.args.search.now in
-    let y = c.run-ended.new.self in
-    let theory = c.run-ended.new.theory in
-    let begun = c.requires.begins.2 in
-    rounds_stop t w x y c.ids_are_unique.ensures begun.ready (theory_of theory.congruence) theory.simplex (AreFactsOf w theory.congruence.now.facts × Suits theory.simplex w) c.in-Err-ended.stop
-    (λ ts among. let came = c.in_default.ensures.came ts x.budget.exchanges (subst (λ (ids : List TermId). AreAmong (clause_at t ids) ts) (sym c.deref.ensures.value) among)
-    (subst (λ made. CameBy t ts 0 made c.args.theory.now.simplex) (sym begun.unspent) (c.requires.came ts)) in
-    rounds_paid _ w ts theory.simplex y.budget.exchanges (most t x y) c.in-Err-ended.stop
-    (c.in-Err-ended.ensures.came ts (subst (λ (ids : List TermId). CameBy t ts (counted_among t ids) x.budget.exchanges c.watch_all.new.theory.simplex) c.deref.ensures.value came)))
-    c.in-Err-ended.ensures.stopped c.in-Err-ended.ensures.stops
+pub speak_of-requires : goal.speak_of-requires
+speak_of-requires g c =
+    let t = c.rests.table in
+    let w = c.run.new.table in
+    let x = c.rests.search in
+    let y = c.run.new.self in
+    let v = c.rests.theory in
+    let z = c.run.new.theory in
+    let ids = c.args.shared.now in
+    let limit = c.args.search.now.budget.limit in
+    let h = c.rests.invariant.ready in
+    let ends = rw c.in-Saturated.is at c.in_ok-run.ensures.ends in
+    let under_way = searching_on g.asked ids t w x y v z h ends.1 ends.0.ready ends.0.asked c.in_ok-run.ensures.with.0 c.in_ok-run.ensures.with.1 (λ us r paid. rw c.in-Saturated.is at (c.in_ok-run.ensures.came us r paid)) in
+    let rested : HasRested g.asked ids (state w y) z c.in-Differ.pairs.items = record { searching = under_way; are_open = (rw c.in-Differ.is at c.in_ok-pairs.ensures.found) (speaking g.asked under_way.terms.interface) under_way.terms.asked } in
+    (ids, subst (HasRested g.asked ids (state w y) z) (sym c.deref.ensures.value) rested)
+
+pub returns-in_err-speak_of-in-Differ-clause-grown : goal.returns-in_err-speak_of-in-Differ-clause-grown
+returns-in_err-speak_of-in-Differ-clause-grown g c =
+    Extends-trans c.args.table.now c.rests.table c.speak_of.new.table c.rests.invariant.grown (Extends-trans c.rests.table c.run.new.table c.speak_of.new.table c.run.ensures.grown c.speak_of.ensures.grown)
+
+pub rests-smaller : goal.rests-smaller
+rests-smaller g c =
+    let t = c.rests.table in
+    let w = c.run.new.table in
+    let x = c.rests.search in
+    let y = c.run.new.self in
+    let v = c.rests.theory in
+    let z = c.run.new.theory in
+    let ids = c.args.shared.now in
+    let limit = c.args.search.now.budget.limit in
+    let h = c.rests.invariant.ready in
+    let ends = rw c.in-Saturated.is at c.in_ok-run.ensures.ends in
+    let under_way = searching_on g.asked ids t w x y v z h ends.1 ends.0.ready ends.0.asked c.in_ok-run.ensures.with.0 c.in_ok-run.ensures.with.1 (λ us r paid. rw c.in-Saturated.is at (c.in_ok-run.ensures.came us r paid)) in
+    let rested : HasRested g.asked ids (state w y) z c.in-Differ.pairs.items = record { searching = under_way; are_open = (rw c.in-Differ.is at c.in_ok-pairs.ensures.found) (speaking g.asked under_way.terms.interface) under_way.terms.asked } in
+    let goes_on = c.in_ok-speak_of-in-Differ.ensures.goes_on ids (subst (HasRested g.asked ids (state w y) z) (sym c.deref.ensures.value) rested) in
+    subst (λ n. unspoken_in ids (state c.speak_of.new.table c.speak_of.new.search) < n) (unspoken_same g.asked ids t w x y v z h ends.1) goes_on.fewer
+
+pub rests-preserved : goal.rests-preserved
+rests-preserved g c =
+    let t = c.rests.table in
+    let w = c.run.new.table in
+    let x = c.rests.search in
+    let y = c.run.new.self in
+    let v = c.rests.theory in
+    let z = c.run.new.theory in
+    let ids = c.args.shared.now in
+    let limit = c.args.search.now.budget.limit in
+    let h = c.rests.invariant.ready in
+    let ends = rw c.in-Saturated.is at c.in_ok-run.ensures.ends in
+    let under_way = searching_on g.asked ids t w x y v z h ends.1 ends.0.ready ends.0.asked c.in_ok-run.ensures.with.0 c.in_ok-run.ensures.with.1 (λ us r paid. rw c.in-Saturated.is at (c.in_ok-run.ensures.came us r paid)) in
+    let rested : HasRested g.asked ids (state w y) z c.in-Differ.pairs.items = record { searching = under_way; are_open = (rw c.in-Differ.is at c.in_ok-pairs.ensures.found) (speaking g.asked under_way.terms.interface) under_way.terms.asked } in
+    let goes_on = c.in_ok-speak_of-in-Differ.ensures.goes_on ids (subst (HasRested g.asked ids (state w y) z) (sym c.deref.ensures.value) rested) in
+    record {
+      grown = Extends-trans c.args.table.now t c.speak_of.new.table c.rests.invariant.grown (Extends-trans t w c.speak_of.new.table c.run.ensures.grown c.speak_of.ensures.grown);
+      declared = c.speak_of.ensures.declared ∙ c.run.ensures.declared ∙ c.rests.invariant.declared;
+      limit = c.in_ok-speak_of-in-Differ.ensures.limit ∙ c.in_ok-run.ensures.limit ∙ c.rests.invariant.limit;
+      ready = goes_on.ready;
+    }
+
+pub returns-in-Agreed-clause-answers : goal.returns-in-Agreed-clause-answers
+returns-in-Agreed-clause-answers g c =
+    let t = c.rests.table in
+    let w = c.run.new.table in
+    let x = c.rests.search in
+    let y = c.run.new.self in
+    let v = c.rests.theory in
+    let z = c.run.new.theory in
+    let ids = c.args.shared.now in
+    let limit = c.args.search.now.budget.limit in
+    let h = c.rests.invariant.ready in
+    let ends = rw c.in-Saturated.is at c.in_ok-run.ensures.ends in
+    let a : Answer = Sat c.in_ok-model-in-Agreed.model in
+    ended_by g.asked ids t w x y v z h c.run.ensures.grown c.in_ok-run.ensures.terms c.ids_are_unique.ensures limit (c.in_ok-run.ensures.limit ∙ c.rests.invariant.limit) c.in_ok-run.ensures.right _ a
+    (shows_on t w w x y y a ends.1 c.in_ok-model-in-Agreed.ensures) c.in_ok-run.ensures.came

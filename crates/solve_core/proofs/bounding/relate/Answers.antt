@@ -9,8 +9,8 @@ pub excluding-requires : goal.excluding-requires
 excluding-requires g c =
     let t = c.args.table.now in
     let x = c.args.search.now in
-    let ready = c.requires.1.0.2.ready in
-    let pair = c.requires.1.1 in (
+    let ready = c.requires.1.0 in
+    let pair = c.requires.1.1.1 in (
       ready.right,
       (of_atoms t x g.terms c.args.pair.first c.requires.0 ready pair.first, of_atoms t x g.terms c.args.pair.second c.requires.0 ready pair.second),
     )
@@ -20,23 +20,21 @@ returns-in_err-step-clause-grown g c = subst (λ (u : TableView). Extends c.args
 
 pub returns-in_default-clause-related : goal.returns-in_default-clause-related
 returns-in_default-clause-related g c =
-    related_lemmas c.args.table.now c.excluding.new.table c.args.search.now c.excluding.new.log g.terms c.requires.0 c.requires.1.0.2.ready c.in_ok-step.ensures.derives
+    related_lemmas c.args.table.now c.excluding.new.table c.args.search.now c.excluding.new.log g.terms c.requires.0 c.requires.1.0 c.in_ok-step.ensures.derives
 
-pub keep-requires-clause-begins : goal.keep-requires-clause-begins
-keep-requires-clause-begins g c =
-    let b = c.requires.1.0 in
-    let related = related_lemmas c.args.table.now c.excluding.new.table c.args.search.now c.excluding.new.log g.terms c.requires.0 b.2.ready c.in_ok-step.ensures.derives in
-    (b.0, b.1, related.begins b.0 b.1 b.2)
+pub keep-requires-clause-ready : goal.keep-requires-clause-ready
+keep-requires-clause-ready g c =
+    (related_lemmas c.args.table.now c.excluding.new.table c.args.search.now c.excluding.new.log g.terms c.requires.0 c.requires.1.0 c.in_ok-step.ensures.derives).ready
 
 pub keep-requires-clause-clash : goal.keep-requires-clause-clash
 keep-requires-clause-clash g c =
-    (c.args.pair.first ∷ c.args.pair.second ∷ [], rw c.in-Some.is at c.in_ok-step.ensures.clash, pair_of_atoms c.args.search.now c.args.pair c.requires.1.1)
+    (c.args.pair.first ∷ c.args.pair.second ∷ [], rw c.in-Some.is at c.in_ok-step.ensures.clash, pair_of_atoms c.args.search.now c.args.pair c.requires.1.1.1)
 
 pub returns-clause-related : goal.returns-clause-related
 returns-clause-related g c =
     let t = c.args.table.now in
     let u = c.excluding.new.table in
     let x = c.args.search.now in
-    let related = related_lemmas t u x c.excluding.new.log g.terms c.requires.0 c.requires.1.0.2.ready c.in_ok-step.ensures.derives in
+    let related = related_lemmas t u x c.excluding.new.log g.terms c.requires.0 c.requires.1.0 c.in_ok-step.ensures.derives in
     let e = c.keep.ensures in
-    kept_related t u x (record x { log = c.excluding.new.log }) c.keep.new.self c.in-Some.step c.keep.result related e.kept e.continues e.begins
+    kept_related t u x (record x { log = c.excluding.new.log }) c.keep.new.self c.in-Some.step c.keep.result related e.kept e.continues e.ready

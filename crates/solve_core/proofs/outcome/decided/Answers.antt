@@ -1,21 +1,15 @@
--- That the rounds end in a decision.
-use Rattle.std.proofs.Common.{List, [], inl, refl, sym, subst}
-use Rattle.std.proofs.lemmas.List.{append-nil}
-use Rattle.spec_sorts.specs.Terms.{Term}
-use Rattle.spec_sorts.specs.Subterms.{subterms_of}
-use Rattle.term_core.specs.declared.ids.TermId.{TermId}
-use Rattle.solve_core.specs.Sharing.{AreSharedOf}
-use Rattle.solve_core.specs.Rounds.{IsOpenFor}
+-- That the search ends in a decision.
+use Rattle.std.proofs.Common.{[], inl, refl, sym, subst}
 use Rattle.std.proofs.lemmas.Result.{IfOk-weaker}
 use Rattle.std.proofs.lemmas.List.Elements.{All-nil}
-use Rattle.spec_causes.specs.Shared.{IsSharedEquality}
 use Rattle.spec_derivations.specs.Problems.{subterms_in}
 use Rattle.spec_derivations.specs.Examples.{asserting}
-use Rattle.term_core.specs.Tables.{clause_at}
-use Rattle.term_core.proofs.TermsExtend.{Extends-self, Extends-trans, clause_at-kept}
+use Rattle.spec_causes.specs.Shared.{IsSharedEquality}
+use Rattle.term_core.specs.Tables.{TableView, clause_at}
+use Rattle.term_core.proofs.TermsExtend.{Extends-self}
 use Rattle.solve_core.specs.Decisions.{HasDecision, IsOverflowedBy}
 use Rattle.solve_core.proofs.SearchOverflowed.{overflowed_justified}
-use Rattle.solve_core.proofs.SearchRounds.{open_first}
+use Rattle.solve_core.proofs.SearchOutcome.{grows_to, decided_overflow, roots_in, begun, decided_answer}
 use Rattle.solve_core.proofs.outcome.decided.Goals as goal
 
 pub returns-in-Some-clause-grown : goal.returns-in-Some-clause-grown
@@ -36,29 +30,45 @@ returns-in-Some-clause-decided c =
 pub returns-in_err-wide-clause-grown : goal.returns-in_err-wide-clause-grown
 returns-in_err-wide-clause-grown c = Extends-self c.args.table.now
 
-pub returns-in_err-shared-clause-grown : goal.returns-in_err-shared-clause-grown
-returns-in_err-shared-clause-grown c = Extends-self c.args.table.now
+pub returns-in_err-search-clause-grown : goal.returns-in_err-search-clause-grown
+returns-in_err-search-clause-grown c = Extends-self c.args.table.now
 
-pub rounds-init : goal.rounds-init
-rounds-init c =
+-- the empty search fits together over each table
+pub grow-requires-clause-ready : goal.grow-requires-clause-ready
+grow-requires-clause-ready c = c.in_ok-search.ensures.ready c.args.table.now
+
+-- where a clause of an order leaves the bound, the table is as it was
+pub returns-in-Err-Wide-clause-decided : goal.returns-in-Err-Wide-clause-decided
+returns-in-Err-Wide-clause-decided c =
     let t = c.args.table.now in
     let roots = c.args.roots.now in
-    let ids = c.in_ok-shared.shared.items in
     let ts = clause_at t roots in
-    let forms = rw c.in_default.is at c.in_ok-wide.ensures in
-    let shared = subst (λ (us : List Term). AreSharedOf t (subterms_of us) ids) (sym (append-nil ts)) c.in_ok-shared.ensures in
-    record {
-      grown = Extends-self t;
-      declared = refl;
-      ready = subst (λ (bs : List TermId). IsOpenFor roots ids (record { table = t; interface = bs })) (sym c.new.ensures.items) (open_first roots ids t c.requires.roots c.requires.answered forms shared);
-    }
-
-pub returns-in-Some-2-clause-decided : goal.returns-in-Some-2-clause-decided
-returns-in-Some-2-clause-decided c =
-    let t = c.args.table.now in
-    let u = c.round.new.table in
-    let roots = c.args.roots.now in
-    let d = c.in-Some-2.outcome in
     let limits = c.args.limits.now in
-    let same = clause_at-kept t u (Extends-trans t c.rounds.table u c.rounds.invariant.grown c.round.ensures.grown) roots (λ k e lt. (c.requires.roots k e lt).0) in
-    subst (λ ts. HasDecision u ts limits d) same (rw c.in-Some-2.is at c.in_ok-outcome.ensures.round)
+    let x = c.in_ok-search.search in
+    let e = c.in_ok-search.ensures in
+    let wide = c.in-Err-Wide.wide in
+    let forms = rw c.in_default.is at c.in_ok-wide.ensures in
+    let stays = rw c.in-Err-Wide.field-0-is at c.in-Err-Wide.ensures.same in
+    let order = (rw c.in-Err-Wide.field-0-is at c.in-Err-Wide.ensures.wide) (asserting ts) (grows_to t roots limits x e) in
+    IfOk-weaker c.overflowed-in-Err-Wide.result (IsOverflowedBy limits wide) (HasDecision c.grow.new.table ts limits)
+    (λ d by. subst (λ (w : TableView). HasDecision w ts limits d) (sym stays.0) (decided_overflow t roots limits x e (c.empty_logs_are_right.ensures t) wide d by forms order)) c.overflowed-in-Err-Wide.ensures
+
+pub answer-requires : goal.answer-requires
+answer-requires c =
+    let t = c.args.table.now in
+    let roots = c.args.roots.now in
+    let limits = c.args.limits.now in
+    let x = c.in_ok-search.search in
+    let e = c.in_ok-search.ensures in (
+      refl,
+      (
+        roots_in t roots limits x e c.requires.roots c.grow.new.table c.grow.new.self c.in-Ok.ensures.grows,
+        begun t roots limits x e c.requires.roots c.grow.new.table c.grow.new.self c.in-Ok.ensures.grows,
+      ),
+    )
+
+pub returns-clause-decided : goal.returns-clause-decided
+returns-clause-decided c =
+    let forms = rw c.in_default.is at c.in_ok-wide.ensures in
+    decided_answer c.args.table.now c.args.roots.now c.args.limits.now c.in_ok-search.search c.in_ok-search.ensures c.requires.roots c.grow.new.table c.grow.new.self c.in-Ok.ensures.grows
+    c.answer.new.table c.answer.new.search c.in_ok-answer.answer forms c.is_within.ensures.learned c.in_ok-answer.ensures.answered

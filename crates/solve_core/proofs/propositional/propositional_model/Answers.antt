@@ -1,6 +1,7 @@
 -- That the tables of the truths are those of a model, whatever classes and numbers are given.
-use Rattle.std.proofs.Common.{◌≡◌, ◌<◌, List, length, get_or, map, All, refl, sym, ap, ◌∙◌, subst, arith}
+use Rattle.std.proofs.Common.{◌≡◌, ◌≢◌, ◌<◌, List, length, get_or, map, All, refl, sym, ap, ◌∙◌, subst, arith}
 use Rattle.std.specs.Prelude.{replicate}
+use Rattle.std.specs.List.{AllPairs}
 use Rattle.std.proofs.lemmas.List.{length-map, length-replicate}
 use Rattle.std.proofs.lemmas.Result.{IfOk-weaker}
 use Rattle.std.proofs.lemmas.List.Elements.{Contains-get_or}
@@ -15,7 +16,6 @@ use Rattle.ratio128.specs.Meant.{fraction}
 use Rattle.term_core.specs.declared.ids.TermId.{TermId}
 use Rattle.term_core.specs.Symbols.{SymbolsView, AreDeclared}
 use Rattle.term_core.specs.Tables.{clause_at}
-use Rattle.term_clauses.specs.SpokenTerms.{AreRising}
 use Rattle.search_model.specs.Models.{truths_of, IsModelOf}
 use Rattle.search_loop.specs.declared.cdcl.Answer.TheVariants.{Sat}
 use Rattle.search_loop.specs.Rounds.{ShowsAnswer}
@@ -25,8 +25,8 @@ use Rattle.solve_core.proofs.SearchMet.{nothing_assumed, has_model}
 use Rattle.solve_core.proofs.SearchTruthsAlone.{zero_at, zeros_are, takes_none, saturated_here}
 use Rattle.solve_core.proofs.propositional.propositional_model.Goals as goal
 
-pub model_of-requires-clause-rising : goal.model_of-requires-clause-rising
-model_of-requires-clause-rising c = subst AreRising (sym c.deref.ensures.value) c.requires.search_saturated.1.ready.atoms_are.rising
+pub model_of-requires-clause-once : goal.model_of-requires-clause-once
+model_of-requires-clause-once c = subst (λ (ids : List TermId). AllPairs (λ (i j : TermId). i ≢ j) ids) (sym c.deref.ensures.value) c.requires.search_saturated.1.ready.atoms_are.once
 
 pub model_of-requires-clause-closed : goal.model_of-requires-clause-closed
 model_of-requires-clause-closed c = subst (λ (ids : List TermId). IsClosed (clause_at c.args.table.now ids)) (sym c.deref.ensures.value) c.requires.search_saturated.1.ready.atoms_are.closed

@@ -1,5 +1,6 @@
 -- Pair by pair.
-use Rattle.std.proofs.Common.{◌≡◌, ◌+◌, List, [], ◌∷◌, ◌++◌, take, get_or, map, sym, ap, ◌∙◌, subst, arith}
+use Rattle.std.proofs.Common.{◌≡◌, ◌+◌, ◌≤◌, ℕ, List, length, [], ◌∷◌, ◌++◌, take, get_or, map, sym, ap, ◌∙◌, subst, arith}
+use Rattle.std.proofs.lemmas.List.Elements.{All-nil}
 use Rattle.std.proofs.lemmas.List.{take_all, take_more, map-append}
 use Rattle.spec_sorts.specs.Terms.{Symbol, Equal, pair, sort_of}
 use Rattle.spec_sorts.specs.WellSorted.{IsFormulaOver}
@@ -7,17 +8,22 @@ use Rattle.term_core.specs.declared.ids.TermId.{TermId}
 use Rattle.term_core.specs.Tables.{TableView, term_at}
 use Rattle.term_core.proofs.TermsExtend.{term_at-kept}
 use Rattle.proof_log.specs.Logs.{IsFormulaIn}
-use Rattle.term_clauses.specs.SpokenTerms.{no_id}
+use Rattle.term_clauses.specs.SpokenTerms.{HasMore, no_id}
 use Rattle.term_clauses.specs.Stating.{Widens}
 use Rattle.term_clauses.proofs.Arguments.{Widens-self, Widens-trans}
 use Rattle.term_clauses.proofs.Choosing.{term_kept, equality_formula}
 use Rattle.term_clauses.proofs.Parts.{symbols_same}
 use Rattle.term_clauses.proofs.Speaking.{more_none, more_pushed, more_trans, more_same}
-use Rattle.solve_core.specs.Rounds.{IsComparable, equality_in}
-use Rattle.solve_core.proofs.equalities.add_equalities.Goals as goal
+use Rattle.solve_core.specs.Unspoken.{IsComparable, equality_in}
+use Rattle.solve_core.proofs.equalities.equalities_of.Goals as goal
 
 pub pairs-init : goal.pairs-init
-pairs-init c = record { wider = Widens-self c.args.table.now; more = more_none c.args.table.now c.args.ids.now.items c.requires.formulas }
+pairs-init c =
+    let t = c.args.table.now in
+    record {
+      wider = Widens-self t;
+      more = subst (λ (ids : List TermId). HasMore t t [] ids []) (sym c.new-ids.ensures.items) (more_none t [] (All-nil (IsFormulaIn t)));
+    }
 
 -- two terms of one sort, over a table that has more
 comparable_kept : (t u : TableView) → Widens t u → (x : TermId × TermId) → IsComparable t x → IsComparable u x
@@ -61,15 +67,19 @@ pairs-preserved c =
     let more : front ++ equality_in t x ∷ [] ≡ map (equality_in t) (take (k + 1) xs) = sym (ap (map (equality_in t)) (take_more xs k (no_id, no_id) c.pairs-test.true) ∙ map-append (equality_in t) (take k xs) (x ∷ [])) in
     record {
       wider = Widens-trans t now u h.wider wider;
-      more = more_same t u c.args.ids.now.items c.push.new.self.items (front ++ equality_in t x ∷ []) (map (equality_in t) (take (k + 1) xs)) more
-          (more_trans t now u c.args.ids.now.items c.pairs.ids.items c.push.new.self.items front (equality_in t x ∷ []) h.more
+      more = more_same t u [] c.push.new.self.items (front ++ equality_in t x ∷ []) (map (equality_in t) (take (k + 1) xs)) more
+          (more_trans t now u [] c.pairs.ids.items c.push.new.self.items front (equality_in t x ∷ []) h.more
           (more_pushed now u wider c.pairs.ids.items c.push.new.self.items id (equality_in t x) h.more.formulas c.in_ok-push.ensures.items formula_in is));
     }
 
-pub returns-clause-more : goal.returns-clause-more
-returns-clause-more c =
-    let t = c.args.table.now in
-    let xs = c.args.pairs.now in
-    let k = c.pairs.pair-index in
-    let whole : take k xs ≡ xs = take_all k xs (omega (arith, c.pairs-test.false)) in
-    more_same t c.pairs.table c.args.ids.now.items c.pairs.ids.items (map (equality_in t) (take k xs)) (map (equality_in t) xs) (ap (map (equality_in t)) whole) c.pairs.invariant.more
+-- all of them came
+all_came : (t u : TableView) (ids : List TermId) (xs : List (TermId × TermId)) (k : ℕ) → length xs ≤ k → HasMore t u [] ids (map (equality_in t) (take k xs)) → HasMore t u [] ids (map (equality_in t) xs)
+all_came t u ids xs k ended h =
+    let whole : take k xs ≡ xs = take_all k xs (omega (arith, ended)) in
+    more_same t u [] ids (map (equality_in t) (take k xs)) (map (equality_in t) xs) (ap (map (equality_in t)) whole) h
+
+pub returns-clause-formulas : goal.returns-clause-formulas
+returns-clause-formulas c = c.pairs.invariant.more.formulas
+
+pub returns-clause-are : goal.returns-clause-are
+returns-clause-are c = (all_came c.args.table.now c.pairs.table c.pairs.ids.items c.args.pairs.now c.pairs.pair-index c.pairs-test.false c.pairs.invariant.more).same

@@ -1,24 +1,27 @@
--- Pair by pair: a search begins still.
-use Rattle.std.proofs.Common.{◌∙◌, refl, sym, subst}
+-- Pair by pair: a search goes on.
+use Rattle.std.proofs.Common.{◌∙◌, refl, sym, ap, subst}
 use Rattle.term_core.proofs.TermsExtend.{Extends-trans}
 use Rattle.bound_lemmas.specs.declared.pair.BoundPair.{BoundPair}
 use Rattle.bound_lemmas.specs.Pairs.{IsPairOf}
+use Rattle.search_loop.specs.declared.search.Search.{Search}
 use Rattle.solve_core.proofs.SearchRelated.{related_same, related_on, pair_later}
-use Rattle.solve_core.proofs.bounding.relate_all.Goals as goal
+use Rattle.solve_core.proofs.bounding.relate_marked.Goals as goal
 
 pub pairs-init : goal.pairs-init
-pairs-init c = related_same c.args.table.now c.args.search.now
+pairs-init c = related_same c.args.table.now c.args.search.now c.requires.ready
 
 pub relate-requires : goal.relate-requires
 relate-requires c =
-    let b = c.requires.begins in
     let y = c.pairs.search in
     let p = c.pair-item.result in (
       refl,
       (
-        (b.0, b.1, c.pairs.invariant.begins b.0 b.1 b.2),
-        subst (λ (q : BoundPair). IsPairOf y.atoms.items q) (sym c.pair-item.is)
-            (pair_later c.args.table.now c.pairs.table c.args.search.now y _ c.pairs.invariant (c.requires.pairs c.pairs.pair-index p c.pairs-test.true)),
+        c.pairs.invariant.ready,
+        (
+          ap (λ (s : Search). s.trail.level) c.pairs.invariant.same ∙ c.requires.level,
+          subst (λ (q : BoundPair). IsPairOf y.atoms.items q) (sym c.pair-item.is)
+              (pair_later c.args.table.now c.pairs.table c.args.search.now y _ c.pairs.invariant (c.requires.pairs c.pairs.pair-index p c.pairs-test.true)),
+        ),
       ),
     )
 

@@ -1,7 +1,7 @@
 -- What the clauses up to here leave, and the terms of the search that is there.
 use Rattle.term_core.specs.Tables.{clause_at}
 use Rattle.solve_core.specs.Relating.{HasRelated}
-use Rattle.solve_core.proofs.bounding.relate_all.Given as goal
+use Rattle.solve_core.proofs.bounding.relate_marked.Given as goal
 
 abbrev pub ghost-relate : goal.ghost-relate
 ghost-relate a = clause_at a.table.now a.search.now.terms.items
