@@ -42,13 +42,15 @@ reads       an array that rises, and indices that are known by bounds: whether i
 
 generated   the generator's G(n): numbers that are equal by a circle of bounds, n to 400, and a function at two of them
 
-Those of 10 to 60 shared terms are each once without a model, and once with one:
+Those of 10 to 160 shared terms are each once without a model, and once with one:
 
 circles     f takes each number to the next, which is not below it, and the last one is not above the first
 ferries     two numbers go to f of them with a number added, 2 to 12 times: equalities go to and fro between theories
 risers      f takes each number to the next, which is above it: whether it falls at one of them
 pigeons     one number more than there are holes, of which f takes each to a hole: whether they are different
 groups      groups of three equal numbers, and f differs between groups: whether two groups can be equal
+rows        numbers that rise, 10 to 80, of which f rises too: whether f of the last is not above f of the first
+rings       numbers that are equal by bounds round a circle, 10 to 60: whether f rises from one to the next
 
 """
 

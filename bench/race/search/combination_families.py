@@ -20,6 +20,8 @@ FERRIES = (2, 4, 6, 8, 12)
 RISERS = (5, 10, 15, 20, 30)
 HOLES = (2, 3, 4, 5, 6)
 GROUPS = (5, 10, 15, 20)
+ROWS = (10, 20, 40, 60, 80)
+RINGS = (10, 20, 40, 60)
 
 
 def function(name, *sorts):
@@ -184,6 +186,26 @@ def groups(n, is_sat):
     yield claim(f"(or (<= z{other} y{one} x{other}) {last})")
 
 
+def row(n, is_sat):
+    """Says that n numbers rise, and f of them too, and that the last is not above the first, or is: of f."""
+    yield function("f", "Real", "Real") + "".join(declare([f"x{i}" for i in range(n)]))
+    for i in range(n - 1):
+        yield claim(f"(< x{i} x{i + 1})") + claim(f"(< (f x{i}) (f x{i + 1}))")
+    yield claim(f"({'<' if is_sat else '>='} (f x0) (f x{n - 1}))")
+
+
+def ring(n, is_sat):
+    """Says of n numbers that each is at most the next, the last at most the first, and that f rises from one to the next.
+
+    It can be true where the first may be one above the last.
+    """
+    yield function("f", "Real", "Real") + "".join(declare([f"x{i}" for i in range(n)]))
+    yield from (claim(f"(<= x{i} x{i + 1})") for i in range(n - 1))
+    yield claim(f"(<= x{n - 1} {plus('x0', int(is_sat))})")
+    rises = [f"(< (f x{i}) (f x{i + 1}))" for i in range(n - 1)]
+    yield claim(f"(or {' '.join(rises)})")
+
+
 def both(name, lines, sizes):
     """Returns for each size a formula that has no model, and one that has one."""
     made = []
@@ -215,7 +237,9 @@ FAMILIES = {
     "risers": lambda: both("risers", risers, RISERS),
     "pigeons": lambda: both("pigeons", pigeons, HOLES),
     "groups": lambda: both("groups", groups, GROUPS),
+    "rows": lambda: both("rows", row, ROWS),
+    "rings": lambda: both("rings", ring, RINGS),
 }
 # The first formulas of each family, for a short race.
 QUICK = {"scan": 2, "copies": 2, "walk": 2, "reads": 2, "generated": 8, "circles": 4, "ferries": 4, "risers": 4}
-QUICK |= {"pigeons": 4, "groups": 4}
+QUICK |= {"pigeons": 4, "groups": 4, "rows": 4, "rings": 4}
