@@ -12,7 +12,7 @@ use Rattle.spec_derivations.specs.Orders.{whole_terms, whole_clauses, first_clau
 use Rattle.spec_derivations.specs.ExactChains.{IsExactFrom, AreExactResolvents}
 use Rattle.spec_derivations.specs.Inputs.{IsInput}
 use Rattle.spec_derivations.specs.Learned.{IsNew}
-use Rattle.spec_derivations.specs.Spent.{IsConflict, IsAtomOf, IsOverAtoms, IsLearnedFrom, AreLearned}
+use Rattle.spec_derivations.specs.Spent.{CanLearnMore, IsAtomOf, IsOverAtoms, IsLearnedFrom, AreLearned}
 use Rattle.term_core.specs.declared.ids.TermId.{TermId}
 use Rattle.term_core.specs.declared.ids.Lit.{Lit}
 use Rattle.term_core.specs.Tables.{TableView, declared_in, AreDifferent, term_at, literal_at, clause_at, Extends}
@@ -52,7 +52,7 @@ learning_shows t problem x a steps right s =
     derived_shows t problem x.log (images t x.store.clauses) x.budget.learned a right s.derived (steps (record { each = s.whole.stated; steps = s.derived.steps }))
 
 -- where the budget is spent at a further conflict, the answer shows it
-pub unknown_shows : (t : TableView) (problem : Problem) (x : Search) (n : ℕ) → IsLogOf t x.log → IsSearch t problem x → length x.budget.learned ≡ x.budget.limit → n ≡ x.budget.limit → IsConflict problem (derivation_in t x.log) (images t x.budget.learned)
+pub unknown_shows : (t : TableView) (problem : Problem) (x : Search) (n : ℕ) → IsLogOf t x.log → IsSearch t problem x → length x.budget.learned ≡ x.budget.limit → n ≡ x.budget.limit → CanLearnMore problem (derivation_in t x.log) (images t x.budget.learned)
     → HasEvidence t problem x.log x.budget (Unknown (Conflicts n)) × IsLearning t problem x.log (Unknown (Conflicts n)) x.budget.learned
 unknown_shows t problem x n right s full carries conflict =
     let learning = learning_shows t problem x (Unknown (Conflicts n)) (λ h. h) right s in
@@ -154,7 +154,7 @@ module _ (t u : TableView) (g : Extends t u) (differ : AreDifferent t.terms) (de
     more = derived_more problem (derivation_in t x.log) (images t x.store.clauses) (images t x.budget.learned) h (numbers_of l.logged.premises) clause right is_new over_atoms exact
 
     -- so one clause more could be learned
-    pub is_conflict : IsConflict problem (derivation_in t x.log) (images t x.budget.learned)
+    pub is_conflict : CanLearnMore problem (derivation_in t x.log) (images t x.budget.learned)
     is_conflict =
         let ps = numbers_of l.logged.premises in
         let d = derivation_in t x.log in
@@ -175,8 +175,8 @@ module _ (t u : TableView) (g : Extends t u) (differ : AreDifferent t.terms) (de
   forgone_shows kept n full carries problem s =
       let on = (continues_wider t u g declared x kept same r).search problem s in
       unknown_shows u problem x n kept on full carries
-      (subst (λ (e : Derivation). IsConflict problem e (images u x.budget.learned)) (sym same)
-      (subst (IsConflict problem (derivation_in t x.log)) (sym (images_kept t u g x.budget.learned r.learned)) (is_conflict problem s)))
+      (subst (λ (e : Derivation). CanLearnMore problem e (images u x.budget.learned)) (sym same)
+      (subst (CanLearnMore problem (derivation_in t x.log)) (sym (images_kept t u g x.budget.learned r.learned)) (is_conflict problem s)))
 
 -- where it came into the store, what is in hand is still that of a search for the terms
 module _ (t u : TableView) (g : Extends t u) (differ : AreDifferent t.terms) (differ_then : AreDifferent u.terms) (declared : declared_in u ≡ declared_in t)

@@ -12,7 +12,7 @@ use Rattle.spec_derivations.specs.Lemmas.{IsLemma, HasLemma}
 use Rattle.spec_derivations.specs.Inputs.{IsInput}
 use Rattle.spec_derivations.specs.ExactChains.{IsExactFrom, AreExactResolvents}
 use Rattle.spec_derivations.specs.Learned.{AreNew}
-use Rattle.spec_derivations.specs.Spent.{IsLearnedFrom, IsOverAtoms, AreLearned, IsConflictBudgetSpent, IsConflict}
+use Rattle.spec_derivations.specs.Spent.{IsLearnedFrom, IsOverAtoms, AreLearned, IsConflictBudgetSpent, CanLearnMore}
 use Rattle.term_core.specs.declared.ids.TermId.{TermId}
 use Rattle.term_core.specs.declared.ids.Lit.{Lit}
 use Rattle.term_core.specs.Tables.{TableView, declared_in, literal_at, Extends}
@@ -139,7 +139,7 @@ HasEvidence t p log budget (Unsat step) = (stated t log step ≡ [])
 HasEvidence t p log budget (Unknown (Overflow s)) = IsOverflowed p (length budget.learned) budget.exchanges s
 HasEvidence t p log budget (Unknown (Conflicts n)) =
     IsConflictBudgetSpent p (derivation_in t log) budget.limit n (map (map (literal_at t)) budget.learned)
-    × IsConflict p (derivation_in t log) (map (map (literal_at t)) budget.learned)
+    × CanLearnMore p (derivation_in t log) (map (map (literal_at t)) budget.learned)
 
 -- where an answer is no overflow, whose evidence names them, the exchanges of the budget were made, in few runs
 abbrev pub HasMade : Problem → BudgetView → Answer → Type 0

@@ -9,7 +9,7 @@ use Rattle.spec_derivations.specs.Problems.{Problem, terms_of_problem, known_ter
 use Rattle.spec_derivations.specs.Derivations.{Derivation}
 use Rattle.spec_derivations.specs.Orders.{at_first, first_clauses}
 use Rattle.spec_derivations.specs.Inputs.{IsInput}
-use Rattle.spec_derivations.specs.Spent.{IsOverAtoms, IsLearnedFrom, AreLearned, IsConflict}
+use Rattle.spec_derivations.specs.Spent.{IsOverAtoms, IsLearnedFrom, AreLearned, CanLearnMore}
 use Rattle.spec_derivations.proofs.Exact.{chain_more, resolvents_more}
 use Rattle.spec_derivations.proofs.Grown.{more_joined, more_images, clauses, over, inputs_more}
 use Rattle.spec_derivations.proofs.Fewer.{new_fewer, all_new_fewer}
@@ -38,7 +38,7 @@ module _ (p q : Problem) (terms : terms_of_problem q ≡ terms_of_problem p) (in
     exact = resolvents_more complement (IsInput q d) (IsInput p d) (inputs d) cs h.exact;
   }
 
-  pub conflict : (d : Derivation) (cs : List (List Literal)) → IsConflict q d cs → IsConflict p d cs
+  pub conflict : (d : Derivation) (cs : List (List Literal)) → CanLearnMore q d cs → CanLearnMore p d cs
   conflict d cs h = record {
     clause = h.clause;
     more = h.more;

@@ -10,7 +10,7 @@ use Rattle.spec_derivations.specs.Lemmas.{IsLemma, HasLemma}
 use Rattle.spec_derivations.specs.Inputs.{IsInput}
 use Rattle.spec_derivations.specs.Derivations.{Inference, Derivation, conclusion, premises_of, no_inference, inference_at, IsDerivation, DependsOn, itself, by_premise, AssumesAmong, IsDerivedFrom}
 use Rattle.spec_derivations.specs.Learned.{IsNew, AreNew}
-use Rattle.spec_derivations.specs.Spent.{IsLearnedFrom, IsOverAtoms, AreLearned, IsConflict}
+use Rattle.spec_derivations.specs.Spent.{IsLearnedFrom, IsOverAtoms, AreLearned, CanLearnMore}
 use Rattle.spec_derivations.proofs.Derivations.{follows_at}
 use Rattle.spec_derivations.proofs.Exact.{chain_more, resolvents_more, resolvents_pushed}
 use Rattle.spec_derivations.proofs.Spending.{premises_before, depends_there}
@@ -66,7 +66,7 @@ new_pushed premises [] c news new = (subst (λ ps. IsNew ps c) (append-nil premi
 new_pushed premises (l ∷ learned) c news new = (news.0, new_pushed (premises ++ l ∷ []) learned c news.1 (subst (λ ps. IsNew ps c) (sym (append_assoc premises (l ∷ []) learned)) new))
 
 -- the clause of a conflict, after those that were learned
-pub one_more : (p : Problem) (d : Derivation) (learned : List (List Literal)) → AreLearned p d learned → (x : IsConflict p d learned) → AreLearned p (d ++ x.more) (learned ++ x.clause ∷ [])
+pub one_more : (p : Problem) (d : Derivation) (learned : List (List Literal)) → AreLearned p d learned → (x : CanLearnMore p d learned) → AreLearned p (d ++ x.more) (learned ++ x.clause ∷ [])
 one_more p d learned h x = record {
   right = x.right;
   derived = All-append (IsLearnedFrom p (d ++ x.more)) learned (x.clause ∷ []) (λ k e lt. learned_onward d x.more h.right p _ (h.derived k e lt)) (All-cons (IsLearnedFrom p (d ++ x.more)) x.clause [] x.derived (All-nil (IsLearnedFrom p (d ++ x.more))));

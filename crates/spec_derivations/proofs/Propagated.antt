@@ -19,7 +19,7 @@ use Rattle.spec_derivations.specs.Orders.{first_clauses}
 use Rattle.spec_derivations.specs.Inputs.{IsInput}
 use Rattle.spec_derivations.specs.ExactChains.{IsExactResolvent}
 use Rattle.spec_derivations.specs.Learned.{IsNew}
-use Rattle.spec_derivations.specs.Spent.{IsLearnedFrom, IsOverAtoms, AreLearned, IsConflict}
+use Rattle.spec_derivations.specs.Spent.{IsLearnedFrom, IsOverAtoms, AreLearned, CanLearnMore}
 use Rattle.spec_derivations.proofs.Derivations.{right_push}
 use Rattle.spec_derivations.proofs.Holding.{has_rule}
 use Rattle.spec_derivations.proofs.Onward.{kept_at, derived_onward}
@@ -139,7 +139,7 @@ module _ (p : Problem) where
 
   -- a clause that follows from both by propagation is that of a conflict
   pub propagated : (d : Derivation) (learned : List (List Literal)) (clause : Clause) → AreLearned p d learned → IsOverAtoms p (literals_of clause) → Resolves complement (map literals_of (base_clauses p) ++ learned) (literals_of clause) → IsNew (map literals_of (first_clauses p) ++ learned) (literals_of clause)
-      → IsExactResolvent complement (λ c. IsInput p d c ⊎ Contains learned c) (literals_of clause) → IsConflict p d learned
+      → IsExactResolvent complement (λ c. IsInput p d c ⊎ Contains learned c) (literals_of clause) → CanLearnMore p d learned
   propagated d learned clause h atoms follows new exact =
       let base = extended d h.right (base_clauses p) (λ c c_in. c_in) in
       let e = d ++ base.more in

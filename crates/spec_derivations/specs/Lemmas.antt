@@ -4,7 +4,8 @@
 use Rattle.std.specs.Prelude.{◌≡◌, ℕ, ◌≤◌, ◌<◌, List, [], length, All, Contains}
 use Rattle.spec_sorts.specs.Terms.{True, False, Equal, Term, of, pair, negated}
 use Rattle.spec_sorts.specs.Literals.{Literal, literals_of}
-use Rattle.spec_derivations.specs.Derivations.{Inference, «assumption», by_rule, Derivation, inference_at, conclusion_at}
+use Rattle.spec_derivations.specs.Derivations.{Inference, «assumption», by_rule, Derivation, inference_at}
+use Rattle.spec_derivations.specs.Derivations.{conclusion_at}
 
 -- Terms that are made of some, by the truth values, equalities and negations.
 pub data IsMadeOf (ts : List Term) : Term → Type 0 where

@@ -38,8 +38,7 @@ whole_terms p = subterms_of (ordered_terms p)
 abbrev pub whole_clauses_of : Term → List Clause
 whole_clauses_of t = defining_clauses t ++ order_clauses t
 
--- the clauses that such a search begins with: that of each asserted term alone, and those of all terms that it speaks
--- of
+-- the clauses of such a search: that of each asserted term alone, and those of all terms that it speaks of
 abbrev pub whole_clauses : Problem → List Clause
 whole_clauses p = map (λ t. t ∷ []) p.asserted ++ flat_map whole_clauses_of (whole_terms p)
 

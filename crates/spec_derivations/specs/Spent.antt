@@ -48,7 +48,7 @@ pub record AreLearned (p : Problem) (d : Derivation) (learned : List (List Liter
   pub atoms : All (IsOverAtoms p) learned
   -- it has a literal that was not given by the clauses with which a search begins and those learned before it
   pub new : AreNew (map literals_of (first_clauses p)) learned
-  -- it is what a chain of resolutions gives, and no more, over clauses of the terms, lemmas, and those learned before it
+  -- it is what a chain of resolutions gives, and no more, over clauses of the terms, lemmas, and those before it
   pub exact : AreExactResolvents complement (IsInput p d) learned
 
 -- The budget is spent on a check of these terms: the list of learned clauses has its length, which the reason carries.
@@ -61,9 +61,9 @@ pub record IsConflictBudgetSpent (p : Problem) (d : Derivation) (limit carried :
   -- they were learned
   pub learns : AreLearned p d learned
 
--- A conflict above level 0, after clauses that were learned in a derivation: one clause more could be.
-pub record IsConflict (p : Problem) (d : Derivation) (learned : List (List Literal)) : Type 0 where
-  -- what would be learned from it
+-- After clauses that were learned in a derivation one more could be.
+pub record CanLearnMore (p : Problem) (d : Derivation) (learned : List (List Literal)) : Type 0 where
+  -- what could be learned
   pub clause : List Literal
   -- the steps of its derivation that are not yet there
   pub more : Derivation
@@ -75,5 +75,5 @@ pub record IsConflict (p : Problem) (d : Derivation) (learned : List (List Liter
   pub atoms : IsOverAtoms p clause
   -- it has a literal that was not given by the clauses with which a search begins and those that were learned
   pub new : IsNew (map literals_of (first_clauses p) ++ learned) clause
-  -- it is what a chain of resolutions gives, and no more, over clauses of the terms, lemmas, and those that were learned
+  -- it is what a chain of resolutions gives, and no more, over clauses of the terms, lemmas, and what was learned
   pub exact : IsExactResolvent complement (λ c. IsInput p d c ⊎ Contains learned c) clause

@@ -43,8 +43,8 @@ pub fn chains_need_no_tautology()
 /// States that of the eight disjunctions a chain gives `(cl (not p) (not q))`, and that no chain gives a copy of it
 /// with an idle literal, though such a copy is new. Given are their base clauses, and those of `(or z (not z))`. Of what
 /// is learned by chains, one after the other, no clause has a literal of `z` and one of another atom but that
-/// disjunction. Nor has one that a check of these terms learns, where there are no lemmas of a theory, though the copy
-/// is new over all clauses with which its search begins.
+/// disjunction. Nor has one that a check of these terms learns in a derivation without lemmas, though the copy is new
+/// over all clauses with which its search begins.
 pub fn copies_come_by_no_chain()
     ensures first { IsExactResolvent complement (Contains given) (literals_of not_both) }
     ensures copy_is_new { IsNew given copy }

@@ -13,7 +13,7 @@ ghost use Rattle.spec_derivations.specs.Orders.{whole_terms, whole_clauses, firs
 ghost use Rattle.spec_derivations.specs.Lemmas.{IsLemma, HasLemma};
 ghost use Rattle.spec_derivations.specs.Inputs.{input_clauses, IsInput};
 ghost use Rattle.spec_derivations.specs.Learned.{IsNew, AreNew};
-ghost use Rattle.spec_derivations.specs.Spent.{IsAtomOf, IsOverAtoms, IsLearnedFrom, AreLearned, IsConflict};
+ghost use Rattle.spec_derivations.specs.Spent.{IsAtomOf, IsOverAtoms, IsLearnedFrom, AreLearned, CanLearnMore};
 
 /// States that with more known terms a search speaks of more terms, and its atoms and lemmas stay such. With more
 /// asserted ones it begins with more clauses.
@@ -76,5 +76,5 @@ pub fn assumptions_may_be_asserted()
         → AreLearned q d cs → AreLearned p d cs }
     ensures conflict { (p q : Problem) (d : Derivation) (cs : List (List Literal))
         → terms_of_problem q ≡ terms_of_problem p → q.interface ≡ p.interface → AreAmong p.asserted q.asserted
-        → IsConflict q d cs → IsConflict p d cs }
+        → CanLearnMore q d cs → CanLearnMore p d cs }
 {}

@@ -19,7 +19,7 @@ ghost use Rattle.spec_derivations.specs.Orders.{first_clauses};
 ghost use Rattle.spec_derivations.specs.Inputs.{IsInput};
 ghost use Rattle.spec_derivations.specs.ExactChains.{IsExactResolvent};
 ghost use Rattle.spec_derivations.specs.Learned.{IsOpenIn, IsNew};
-ghost use Rattle.spec_derivations.specs.Spent.{IsOverAtoms, AreLearned, IsConflictBudgetSpent, IsConflict};
+ghost use Rattle.spec_derivations.specs.Spent.{IsOverAtoms, AreLearned, IsConflictBudgetSpent, CanLearnMore};
 ghost use Rattle.spec_derivations.specs.Examples.{asserting, eight, not_both, not_both_derived};
 
 /// States that where propagation is quiet and consistent, a clause whose literals but one are false, and whose one
@@ -80,23 +80,21 @@ pub fn learned_clauses_say_something()
         → IsWithin e c → ⊥ }
 {}
 
-/// States that a conflict is one clause more: with its clause and its steps the check has learned one more than
-/// before.
-pub fn conflicts_are_one_clause_more()
+/// States that where one clause more can be learned, with it and its steps the check has learned one more than before.
+pub fn one_clause_more_is_learned()
     ensures { (p : Problem) (d : Derivation) (learned : List (List Literal)) → AreLearned p d learned
-        → (x : IsConflict p d learned) → AreLearned p (d ++ x.more) (learned ++ x.clause ∷ []) }
+        → (x : CanLearnMore p d learned) → AreLearned p (d ++ x.more) (learned ++ x.clause ∷ []) }
 {}
 
-/// States where a conflict is met: a clause follows by unit propagation from the base clauses and the learned ones.
-/// If it is over the check's atoms, new, and what a chain of resolutions gives, it is the clause of a conflict: further
-/// steps derive it.
-pub fn propagated_clauses_are_conflicts()
+/// States when one clause more can be learned: a clause follows by unit propagation from the base clauses and the
+/// learned ones, is over the check's atoms, new, and what a chain of resolutions gives. Further steps derive it.
+pub fn propagated_clauses_can_be_learned()
     ensures { (p : Problem) (d : Derivation) (learned : List (List Literal)) (clause : Clause) → AreLearned p d learned
         → IsOverAtoms p (literals_of clause)
         → Resolves complement (map literals_of (base_clauses p) ++ learned) (literals_of clause)
         → IsNew (map literals_of (first_clauses p) ++ learned) (literals_of clause)
         → IsExactResolvent complement (λ c. IsInput p d c ⊎ Contains learned c) (literals_of clause)
-        → IsConflict p d learned }
+        → CanLearnMore p d learned }
 {}
 
 /// States that in a derivation a clause is true under an interpretation of the symbols where the assumptions are

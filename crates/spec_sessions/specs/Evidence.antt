@@ -10,7 +10,7 @@ use Rattle.spec_commands.specs.Stack.{signature_of}
 use Rattle.spec_commands.specs.Checks.{Check, asked, IsTrueAssertion}
 use Rattle.spec_derivations.specs.Problems.{Problem, subterms_in, problem_of}
 use Rattle.spec_derivations.specs.Derivations.{Derivation}
-use Rattle.spec_derivations.specs.Spent.{AreLearned, IsConflictBudgetSpent, IsConflict}
+use Rattle.spec_derivations.specs.Spent.{AreLearned, IsConflictBudgetSpent, CanLearnMore}
 use Rattle.spec_causes.specs.Checks.{IsOverflowed}
 use Rattle.spec_causes.specs.Shared.{IsSharedEquality}
 use Rattle.spec_sessions.specs.Refutations.{IsProofOf}
@@ -69,7 +69,7 @@ pub record IsSpentOn (p : Problem) (limit carried : ℕ) (d : Derivation) (learn
   -- as many clauses were learned as it allows
   pub spent : IsConflictBudgetSpent p d limit carried learned
   -- and one more would be
-  pub conflict : IsConflict p d learned
+  pub conflict : CanLearnMore p d learned
 
 -- What a search of a problem keeps is within its limits, and the clauses may be learned.
 pub record IsKeptOf (limits : Limits) (p : Problem) (k : Kept) : Type 0 where
