@@ -17,3 +17,4 @@ pub mod Multiples
 pub mod KeyOrder
 pub mod RowSums
 pub mod Coming
+pub mod Growing

@@ -9,3 +9,4 @@ pub mod Atoms
 pub mod Watching
 pub mod Made
 pub mod TermTableauViews
+pub mod Grown

@@ -12,12 +12,11 @@ ghost use Rattle.simplex_atoms.specs.Atoms.{ground_of, GroundGrows, KeepBounds, 
 ghost use Rattle.simplex_atoms.specs.Watching.{OnAtomOverflow, OverflowsAtom, IsWatched};
 ghost use Rattle.simplex_atoms.specs.TermTableauViews.{term_tableau_in, ButForMemory};
 
-use crate::owners::Owners;
+use crate::meanings::Meanings;
 use crate::placing::slack_of;
 use crate::reading::{difference_of, sides_of};
 use crate::slack::Slack;
 use crate::stop::AtomStop;
-use crate::sums::Sums;
 use no_memory::NoMemory;
 use simplex_bounds::Bounds;
 use simplex_check::RealAssignment;
@@ -26,7 +25,8 @@ use std::collections::HashMap;
 use std::marker::Model;
 use term_core::{TermId, TermTable};
 
-/// Holds which terms and sums the variables of an assignment stand for, and the slack variables of the atoms that are watched.
+/// Holds which terms and sums the variables of an assignment stand for, and the slack variables of the atoms that are
+/// watched.
 ///
 /// A term's variable and an atom's place are looked up by a hash of its number, and a sum's variable by a hash of its
 /// entries. Contracts see for each variable the term that it stands for, the sums, and the places by the numbers of
@@ -35,8 +35,7 @@ use term_core::{TermId, TermTable};
 #[derive(Drop)]
 pub struct Atoms {
     alloc: Global,
-    owners: Owners,
-    sums: Sums,
+    meanings: Meanings,
     slacks: HashMap<u64, Slack>,
 }
 
@@ -45,7 +44,11 @@ impl Model for Atoms {
 
     ghost Value = { AtomsView };
 
-    ghost view = { λ a. record { owners = a.owners.list; sums = a.sums.list; slack_list = a.slacks.entries } };
+    ghost view = { λ a. record {
+      owners = a.meanings.owners.list;
+      sums = a.meanings.sums.list;
+      slack_list = a.slacks.entries;
+    } };
 }
 
 /// Lets bounds be held of n variables.
@@ -70,8 +73,7 @@ impl Atoms {
     {
         Atoms {
             alloc,
-            owners: Owners::new(alloc),
-            sums: Sums::new(alloc),
+            meanings: Meanings::new(alloc),
             slacks: HashMap::new(alloc),
         }
     }
@@ -80,7 +82,7 @@ impl Atoms {
     pub fn var(&self, id: TermId) -> Option<u64>
         ensures { IsNumberOf self.now.owners id result }
     {
-        self.owners.var(id)
+        self.meanings.owners.var(id)
     }
 
     /// Gives the term that a variable stands for; `None` where it stands for a row, or is not there. It takes no
@@ -88,7 +90,7 @@ impl Atoms {
     pub fn owner(&self, y: u64) -> Option<TermId>
         ensures { result ≡ owner_at self.now.owners y }
     {
-        self.owners.owner(y)
+        self.meanings.owners.owner(y)
     }
 
     /// Gives the slack variable of an atom; `None` where it has none. It takes no memory.
@@ -144,16 +146,15 @@ impl Atoms {
         let form = difference_of(self.alloc, table, sides)?;
         let made = slack_of(
             self.alloc,
-            &mut self.owners,
-            &mut self.sums,
+            &mut self.meanings,
             assignment,
             sides.kind,
             &form,
         );
-        self.owners.are_once();
+        self.meanings.owners.are_once();
         table.ids_are_unique();
         let slack = made?;
-        reach(bounds, self.owners.len())?;
+        reach(bounds, self.meanings.owners.len())?;
         self.slacks.insert(id.0, slack)?;
         Ok(())
     }

@@ -10,6 +10,7 @@ mod atoms;
 mod keys;
 pub mod laws;
 mod limits;
+mod meanings;
 mod numbering;
 mod owners;
 mod placing;

@@ -1,32 +1,30 @@
 //! The place of a form.
 
-ghost use Rattle.std.specs.Prelude.{◌≡◌, ◌<◌, false, map, IfOk, IfErr, OnOk, OnErr, Err};
+ghost use Rattle.std.specs.Prelude.{◌≡◌, ◌<◌, false, IfOk, IfErr, Err};
 ghost use Rattle.spec_numbers.specs.Fractions.{opposite};
 ghost use Rattle.spec_numbers.specs.Bounds.{divided};
-ghost use Rattle.spec_arithmetic.specs.Forms.{Form as Meant};
 ghost use Rattle.spec_tableaux.specs.SolvedForms.{AllVariables};
 ghost use Rattle.spec_tableaux.specs.Numbers.{numbers};
 ghost use Rattle.ratio128.specs.Meant.{fraction, overflow};
 ghost use Rattle.term_core.specs.Tables.{TableView};
-ghost use Rattle.spec_causes.specs.TermTableau.{AreEntriesOf};
-ghost use Rattle.spec_causes.specs.Reached.{IsLonger, HaveNoRow};
+ghost use Rattle.spec_causes.specs.Reached.{IsLonger};
 ghost use Rattle.linear_form.specs.Meant.{form_meant, AreVariablesOf};
 ghost use Rattle.tableau.specs.Numbers.{number_of};
 ghost use Rattle.tableau.specs.Entries.{entries_of};
-ghost use Rattle.simplex_check.specs.Assignments.{assignment_with_sum};
-ghost use Rattle.simplex_atoms.specs.Owners.{AreOwnersIn};
-ghost use Rattle.simplex_atoms.specs.Sums.{sign_by};
+ghost use Rattle.simplex_atoms.specs.Sums.{sign_by, key_meant, IsKeyOf, IsNew};
 ghost use Rattle.simplex_atoms.specs.Slacks.{IsSign, IsFormOf};
-ghost use Rattle.simplex_atoms.specs.Atoms.{ground_of, setting_of, AreCounted, IsGrounded, GroundGrows, IsMultiple, AreSums};
+ghost use Rattle.simplex_atoms.specs.Atoms.{setting_of, IsMultiple};
 ghost use Rattle.simplex_atoms.specs.Watching.{OnAtomOverflow, OverflowsForm};
 ghost use Rattle.simplex_atoms.specs.Made.{IsMade, Covers, IsOnEntry, IsSingle, OverflowsEntries};
-ghost use Rattle.simplex_atoms.specs.TermTableauViews.{owner_meant, ButForMemory, GroundLeads, TellsOwners};
+ghost use Rattle.simplex_atoms.specs.TermTableauViews.{ButForMemory};
+ghost use Rattle.simplex_atoms.specs.Grown.{MeaningsFit, any_table, Grown, LeadsByEntries, LeadsByForm, ground_on};
 
+use crate::keys::Key;
+use crate::meanings::Meanings;
 use crate::numbering::entries_of;
-use crate::owners::Owners;
 use crate::slack::{Comparison, Slack};
 use crate::stop::AtomStop;
-use crate::sums::{Multiple, Sums};
+use crate::sums::Multiple;
 use linear_form::Form;
 use ratio128::{Ratio, Wide};
 use simplex_check::RealAssignment;
@@ -100,75 +98,62 @@ fn on_multiple(kind: Comparison, constant: Ratio, multiple: Multiple) -> Slack
     }
 }
 
-/// Adds a variable that is the sum of the entries, and gives its number.
+/// Adds a variable that is the sum of the entries, which have this key, and gives its number.
 fn add_row(
-    owners: &mut Owners,
+    meanings: &mut Meanings,
     assignment: &mut RealAssignment,
     entries: &[Entry],
+    key: Key,
 ) -> Result<u64, AtomStop>
-    requires counted { AreCounted (ground_of owners.old.list assignment.old) }
+    requires fit { MeaningsFit meanings.old assignment.old }
     requires over { AllVariables (λ y. y < assignment.old.tableau.variables) (entries_of entries.now) }
     requires longer { IsLonger (entries_of entries.now) }
-    requires is_new { HaveNoRow assignment.old.tableau.listed (entries_of entries.now) }
-    ensures counted { AreCounted (ground_of owners.new.list assignment.new) }
-    ensures grows { GroundGrows (ground_of owners.old.list assignment.old) (ground_of owners.new.list assignment.new) }
-    ensures grounded { IsGrounded (ground_of owners.old.list assignment.old)
-        → IsGrounded (ground_of owners.new.list assignment.new) }
-    ensures there { (t : TableView) → AreOwnersIn t owners.old.list → AreOwnersIn t owners.new.list }
-    ensures row { OnOk result (assignment.new ≡ assignment_with_sum assignment.old (entries_of entries.now)) }
-    ensures same { OnErr result (assignment.new ≡ assignment.old) }
-    ensures is { IfOk result (IsMultiple (ground_of owners.new.list assignment.new) (entries_of entries.now)
+    requires key { IsKeyOf entries.now key }
+    requires is_new { IsNew meanings.old.sums.list (key_meant key) }
+    ensures grown { Grown any_table meanings.old assignment.old meanings.new assignment.new }
+    ensures is { IfOk result (IsMultiple (ground_on meanings.new assignment.new) (entries_of entries.now)
         numbers.one) }
     ensures wide { (constant : Ratio)
         → IfErr result (OnAtomOverflow (OverflowsEntries assignment.new constant entries.now)) }
-    ensures came { ButForMemory ((t : TableView) (f : Meant)
-        → AreEntriesOf (map (owner_meant t) owners.old.list) (entries_of entries.now) f.variables
-        → GroundLeads t f (ground_of owners.old.list assignment.old) (ground_of owners.new.list assignment.new)) result }
+    ensures came { ButForMemory
+        (LeadsByEntries (entries_of entries.now) meanings.old assignment.old meanings.new assignment.new) result }
 {
-    owners.reserve()?;
+    meanings.sums.reserve()?;
+    meanings.owners.reserve()?;
     let variable = assignment.add_row(entries)?;
-    owners.add_none();
+    meanings.owners.add_none();
+    meanings.sums.add(key, variable);
     Ok(variable)
 }
 
 /// Makes the place on the variable that is the sum of the entries or minus it: the one that there is, else a new one.
 fn on_row(
-    owners: &mut Owners,
-    sums: &mut Sums,
+    meanings: &mut Meanings,
     assignment: &mut RealAssignment,
     kind: Comparison,
     constant: Ratio,
     entries: &[Entry],
 ) -> Result<Slack, AtomStop>
-    requires counted { AreCounted (ground_of owners.old.list assignment.old) }
-    requires sums { AreSums (ground_of owners.old.list assignment.old) sums.old.list }
+    requires fit { MeaningsFit meanings.old assignment.old }
     requires over { AllVariables (λ y. y < assignment.old.tableau.variables) (entries_of entries.now) }
     requires longer { IsLonger (entries_of entries.now) }
-    ensures counted { AreCounted (ground_of owners.new.list assignment.new) }
-    ensures sums { AreSums (ground_of owners.new.list assignment.new) sums.new.list }
-    ensures grows { GroundGrows (ground_of owners.old.list assignment.old) (ground_of owners.new.list assignment.new) }
-    ensures grounded { IsGrounded (ground_of owners.old.list assignment.old)
-        → IsGrounded (ground_of owners.new.list assignment.new) }
-    ensures there { (t : TableView) → AreOwnersIn t owners.old.list → AreOwnersIn t owners.new.list }
+    ensures grown { Grown any_table meanings.old assignment.old meanings.new assignment.new }
     ensures made { IfOk result (IsMade kind constant) }
-    ensures covers { IfOk result (Covers (ground_of owners.new.list assignment.new) entries.now) }
+    ensures covers { IfOk result (Covers (ground_on meanings.new assignment.new) entries.now) }
     ensures unit { IfOk result (λ p. IsSign (number_of p.factor)) }
     ensures wide { IfErr result (OnAtomOverflow (OverflowsEntries assignment.new constant entries.now)) }
-    ensures came { ButForMemory ((t : TableView) (f : Meant)
-        → AreEntriesOf (map (owner_meant t) owners.old.list) (entries_of entries.now) f.variables
-        → GroundLeads t f (ground_of owners.old.list assignment.old) (ground_of owners.new.list assignment.new)) result }
+    ensures came { ButForMemory
+        (LeadsByEntries (entries_of entries.now) meanings.old assignment.old meanings.new assignment.new) result }
 {
-    let key = sums.key(entries)?;
-    if let Some(known) = sums.find(&key) {
+    let key = meanings.sums.key(entries)?;
+    if let Some(known) = meanings.sums.find(&key) {
         let multiple = Multiple {
             variable: known.variable,
             opposite: known.opposite != key.opposite,
         };
         return Ok(on_multiple(kind, constant, multiple));
     }
-    sums.reserve()?;
-    let variable = add_row(owners, assignment, entries)?;
-    sums.add(key, variable);
+    let variable = add_row(meanings, assignment, entries, key)?;
     let multiple = Multiple {
         variable,
         opposite: false,
@@ -179,36 +164,28 @@ fn on_row(
 /// Makes the place of the form that has this constant, and the sum of the entries: on the variable of the one entry,
 /// else on that of a row.
 fn slack_by(
-    owners: &mut Owners,
-    sums: &mut Sums,
+    meanings: &mut Meanings,
     assignment: &mut RealAssignment,
     kind: Comparison,
     constant: Ratio,
     entries: &[Entry],
 ) -> Result<Slack, AtomStop>
-    requires counted { AreCounted (ground_of owners.old.list assignment.old) }
-    requires sums { AreSums (ground_of owners.old.list assignment.old) sums.old.list }
+    requires fit { MeaningsFit meanings.old assignment.old }
     requires over { AllVariables (λ y. y < assignment.old.tableau.variables) (entries_of entries.now) }
-    ensures counted { AreCounted (ground_of owners.new.list assignment.new) }
-    ensures sums { AreSums (ground_of owners.new.list assignment.new) sums.new.list }
-    ensures grows { GroundGrows (ground_of owners.old.list assignment.old) (ground_of owners.new.list assignment.new) }
-    ensures grounded { IsGrounded (ground_of owners.old.list assignment.old)
-        → IsGrounded (ground_of owners.new.list assignment.new) }
-    ensures there { (t : TableView) → AreOwnersIn t owners.old.list → AreOwnersIn t owners.new.list }
+    ensures grown { Grown any_table meanings.old assignment.old meanings.new assignment.new }
     ensures made { IfOk result (IsMade kind constant) }
-    ensures covers { IfOk result (Covers (ground_of owners.new.list assignment.new) entries.now) }
+    ensures covers { IfOk result (Covers (ground_on meanings.new assignment.new) entries.now) }
     ensures on { IfOk result (IsOnEntry entries.now) }
     ensures wide { IfErr result (OnAtomOverflow (OverflowsEntries assignment.new constant entries.now)) }
-    ensures came { ButForMemory ((t : TableView) (f : Meant)
-        → AreEntriesOf (map (owner_meant t) owners.old.list) (entries_of entries.now) f.variables
-        → GroundLeads t f (ground_of owners.old.list assignment.old) (ground_of owners.new.list assignment.new)) result }
+    ensures came { ButForMemory
+        (LeadsByEntries (entries_of entries.now) meanings.old assignment.old meanings.new assignment.new) result }
 {
     match single(entries) {
         Some(entry) => {
             let slack = on_variable(kind, constant, entry)?;
             Ok(slack)
         }
-        None => on_row(owners, sums, assignment, kind, constant, entries),
+        None => on_row(meanings, assignment, kind, constant, entries),
     }
 }
 
@@ -219,31 +196,21 @@ fn slack_by(
 /// then be more variables and rows.
 pub(crate) fn slack_of(
     alloc: Global,
-    owners: &mut Owners,
-    sums: &mut Sums,
+    meanings: &mut Meanings,
     assignment: &mut RealAssignment,
     kind: Comparison,
     form: &Form,
 ) -> Result<Slack, AtomStop>
-    requires counted { AreCounted (ground_of owners.old.list assignment.old) }
-    requires sums { AreSums (ground_of owners.old.list assignment.old) sums.old.list }
-    ensures counted { AreCounted (ground_of owners.new.list assignment.new) }
-    ensures sums { AreSums (ground_of owners.new.list assignment.new) sums.new.list }
-    ensures grows { GroundGrows (ground_of owners.old.list assignment.old) (ground_of owners.new.list assignment.new) }
-    ensures grounded { IsGrounded (ground_of owners.old.list assignment.old)
-        → IsGrounded (ground_of owners.new.list assignment.new) }
-    ensures there { (t : TableView) → AreVariablesOf t form.now → AreOwnersIn t owners.old.list
-        → AreOwnersIn t owners.new.list }
+    requires fit { MeaningsFit meanings.old assignment.old }
+    ensures grown { Grown (λ t. AreVariablesOf t form.now) meanings.old assignment.old meanings.new assignment.new }
     ensures kind { IfOk result (λ p. p.kind ≡ kind) }
     ensures is { IfOk result (λ p. (t : TableView)
-        → IsFormOf (setting_of t (ground_of owners.new.list assignment.new)) p (form_meant t form.now)) }
+        → IsFormOf (setting_of t (ground_on meanings.new assignment.new)) p (form_meant t form.now)) }
     ensures wide { IfErr result (OnAtomOverflow (λ o. (t : TableView)
-        → OverflowsForm t owners.new.list assignment.new (form_meant t form.now) o)) }
-    ensures came { ButForMemory ((t : TableView) → AreVariablesOf t form.now → TellsOwners t owners.old.list
-        → GroundLeads t (form_meant t form.now) (ground_of owners.old.list assignment.old)
-        (ground_of owners.new.list assignment.new)) result }
+        → OverflowsForm t meanings.new.owners.list assignment.new (form_meant t form.now) o)) }
+    ensures came { ButForMemory (LeadsByForm form.now meanings.old assignment.old meanings.new assignment.new) result }
 {
     let variables = form.variables(alloc)?;
-    let entries = entries_of(alloc, owners, assignment, &variables)?;
-    slack_by(owners, sums, assignment, kind, form.constant(), &entries)
+    let entries = entries_of(alloc, meanings, assignment, &variables)?;
+    slack_by(meanings, assignment, kind, form.constant(), &entries)
 }
