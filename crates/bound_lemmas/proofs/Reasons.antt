@@ -41,7 +41,7 @@ nothing_came ts old new right e f =
       lemmas = All-nil (λ (l : Logged). IsLemma ts _ (inference_of old.table l));
     })
 
--- a fault that is another one is no want of memory
+-- these faults are not that of memory
 pub wide_is_no_memory : (f : ArithFault) (w : Wide) → f ≡ faults.Wide w → f ≢ faults.Memory
 wide_is_no_memory f w is e = cc
 

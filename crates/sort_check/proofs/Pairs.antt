@@ -206,7 +206,7 @@ told_there ts t c = elim (Contains-append_cases (map equal_pair (pairs_of ts)) (
     negated_there : (p : Term × Term) → Contains (pairs_of ts) p → Contains all (unequal_pair p)
     negated_there p k = part_there (map (λ (q : Term × Term). unequal q.0 q.1) (all_pairs ts)) (unequal p.0 p.1) (to_image (λ (q : Term × Term). unequal q.0 q.1) (all_pairs ts) p (pairs_among ts p k))
 
--- too many different terms are told apart by more subterms than the limit allows
+-- the pairs of too many different terms have more subterms than the limit allows
 pub too_many_subterms : (limit : ℕ) (ts : List Term) → AreTooMany limit ts → nat_le (length (subterms_of (each_pair unequal (all_pairs ts) ∷ []))) limit ≡ false
 too_many_subterms limit ts many =
     above (length (subterms_of (each_pair unequal (all_pairs ts) ∷ [])))

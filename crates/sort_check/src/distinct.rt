@@ -29,7 +29,7 @@ use std::alloc::Global;
 use term_core::{Sort, TermId, TermTable, TheoryHead};
 use term_reader::{ListForm, ReadError, Scope, Setting, all_have, fault_at, list_form};
 
-/// Whether so many have more ordered pairs of two than the limit allows.
+/// Tells whether so many have more ordered pairs of two than the limit allows.
 fn pass(count: u64, limit: u64) -> bool
     ensures { result ≡ true → limit < count * count - count }
 {
@@ -39,7 +39,7 @@ fn pass(count: u64, limit: u64) -> bool
     }
 }
 
-/// Whether there are so many texts that they may be too many different terms.
+/// Tells whether there are so many texts that they may be too many different terms.
 fn may_be_too_many(arguments: Trees<'_>, limit: u64) -> bool {
     let mut count = 0u64;
     let mut rest = arguments;
@@ -99,7 +99,7 @@ fn count_different(alloc: Global, table: &TermTable, ids: &[TermId]) -> Result<u
     Ok(seen_terms(table, ids, &seen))
 }
 
-/// Whether terms have one sort.
+/// Tells whether terms have one sort.
 fn have_one_sort(table: &TermTable, ids: &[TermId]) -> bool
     requires { AreIn table.now ids.now }
     ensures { result ≡ sorts_fit alike (map sort_of (clause_at table.now ids.now)) }
@@ -110,7 +110,7 @@ fn have_one_sort(table: &TermTable, ids: &[TermId]) -> bool
     }
 }
 
-/// Whether terms of one sort are too many to be told apart.
+/// Tells whether terms of one sort are too many to be told apart.
 fn are_too_many(alloc: Global, table: &TermTable, ids: &[TermId], limit: u64) -> bool
     requires { AreIn table.now ids.now }
     ensures alike { result ≡ true → sorts_fit alike (map sort_of (clause_at table.now ids.now)) ≡ true }
@@ -125,7 +125,7 @@ fn are_too_many(alloc: Global, table: &TermTable, ids: &[TermId], limit: u64) ->
     }
 }
 
-/// Whether texts are read as terms of one sort that are too many to be told apart.
+/// Tells whether texts are read as terms of one sort that are too many to be told apart.
 fn are_read_as_too_many(
     alloc: Global,
     table: &mut TermTable,
@@ -172,7 +172,7 @@ fn wide_arguments(sort: Sort, tree: Trees<'_>, room: Room) -> Option<(u64, Trees
     Some((limit, arguments))
 }
 
-/// Whether a tree is a `distinct` of too many different terms. Table and scope are as they were.
+/// Tells whether a tree is a `distinct` of too many different terms. Table and scope are as they were.
 fn cannot_fit(
     alloc: Global,
     table: &mut TermTable,
