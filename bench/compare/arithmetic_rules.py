@@ -10,6 +10,7 @@ from terms import GREATEST, REAL
 from values import Overflow, add, multiply
 
 ARITHMETIC_RULES = {b"la_generic", b"la_disequality", b"la_totality"}
+OPERATIONS = (b"+", b"-", b"*", b"/")
 
 
 class Malformed(Exception):
@@ -63,14 +64,26 @@ def headed(number, head, forms):
     return first
 
 
+def calculated(terms, root):
+    """Returns a term and those of which its form is made, arguments first: none below another head is computed with."""
+    found, open_ones = set(), [root]
+    while open_ones:
+        number = open_ones.pop()
+        head, given = terms.nodes[number]
+        if number not in found and head in OPERATIONS:
+            open_ones += given
+        found.add(number)
+    return sorted(found)
+
+
 def form_of(terms, root):
     """Returns the form of a term."""
     forms = {}
-    for number in terms.below([root]):
+    for number in calculated(terms, root):
         head, given = terms.nodes[number]
         if head[0] == "number":
             forms[number] = head[1], {}
-        elif head in (b"+", b"-", b"*", b"/") and all(given_number in forms for given_number in given):
+        elif head in OPERATIONS:
             forms[number] = headed(number, head, [forms[t] for t in given])
         else:
             forms[number] = Fraction(0), {number: Fraction(1)}
