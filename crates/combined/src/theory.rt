@@ -9,28 +9,13 @@ use simplex::Simplex;
 use term_core::{Lit, TermId, TermTable};
 
 impl Theory for Combined {
-    ghost use Rattle.std.specs.Prelude.{◌⊎◌};
     ghost use Rattle.std.proofs.Common.{⊎_elim};
-    ghost use Rattle.congruence.specs.Views.{theory_of};
+    ghost use Rattle.combined.specs.Views.{both};
     ghost use Rattle.congruence.specs.contracts.theory.CongruenceTheory.TheImpl.Laws as of_congruence;
     ghost use Rattle.simplex.specs.contracts.theory.SimplexTheory.TheImpl.Laws as of_simplex;
 
-    ghost view = { λ c. theory_of c.congruence };
-
-    ghost goes_with = { λ c t. ⟦<Congruence as Theory>⟧.goes_with c.congruence t
-        × ⟦<Simplex as Theory>⟧.goes_with c.simplex t };
-
-    ghost agrees = { λ c ts ls. ⟦<Congruence as Theory>⟧.agrees c.congruence ts ls
-        × ⟦<Simplex as Theory>⟧.agrees c.simplex ts ls };
-
-    ghost refuses = { λ c ts ls. ⟦<Congruence as Theory>⟧.refuses c.congruence ts ls
-        ⊎ ⟦<Simplex as Theory>⟧.refuses c.simplex ts ls };
-
-    ghost came_by = { λ c t ts n es. ⟦<Simplex as Theory>⟧.came_by c.simplex t ts n es };
-
-    ghost stopped_by = { λ c t ts n es. ⟦<Simplex as Theory>⟧.stopped_by c.simplex t ts n es };
-
-    ghost may_overflow = { λ c t ts s. ⟦<Simplex as Theory>⟧.may_overflow c.simplex t ts s };
+    ghost meaning = { λ c. both (⟦<Congruence as Theory>⟧.meaning c.congruence)
+        (⟦<Simplex as Theory>⟧.meaning c.simplex) };
 
     fn watch_term(&mut self, table: &TermTable, id: TermId) -> Result<(), Stop> {
         // Nothing can be unwatched, but simplex can go back to a mark.
@@ -78,13 +63,13 @@ impl Theory for Combined {
         Theory::back(&mut self.simplex, marks);
     }
 
-    ghost grown = { λ c t u more with. (
-      of_congruence.grown-law c.congruence t u more with.0,
-      of_simplex.grown-law c.simplex t u more with.1,
-    ) };
-
-    ghost came_grown = { λ c t u more with ts n es came. of_simplex.came_grown-law c.simplex t u more with.1 ts n es came };
-
-    ghost exact = { λ c ts ls agree refused. ⊎_elim (of_congruence.exact-law c.congruence ts ls agree.0)
-        (of_simplex.exact-law c.simplex ts ls agree.1) refused };
+    ghost lawful = { λ c. record {
+      grown = λ t u more with. (
+        (of_congruence.lawful-law c.congruence).grown t u more with.0,
+        (of_simplex.lawful-law c.simplex).grown t u more with.1,
+      );
+      came_grown = λ t u more with. (of_simplex.lawful-law c.simplex).came_grown t u more with.1;
+      exact = λ ts ls agree refused. ⊎_elim ((of_congruence.lawful-law c.congruence).exact ts ls agree.0)
+          ((of_simplex.lawful-law c.simplex).exact ts ls agree.1) refused;
+    } };
 }

@@ -55,25 +55,20 @@ fn explain_conflict(
 }
 
 impl Theory for Congruence {
-    ghost use Rattle.std.specs.Prelude.{◌≡◌, [], true};
+    ghost use Rattle.std.specs.Prelude.{◌≡◌, true};
     ghost use Rattle.spec_equality.specs.Congruence.{IsFine, IsRefuted};
+    ghost use Rattle.proof_log.specs.Meanings.{no_runs};
     ghost use Rattle.congruence_relation.specs.Relation.{AreFactsOf};
     ghost use Rattle.congruence.specs.Views.{theory_of};
     ghost use Rattle.congruence_relation.proofs.Kept.{of_more};
 
-    ghost view = { theory_of };
-
-    ghost goes_with = { λ c t. AreFactsOf t c.now.facts };
-
-    ghost agrees = { λ c ts ls. IsFine ts ls × (c.now.saturated ≡ true) };
-
-    ghost refuses = { λ c ts ls. IsRefuted ts ls };
-
-    ghost came_by = { λ _ _ _ _ es. es ≡ [] };
-
-    ghost stopped_by = { λ _ _ _ _ _. Unit {0} };
-
-    ghost may_overflow = { λ _ _ _ _. ⊥ };
+    ghost meaning = { λ c. record {
+      view = theory_of c;
+      goes_with = λ t. AreFactsOf t c.now.facts;
+      agrees = λ ts ls. IsFine ts ls × (c.now.saturated ≡ true);
+      refuses = IsRefuted;
+      running = no_runs;
+    } };
 
     /// Watches a term that it does not watch yet, which must be one over the table's symbols. `Memory` comes where memory ran out, the one
     /// stop, as it computes with no numbers; then it watches what it did.
@@ -164,9 +159,9 @@ impl Theory for Congruence {
         self.closure.is_right();
     }
 
-    ghost grown = { λ c t u more with. of_more t u more c.now.facts with };
-
-    ghost came_grown = { λ c t u more with ts n es came. came };
-
-    ghost exact = { λ c ts ls fine refuted. fine.0 refuted };
+    ghost lawful = { λ c. record {
+      grown = λ t u more with. of_more t u more c.now.facts with;
+      came_grown = λ t u more with ts n es came. came;
+      exact = λ ts ls fine refuted. fine.0 refuted;
+    } };
 }

@@ -38,19 +38,15 @@ impl PropositionalTheory {
 }
 
 impl Theory for PropositionalTheory {
-    ghost view = { λ p. p };
+    ghost use Rattle.proof_log.specs.Meanings.{no_runs};
 
-    ghost goes_with = { λ _ _. Unit {0} };
-
-    ghost agrees = { λ _ _ _. Unit {0} };
-
-    ghost refuses = { λ _ _ _. ⊥ };
-
-    ghost came_by = { λ _ _ _ _ es. es ≡ [] };
-
-    ghost stopped_by = { λ _ _ _ _ _. Unit {0} };
-
-    ghost may_overflow = { λ _ _ _ _. ⊥ };
+    ghost meaning = { λ p. record {
+      view = p;
+      goes_with = λ _. Unit {0};
+      agrees = λ _ _. Unit {0};
+      refuses = λ _ _. ⊥;
+      running = no_runs;
+    } };
 
     /// Watches a term that it does not watch yet. `Memory` comes where memory ran out, the one stop; then it watches what it did.
     fn watch_term(&mut self, table: &TermTable, id: TermId) -> Result<(), Stop> {
@@ -84,9 +80,9 @@ impl Theory for PropositionalTheory {
         self.literals.back(marks);
     }
 
-    ghost grown = { λ p t u more with. with };
-
-    ghost came_grown = { λ p t u more with ts n es came. came };
-
-    ghost exact = { λ p ts ls fine refuted. refuted };
+    ghost lawful = { λ p. record {
+      grown = λ t u more with. with;
+      came_grown = λ t u more with ts n es came. came;
+      exact = λ ts ls fine refuted. refuted;
+    } };
 }

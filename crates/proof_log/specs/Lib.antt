@@ -5,3 +5,4 @@ pub mod Faults
 pub mod Adding
 pub mod Clashes
 pub mod Theories
+pub mod Meanings

@@ -99,6 +99,10 @@ pub record Derived : Type 0 where
   -- the log
   pub log : List Logged
 
+-- a table with a log
+abbrev pub derived : TableView → List Logged → Derived
+derived t log = record { table = t; log = log }
+
 -- Terms and steps came, and each step is right. They are lemmas: they depend on each other alone, and speak of terms
 -- made of these.
 pub record DerivesLemmas (ts : List Term) (old new : Derived) : Type 0 where

@@ -7,3 +7,4 @@ pub mod Rounds
 pub mod Asking
 pub mod Growing
 pub mod Paying
+pub mod Loops

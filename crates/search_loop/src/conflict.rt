@@ -1,14 +1,13 @@
 //! What comes of a conflict.
 
-ghost use Rattle.std.specs.Prelude.{◌≡◌, ◌<◌, List, length, IfOk, IfSome, OnOk, ℕ};
-ghost use Rattle.spec_sorts.specs.Terms.{Term};
+ghost use Rattle.std.specs.Prelude.{◌≡◌, ◌<◌, length, IfOk, OnOk, ℕ};
 ghost use Rattle.term_core.specs.Tables.{declared_in, Extends};
 ghost use Rattle.proof_log.specs.Logs.{IsLogOf};
 ghost use Rattle.proof_log.specs.Clashes.{IsClash};
 ghost use Rattle.conflict_learn.specs.Conflicts.{IsOfZero, IsAboveZero};
 ghost use Rattle.search_loop.specs.Search.{SearchFits, conflict_of};
-ghost use Rattle.search_loop.specs.Rounds.{KeepsLimit, IsNoted, IsStep, LogsEmptyClause, HasLearned, ShowsAnswer};
-ghost use Rattle.search_loop.specs.Asking.{IsAsked, state, ResolvesConflict};
+ghost use Rattle.search_loop.specs.Rounds.{IsNoted, LogsEmptyClause, ShowsAnswer};
+ghost use Rattle.search_loop.specs.Loops.{loop_state, CanLoop, ResolvesClash, LearnsFrom};
 ghost use Rattle.search_loop.specs.declared.cdcl.Answer.TheVariants.{Unsat, Unknown};
 ghost use Rattle.sat_budget.specs.declared.limits.Reason.TheVariants.{Conflicts};
 
@@ -43,22 +42,10 @@ impl Search {
         theory: &mut T,
         clash: StepId,
     ) -> Result<Option<End>, NoMemory>
-        requires ready { SearchFits table.old self.old }
-        requires asked { IsAsked (T.view theory.old) self.old }
-        requires with { T.goes_with theory.old table.old }
+        requires going { CanLoop (loop_state table.old self.old (T.meaning theory.old)) }
         requires clash { IsClash table.old self.old.log self.old.trail.literals clash }
-        ensures grown { Extends table.old table.new }
-        ensures declared { declared_in table.new ≡ declared_in table.old }
-        ensures with { IfOk result (λ _. T.goes_with theory.new table.new) }
-        ensures came { IfOk result (λ _. (ts : List Term) (n : ℕ)
-            → T.came_by theory.old table.old ts n self.old.budget.exchanges
-            → T.came_by theory.new table.new ts n self.new.budget.exchanges) }
-        ensures right { IfOk result (λ _. IsLogOf table.new self.new.log) }
-        ensures limit { IfOk result (λ _. KeepsLimit self.old.budget self.new.budget) }
-        ensures ended { IfOk result (λ end. IfSome end (λ _. (self.new.terms ≡ self.old.terms)
-            × (self.new.budget ≡ self.old.budget))) }
-        ensures resolves_conflict { IfOk result (ResolvesConflict (state table.old self.old) (state table.new self.new)
-            (T.view theory.new)) }
+        ensures { ResolvesClash (loop_state table.old self.old (T.meaning theory.old))
+            (loop_state table.new self.new (T.meaning theory.new)) result }
     {
         table.ids_are_unique();
         self.trail.is_sound();
@@ -124,21 +111,14 @@ impl Search {
         theory: &mut T,
         clash: StepId,
     ) -> Result<(), NoMemory>
-        requires ready { SearchFits table.old self.old }
-        requires asked { IsAsked (T.view theory.old) self.old }
-        requires with { T.goes_with theory.old table.old }
+        requires going { CanLoop (loop_state table.old self.old (T.meaning theory.old)) }
         requires clash { IsClash table.old self.old.log self.old.trail.literals clash }
         requires above { IsAboveZero (conflict_of table.old self.old clash) }
         requires room { length self.old.budget.learned < self.old.budget.limit }
         ensures grown { Extends table.old table.new }
         ensures declared { declared_in table.new ≡ declared_in table.old }
-        ensures with { OnOk result (T.goes_with theory.new table.new) }
-        ensures came { OnOk result ((ts : List Term) (n : ℕ)
-            → T.came_by theory.old table.old ts n self.old.budget.exchanges
-            → T.came_by theory.new table.new ts n self.new.budget.exchanges) }
-        ensures step { OnOk result (IsStep (conflict_of table.old self.old clash) table.new self.new.log) }
-        ensures asked { OnOk result (IsAsked (T.view theory.new) self.new) }
-        ensures learned { OnOk result (HasLearned table.old table.new self.old self.new) }
+        ensures learns { OnOk result (LearnsFrom clash (loop_state table.old self.old (T.meaning theory.old))
+            (loop_state table.new self.new (T.meaning theory.new))) }
     {
         what_is_marked_was_seen();
         reasons_stay_right();

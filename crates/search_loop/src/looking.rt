@@ -1,13 +1,6 @@
 //! What follows from the literals that hold, and whether something is wrong with them.
 
-ghost use Rattle.std.specs.Prelude.{◌≡◌, ℕ, List, IfOk, IfErr};
-ghost use Rattle.spec_sorts.specs.Terms.{Term};
-ghost use Rattle.term_core.specs.Tables.{declared_in, Extends};
-ghost use Rattle.sat_budget.specs.Budgets.{StopsBy};
-ghost use Rattle.proof_log.specs.Theories.{terms_watched, literals_held, CameTo, paid_after};
-ghost use Rattle.search_loop.specs.Search.{SearchFits};
-ghost use Rattle.search_loop.specs.Asking.{IsAsked, HasStopped, OnStop, state, LookFinds};
-ghost use Rattle.search_loop.specs.Paying.{IsPaid, Looked};
+ghost use Rattle.search_loop.specs.Loops.{loop_state, CanLoop, Looks};
 
 use crate::feeding::feed;
 use crate::search::Search;
@@ -29,25 +22,9 @@ impl Search {
         table: &mut TermTable,
         theory: &mut T,
     ) -> Result<Verdict, Stop>
-        requires ready { SearchFits table.old self.old }
-        requires asked { IsAsked (T.view theory.old) self.old }
-        requires with { T.goes_with theory.old table.old }
-        ensures grown { Extends table.old table.new }
-        ensures declared { declared_in table.new ≡ declared_in table.old }
-        ensures with { IfOk result (λ _. T.goes_with theory.new table.new) }
-        ensures looks { IfOk result (LookFinds (state table.old self.old) (state table.new self.new) (T.view theory.new)
-            (T.agrees theory.new (terms_watched table.new (T.view theory.new))
-            (literals_held table.new (T.view theory.new)))) }
-        ensures learned { self.new.budget.learned ≡ self.old.budget.learned }
-        ensures came { (ts : List Term) (n : ℕ) → T.came_by theory.old table.old ts n self.old.budget.exchanges
-            → Looked (state table.old self.old) (T.view theory.old).held (T.view theory.new).held n (λ m. CameTo result
-            (λ verdict. IsPaid (λ k. T.came_by theory.new table.new ts k self.new.budget.exchanges)
-            (paid_after verdict m))
-            (T.stopped_by theory.new table.new ts m self.new.budget.exchanges)) }
-        ensures stops { IfErr result (StopsBy
-            (T.may_overflow theory.new table.new (terms_watched table.new (T.view theory.new)))) }
-        ensures stopped { IfErr result (OnStop (T.goes_with theory.new table.new
-            × HasStopped (state table.old self.old) (state table.new self.new) (T.view theory.new))) }
+        requires { CanLoop (loop_state table.old self.old (T.meaning theory.old)) }
+        ensures { Looks (loop_state table.old self.old (T.meaning theory.old))
+            (loop_state table.new self.new (T.meaning theory.new)) result }
     {
         what_is_marked_was_seen();
         reasons_stay_right();

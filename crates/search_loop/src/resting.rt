@@ -1,8 +1,8 @@
 //! Back to level 0, so that a search can grow.
 
-ghost use Rattle.std.specs.Prelude.{◌≡◌, ℕ, List};
-ghost use Rattle.spec_sorts.specs.Terms.{Term};
+ghost use Rattle.std.specs.Prelude.{◌≡◌};
 ghost use Rattle.term_core.specs.Tables.{TableView};
+ghost use Rattle.proof_log.specs.Meanings.{KeepsRuns};
 ghost use Rattle.search_loop.specs.Search.{SearchFits};
 ghost use Rattle.search_loop.specs.Rounds.{Continues};
 ghost use Rattle.search_loop.specs.Asking.{IsAsked};
@@ -17,15 +17,13 @@ impl Search {
     /// no memory.
     pub fn rest<T: Theory>(&mut self, theory: &mut T)
         requires ready { (t : TableView) × SearchFits t self.old }
-        requires asked { IsAsked (T.view theory.old) self.old }
+        requires asked { IsAsked (T.meaning theory.old).view self.old }
         ensures ready { (t : TableView) → SearchFits t self.old → SearchFits t self.new }
         ensures level { self.new.trail.level ≡ 0 }
         ensures budget { self.new.budget ≡ self.old.budget }
         ensures continues { (t : TableView) → Continues t t self.old self.new }
-        ensures asked { IsAsked (T.view theory.new) self.new }
-        ensures with { (t : TableView) → T.goes_with theory.old t → T.goes_with theory.new t }
-        ensures came { (t : TableView) (ts : List Term) (n : ℕ) (es : List (ℕ × ℕ)) → T.came_by theory.old t ts n es
-            → T.came_by theory.new t ts n es }
+        ensures asked { IsAsked (T.meaning theory.new).view self.new }
+        ensures keeps { KeepsRuns (T.meaning theory.old) (T.meaning theory.new) }
     {
         what_is_marked_was_seen();
         reasons_stay_right();

@@ -25,19 +25,17 @@ impl Theory for Simplex {
     ghost use Rattle.simplex.specs.Checks.{Suits, KeepsBounds};
     ghost use Rattle.simplex.specs.Coming.{CameBy, StoppedBy, IsOverflowAt};
 
-    ghost view = { λ s. s.theory };
-
-    ghost goes_with = { λ s t. Suits s t };
-
-    ghost agrees = { λ s ts ls. HaveForms ls × IsFeasible ls × KeepsBounds s };
-
-    ghost refuses = { λ s ts ls. IsInfeasible ls };
-
-    ghost came_by = { λ s t ts n es. CameBy t ts n es s };
-
-    ghost stopped_by = { λ s t ts n es. StoppedBy t ts n es s };
-
-    ghost may_overflow = { λ s t ts x. IsOverflowAt t ts x s };
+    ghost meaning = { λ s. record {
+      view = s.theory;
+      goes_with = Suits s;
+      agrees = λ ts ls. HaveForms ls × IsFeasible ls × KeepsBounds s;
+      refuses = λ ts ls. IsInfeasible ls;
+      running = record {
+        came_by = λ t ts n es. CameBy t ts n es s;
+        stopped_by = λ t ts n es. StoppedBy t ts n es s;
+        may_overflow = λ t ts x. IsOverflowAt t ts x s;
+      };
+    } };
 
     fn watch_term(&mut self, table: &TermTable, id: TermId) -> Result<(), Stop> {
         Simplex::watch_term(self, table, id)
@@ -64,27 +62,27 @@ impl Theory for Simplex {
         Simplex::back(self, marks)
     }
 
-    ghost grown = { λ s t u more with. record {
-      is = record {
-        right = right_after t u more s.atoms s.assignment s.bounds with.is.right;
-        known = all_from (IsKnownIn u s.atoms.slack_list) s.theory.watched (λ id has. subst
-            (λ (x : Term). IsWatched (slack_in s.atoms.slack_list id) (constraint_of (positive_literal x)))
-            (sym (term_at-kept t u more id (All-contains (IsIn t) s.theory.watched id with.there has)))
-            (All-contains (IsKnownIn t s.atoms.slack_list) s.theory.watched id with.is.known has));
+    ghost lawful = { λ s. record {
+      grown = λ t u more with. record {
+        is = record {
+          right = right_after t u more s.atoms s.assignment s.bounds with.is.right;
+          known = all_from (IsKnownIn u s.atoms.slack_list) s.theory.watched (λ id has. subst
+              (λ (x : Term). IsWatched (slack_in s.atoms.slack_list id) (constraint_of (positive_literal x)))
+              (sym (term_at-kept t u more id (All-contains (IsIn t) s.theory.watched id with.there has)))
+              (All-contains (IsKnownIn t s.atoms.slack_list) s.theory.watched id with.is.known has));
+        };
+        there = All-weaker (IsIn t) (IsIn u) (λ id within. IsIn-kept t u more id within) s.theory.watched with.there;
+        held = All-weaker (λ (l : Lit). IsIn t l.term) (λ (l : Lit). IsIn u l.term)
+            (λ l within. IsIn-kept t u more l.term within) s.theory.held with.held;
       };
-      there = All-weaker (IsIn t) (IsIn u) (λ id within. IsIn-kept t u more id within) s.theory.watched with.there;
-      held = All-weaker (λ (l : Lit). IsIn t l.term) (λ (l : Lit). IsIn u l.term)
-          (λ l within. IsIn-kept t u more l.term within) s.theory.held with.held;
+      came_grown = λ t u more with ts n es came. record {
+        watched = among_kept t u more ts s.theory.watched with.there came.watched;
+        held = atoms_kept t u more ts s.theory.held with.held came.held;
+        runs = came.runs;
+        reached = subst (IsReached ts came.runs es)
+            (sym (term_tableau_kept t u more s.atoms.owners s.assignment with.is.right.owners_in)) came.reached;
+        few = came.few;
+      };
+      exact = λ ts ls fine refuted. refuted fine.1.0 fine.1.1;
     } };
-
-    ghost came_grown = { λ s t u more with ts n es came. record {
-      watched = among_kept t u more ts s.theory.watched with.there came.watched;
-      held = atoms_kept t u more ts s.theory.held with.held came.held;
-      runs = came.runs;
-      reached = subst (IsReached ts came.runs es)
-          (sym (term_tableau_kept t u more s.atoms.owners s.assignment with.is.right.owners_in)) came.reached;
-      few = came.few;
-    } };
-
-    ghost exact = { λ s ts ls fine refuted. refuted fine.1.0 fine.1.1 };
 }

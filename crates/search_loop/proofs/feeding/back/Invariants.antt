@@ -7,7 +7,7 @@ use Rattle.search_loop.proofs.feeding.back.Given as goal
 
 abbrev pub invariant-marks : goal.invariant-marks
 invariant-marks g l = record {
-  view : g.T.Theory.view l.theory ≡ gone_back l.counter (g.T.Theory.view l.fn.theory);
-  goes : (t : TableView) → g.T.Theory.goes_with l.fn.theory t → g.T.Theory.goes_with l.theory t;
-  came : (t : TableView) (ts : List Term) (n : ℕ) (es : List (ℕ × ℕ)) → g.T.Theory.came_by l.fn.theory t ts n es → g.T.Theory.came_by l.theory t ts n es;
+  view : (g.T.Theory.meaning l.theory).view ≡ gone_back l.counter (g.T.Theory.meaning l.fn.theory).view;
+  goes : (t : TableView) → (g.T.Theory.meaning l.fn.theory).goes_with t → (g.T.Theory.meaning l.theory).goes_with t;
+  came : (t : TableView) (ts : List Term) (n : ℕ) (es : List (ℕ × ℕ)) → (g.T.Theory.meaning l.fn.theory).running.came_by t ts n es → (g.T.Theory.meaning l.theory).running.came_by t ts n es;
 }

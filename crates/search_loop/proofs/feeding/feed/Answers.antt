@@ -16,8 +16,8 @@ pub places-init : goal.places-init
 places-init g c = record {
   view = λ i. record {
     held = c.requires.front i;
-    watched = (g.T.Theory.view c.args.theory.now).watched;
-    marks = (g.T.Theory.view c.args.theory.now).marks;
+    watched = (g.T.Theory.meaning c.args.theory.now).view.watched;
+    marks = (g.T.Theory.meaning c.args.theory.now).view.marks;
   };
   goes = λ t h. h;
   came = λ t ts n es with h. (n, h, ap (λ (xs : List Lit). n + counted_held t xs) c.requires.front);
@@ -38,7 +38,7 @@ places-preserved g c =
     let ls = c.args.trail.now.literals in
     let lt : c.places.place < length ls = omega (arith, c.places-test.true, c.len-place-end.ensures) in
     record {
-      view = c.assume_lit.ensures.holds ∙ rw (c.places.invariant.view, c.literal.ensures) (ap (λ (xs : List Lit). fed (g.T.Theory.view c.args.theory.now) xs) (sym (take_more ls c.places.place no_lit lt)));
+      view = c.assume_lit.ensures.holds ∙ rw (c.places.invariant.view, c.literal.ensures) (ap (λ (xs : List Lit). fed (g.T.Theory.meaning c.args.theory.now).view xs) (sym (take_more ls c.places.place no_lit lt)));
       goes = λ t h. c.assume_lit.ensures.with t (c.places.invariant.goes t h);
       came = λ t ts n es with h.
           let before = c.places.invariant.came t ts n es with h in
@@ -46,27 +46,25 @@ places-preserved g c =
           let held : counted_held t (take (c.places.place + 1) ls) ≡ counted (term_at t l.term) (counted_held t (take c.places.place ls)) =
           ap (counted_held t) (take_more ls c.places.place no_lit lt) ∙ held_more t (take c.places.place ls) l in (
             counted (term_at t l.term) before.0,
-            subst (λ (m : Lit). g.T.Theory.came_by c.assume_lit.new.self t ts (counted (term_at t m.term) before.0) es) c.literal.ensures
+            subst (λ (m : Lit). (g.T.Theory.meaning c.assume_lit.new.self).running.came_by t ts (counted (term_at t m.term) before.0) es) c.literal.ensures
                 (c.assume_lit.ensures.came t ts before.0 es (c.places.invariant.goes t with) before.1),
-            both_more (term_at t l.term) before.0 n (counted_held t (g.T.Theory.view c.args.theory.now).held) (counted_held t (take c.places.place ls)) before.2
+            both_more (term_at t l.term) before.0 n (counted_held t (g.T.Theory.meaning c.args.theory.now).view.held) (counted_held t (take c.places.place ls)) before.2
                 ∙ ap (λ k. n + k) (sym held),
           );
     }
 
-pub returns-clause-holds : goal.returns-clause-holds
-returns-clause-holds g c =
+pub returns : goal.returns
+returns g c =
     let ls = c.args.trail.now.literals in
-    c.places.invariant.view ∙ ap (λ (xs : List Lit). fed (g.T.Theory.view c.args.theory.now) xs) (take_all c.places.place ls (omega (arith, c.places-test.false, c.len-place-end.ensures)))
-
-pub returns-clause-with : goal.returns-clause-with
-returns-clause-with g c = c.places.invariant.goes
-
-pub returns-clause-came : goal.returns-clause-came
-returns-clause-came g c t ts n es with h =
-    let ls = c.args.trail.now.literals in
-    let z = c.places.invariant.came t ts n es with h in (
-      z.0,
-      z.1,
-      z.2 ∙ ap (λ (xs : List Lit). n + counted_held t xs) (take_all c.places.place ls (omega (arith, c.places-test.false, c.len-place-end.ensures))
-          ∙ sym (ap (λ (v : TheoryView). v.held) (returns-clause-holds g c))),
-    )
+    let all = take_all c.places.place ls (omega (arith, c.places-test.false, c.len-place-end.ensures)) in
+    let holds = c.places.invariant.view ∙ ap (λ (xs : List Lit). fed (g.T.Theory.meaning c.args.theory.now).view xs) all in
+    record {
+      holds = holds;
+      with = c.places.invariant.goes;
+      came = λ t ts n es with h.
+          let z = c.places.invariant.came t ts n es with h in (
+            z.0,
+            z.1,
+            z.2 ∙ ap (λ (xs : List Lit). n + counted_held t xs) (all ∙ sym (ap (λ (v : TheoryView). v.held) holds)),
+          );
+    }

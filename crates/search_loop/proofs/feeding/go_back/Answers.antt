@@ -9,19 +9,17 @@ pub back-requires-clause-there : goal.back-requires-clause-there
 back-requires-clause-there g c = omega (arith, c.requires.keeps.marked, c.level.ensures)
 
 pub back-requires-clause-rising : goal.back-requires-clause-rising
-back-requires-clause-rising g c = rising (g.T.Theory.view c.args.theory.now) c.args.trail.now c.requires.keeps c.is_sound.ensures.leveled
+back-requires-clause-rising g c = rising (g.T.Theory.meaning c.args.theory.now).view c.args.trail.now c.requires.keeps c.is_sound.ensures.leveled
 
-pub returns-clause-keeps : goal.returns-clause-keeps
-returns-clause-keeps g c = subst (λ (v : TheoryView). KeepsUp v c.back_to.new.self) (sym (went_back (g.T.Theory.view c.args.theory.now) (g.T.Theory.view c.back.new.theory) c.args.trail.now c.args.level (c.level.result - c.args.level) c.requires.keeps c.requires.below (ap (λ (k : ℕ). k - c.args.level) c.level.ensures) c.back.ensures.back))
-    (keeps_back (g.T.Theory.view c.args.theory.now) c.args.trail.now c.requires.keeps c.is_sound.ensures.leveled c.args.level c.requires.below c.back_to.new.self c.back_to.ensures)
-
-pub returns-clause-holds : goal.returns-clause-holds
-returns-clause-holds g c = ap (λ (v : TheoryView). v.held) (went_back (g.T.Theory.view c.args.theory.now) (g.T.Theory.view c.back.new.theory) c.args.trail.now c.args.level (c.level.result - c.args.level) c.requires.keeps c.requires.below (ap (λ (k : ℕ). k - c.args.level) c.level.ensures) c.back.ensures.back)
-    ∙ held_back (g.T.Theory.view c.args.theory.now) c.args.trail.now c.requires.keeps c.is_sound.ensures.leveled c.args.level c.requires.below c.back_to.new.self c.back_to.ensures
-
-pub returns-clause-watched : goal.returns-clause-watched
-returns-clause-watched g c = ap (λ (v : TheoryView). v.watched) (went_back (g.T.Theory.view c.args.theory.now) (g.T.Theory.view c.back.new.theory) c.args.trail.now c.args.level (c.level.result - c.args.level) c.requires.keeps c.requires.below (ap (λ (k : ℕ). k - c.args.level) c.level.ensures) c.back.ensures.back)
-    ∙ watched_back (g.T.Theory.view c.args.theory.now) c.args.trail.now c.requires.keeps c.is_sound.ensures.leveled c.args.level c.requires.below c.back_to.new.self c.back_to.ensures
-
-pub returns-clause-came : goal.returns-clause-came
-returns-clause-came g c = c.back.ensures.came
+pub returns-clause-back : goal.returns-clause-back
+returns-clause-back g c =
+    let before = g.T.Theory.meaning c.args.theory.now in
+    let trail = c.args.trail.now in
+    let cut = c.back_to.ensures in
+    let went = went_back before.view (g.T.Theory.meaning c.back.new.theory).view trail c.args.level (c.level.result - c.args.level) c.requires.keeps c.requires.below (ap (λ (k : ℕ). k - c.args.level) c.level.ensures) c.back.ensures.back in
+    record {
+      runs = c.back.ensures.keeps;
+      keeps = subst (λ (v : TheoryView). KeepsUp v c.back_to.new.self) (sym went) (keeps_back before.view trail c.requires.keeps c.is_sound.ensures.leveled c.args.level c.requires.below c.back_to.new.self cut);
+      holds = ap (λ (v : TheoryView). v.held) went ∙ held_back before.view trail c.requires.keeps c.is_sound.ensures.leveled c.args.level c.requires.below c.back_to.new.self cut;
+      watched = ap (λ (v : TheoryView). v.watched) went ∙ watched_back before.view trail c.requires.keeps c.is_sound.ensures.leveled c.args.level c.requires.below c.back_to.new.self cut;
+    }

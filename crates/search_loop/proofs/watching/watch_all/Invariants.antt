@@ -9,8 +9,8 @@ use Rattle.search_loop.proofs.watching.watch_all.Given as goal
 
 abbrev pub invariant-terms : goal.invariant-terms
 invariant-terms g l = record {
-  view : g.T.Theory.view l.theory ≡ watching (g.T.Theory.view l.fn.theory) ((g.T.Theory.view l.fn.theory).watched ++ take l.id-index l.terms);
-  goes : g.T.Theory.goes_with l.theory l.table;
-  came : (ts : List Term) (n : ℕ) (es : List (ℕ × ℕ)) → AreAmong (clause_at l.table l.terms) ts → g.T.Theory.came_by l.fn.theory l.table ts n es
-      → g.T.Theory.came_by l.theory l.table ts (n + counted_among l.table (take l.id-index l.terms)) es;
+  view : (g.T.Theory.meaning l.theory).view ≡ watching (g.T.Theory.meaning l.fn.theory).view ((g.T.Theory.meaning l.fn.theory).view.watched ++ take l.id-index l.terms);
+  goes : (g.T.Theory.meaning l.theory).goes_with l.table;
+  came : (ts : List Term) (n : ℕ) (es : List (ℕ × ℕ)) → AreAmong (clause_at l.table l.terms) ts → (g.T.Theory.meaning l.fn.theory).running.came_by l.table ts n es
+      → (g.T.Theory.meaning l.theory).running.came_by l.table ts (n + counted_among l.table (take l.id-index l.terms)) es;
 }

@@ -78,7 +78,7 @@ returns-in-Err-Wide-clause-stopped g c =
     let limit = ap (λ (b : BudgetView). b.limit) c.rest.ensures.budget in
     let by = subst (λ (z : SimplexView). StopsBy (λ s. (s.wide ≡ c.in-Err-Wide.wide) × IsBasisOf z.assignment s.basis) c.stop_of.result) c.simplex.ensures c.stop_of.ensures in
     let stopped = order_stops g.asked ids t x v pairs h (clause_at u new) are differ u at (resting g.asked ids t x v pairs h u wider log same at (c.rest.ensures.continues u) c.rest.ensures.budget new are) ready.right c.rest.ensures.budget x.budget.limit limit rested.simplex
-    (λ us n. c.rest.ensures.came t us n x.budget.exchanges) c.in-Err-Wide.wide order c.stop_of.result by in
+    (λ us n. c.rest.ensures.keeps.came t us n x.budget.exchanges) c.in-Err-Wide.wide order c.stop_of.result by in
     subst (λ (z : TableView). IsStoppedBy g.asked x.budget.limit (state z c.grow.new.self) c.stop_of.result) (sym stays.0) (subst (λ (z : Search). IsStoppedBy g.asked x.budget.limit (state u z) c.stop_of.result) (sym stays.1) stopped)
 
 pub watch_all-requires-clause-once : goal.watch_all-requires-clause-once
@@ -99,8 +99,8 @@ watch_all-requires-clause-with g c =
     let t = c.args.table.now in
     let r = c.relate_bounds.new.table in
     let grows = Extends-trans t c.equalities_of.new.table r c.equalities_of.ensures.wider.terms (Extends-trans c.equalities_of.new.table c.grow.new.table r c.grow.ensures.grown c.relate_bounds.ensures.grown) in
-    let goes = c.rest.ensures.with t (c.requires.1.searching.congruence, c.requires.1.searching.simplex) in
-    (of_congruence.grown-law c.rest.new.theory.congruence t r grows goes.0, of_simplex.grown-law c.rest.new.theory.simplex t r grows goes.1)
+    let goes = c.rest.ensures.keeps.with t (c.requires.1.searching.congruence, c.requires.1.searching.simplex) in
+    ((of_congruence.lawful-law c.rest.new.theory.congruence).grown t r grows goes.0, (of_simplex.lawful-law c.rest.new.theory.simplex).grown t r grows goes.1)
 
 pub returns-clause-goes_on : goal.returns-clause-goes_on
 returns-clause-goes_on g c shared h =
@@ -128,7 +128,7 @@ returns-clause-goes_on g c shared h =
     let from = c.len-from.result in
     let count : from ≡ length at.terms.items = omega (arith, at.terms.ok.0, c.len-from.ensures) in
     let came = take (length terms - from) (drop from terms) in
-    let goes = c.rest.ensures.with t (h.searching.congruence, h.searching.simplex) in
+    let goes = c.rest.ensures.keeps.with t (h.searching.congruence, h.searching.simplex) in
     goes_on g.asked shared t x v pairs h (clause_at u new) are r grows y came
     (grown_terms g.asked shared t x v pairs h u wider log same at back unspent new are c.grow.new.table c.grow.new.self grown_by r y related terms c.deref-2.ensures.value from count)
     (grown_search g.asked shared t x v pairs h u wider log same at back unspent new are c.grow.new.table c.grow.new.self grown_by r y related)
@@ -137,7 +137,7 @@ returns-clause-goes_on g c shared h =
     (keeps_asked g.asked shared t x v pairs h u wider log same at back unspent new are c.grow.new.table c.grow.new.self grown_by r y related terms c.deref-2.ensures.value from count
     (theory_of rested.congruence) (theory_of later.congruence) c.rest.ensures.asked c.rest.ensures.level c.in_ok-watch_all.ensures.watches)
     c.watch_all.ensures.with.0 c.watch_all.ensures.with.1
-    (λ us n es among by. c.in_ok-watch_all.ensures.came us n es among (of_simplex.came_grown-law rested.simplex t r grows goes.1 us n es (c.rest.ensures.came t us n es by)))
+    (λ us n es among by. c.in_ok-watch_all.ensures.came us n es among ((of_simplex.lawful-law rested.simplex).came_grown t r grows goes.1 us n es (c.rest.ensures.keeps.came t us n es by)))
 
 -- what is given on is the stop
 given_on : (r : Result (Unit {0}) Stop) (P : Stop → Type 0) (stop : Stop) → IsErrAnd r (λ e. e ≡ stop) → P stop → IfErr r P
@@ -172,7 +172,7 @@ returns-in_err-watch_all-clause-stopped g c =
     let from = c.len-from.result in
     let count : from ≡ length at.terms.items = omega (arith, at.terms.ok.0, c.len-from.ensures) in
     let came = take (length terms - from) (drop from terms) in
-    let goes = c.rest.ensures.with t (h.searching.congruence, h.searching.simplex) in
+    let goes = c.rest.ensures.keeps.with t (h.searching.congruence, h.searching.simplex) in
     let budget = grown_budget g.asked ids t x v pairs h u wider log same at back unspent new are c.grow.new.table c.grow.new.self grown_by r y related in
     let watched = (theory_of rested.congruence).watched in
     let stop = c.in_err-watch_all.field-0.0 in
@@ -184,5 +184,5 @@ returns-in_err-watch_all-clause-stopped g c =
     (grown_search g.asked ids t x v pairs h u wider log same at back unspent new are c.grow.new.table c.grow.new.self grown_by r y related)
     budget related.ready c.ids_are_unique-2.ensures later.simplex x.budget.limit (ap (λ (b : BudgetView). b.limit) budget) watched
     (c.rest.ensures.asked.terms ∙ ap (λ (ns : Vec TermId Global). ns.items) back.terms) (stops.0 + 1) (λ n. λ (e : Unit {0}). CameBy r us (n + counted_among r came) x.budget.exchanges later.simplex) stop
-    (λ n among by. c.in_err-watch_all.ensures.came us n x.budget.exchanges among (of_simplex.came_grown-law rested.simplex t r grows goes.1 us n x.budget.exchanges (c.rest.ensures.came t us n x.budget.exchanges by)))
+    (λ n among by. c.in_err-watch_all.ensures.came us n x.budget.exchanges among ((of_simplex.lawful-law rested.simplex).came_grown t r grows goes.1 us n x.budget.exchanges (c.rest.ensures.keeps.came t us n x.budget.exchanges by)))
     stops.3)

@@ -19,7 +19,7 @@ use Rattle.search_loop.proofs.search.Search.learn_and_go_back.Goals as goal
 pub learn-requires-clause-reasons : goal.learn-requires-clause-reasons
 learn-requires-clause-reasons g c =
     let x = c.args.self.now in
-    reasons_are c.args.table.now c.ids_are_unique.ensures x.log x.store c.requires.ready.derives x.trail c.requires.ready.implied
+    reasons_are c.args.table.now c.ids_are_unique.ensures x.log x.store c.requires.going.ready.derives x.trail c.requires.going.ready.implied
 
 pub learnt-requires-clause-step : goal.learnt-requires-clause-step
 learnt-requires-clause-step g c =
@@ -27,7 +27,7 @@ learnt-requires-clause-step g c =
     omega (arith, l.number, ap length l.last, length-append c.args.self.now.log (stepped Resolution l.premises [] l.terms ∷ []))
 
 pub learnt-requires-clause-vars : goal.learnt-requires-clause-vars
-learnt-requires-clause-vars g c = c.requires.ready.sized
+learnt-requires-clause-vars g c = c.requires.going.ready.sized
 
 pub go_back-requires-clause-below : goal.go_back-requires-clause-below
 go_back-requires-clause-below g c =
@@ -36,29 +36,10 @@ go_back-requires-clause-below g c =
     omega (arith, c.level_after-level.ensures, level_below c.args.self.now.trail c.is_sound.ensures.once c.is_sound.ensures.leveled d.clause l.level d.level l.one l.above)
 
 pub go_back-requires-clause-keeps : goal.go_back-requires-clause-keeps
-go_back-requires-clause-keeps g c = c.requires.asked.keeps
+go_back-requires-clause-keeps g c = c.requires.going.asked.keeps
 
-pub returns-clause-with : goal.returns-clause-with
-returns-clause-with g c = c.go_back.ensures.with c.learn.new.table (g.met.T.Theory.grown c.args.theory.now c.args.table.now c.learn.new.table c.learn.ensures.grown c.requires.with)
-
-pub returns-clause-came : goal.returns-clause-came
-returns-clause-came g c ts n h =
-    let t = c.args.table.now in
-    let u = c.learn.new.table in
-    let x = c.args.self.now in
-    let noted : IsNoted c.in_ok-learned.learned.clause x.budget c.note.new.budget = subst (λ (ls : List Lit). IsNoted ls x.budget c.note.new.budget) c.as_slice.ensures c.in_ok-note.ensures in
-    subst (λ (es : List (ℕ × ℕ)). g.T.Theory.came_by c.go_back.new.theory u ts n es) (sym (ap (λ (b : BudgetView). b.exchanges) noted))
-    (c.go_back.ensures.came u ts n x.budget.exchanges (g.met.T.Theory.came_grown c.args.theory.now t u c.learn.ensures.grown c.requires.with ts n x.budget.exchanges h))
-
-pub returns-clause-asked : goal.returns-clause-asked
-returns-clause-asked g c = record {
-  keeps = c.go_back.ensures.keeps;
-  terms = c.go_back.ensures.watched ∙ c.requires.asked.terms;
-  fed = c.len-self.ensures ∙ ap length (sym c.go_back.ensures.holds);
-}
-
-pub returns-clause-learned : goal.returns-clause-learned
-returns-clause-learned g c =
+pub returns-clause-learns : goal.returns-clause-learns
+returns-clause-learns g c =
     let t = c.args.table.now in
     let u = c.learn.new.table in
     let x = c.args.self.now in
@@ -72,29 +53,43 @@ returns-clause-learned g c =
     let cut = c.go_back.ensures.cut in
     let noted : IsNoted d.clause x.budget c.note.new.budget = subst (λ (ls : List Lit). IsNoted ls x.budget c.note.new.budget) c.as_slice.ensures c.in_ok-note.ensures in
     let y : Search = record { alloc = x.alloc; log = c.learn.new.log; store = store; trail = trail; terms = x.terms; atoms = x.atoms; decider = ws; restarts = c.level_after-level.new.self; budget = c.note.new.budget; fed = c.len-self.result } in
-    let r = c.requires.ready in
+    let r = c.requires.going.ready in
     let once = c.is_sound.ensures.once in
     let leveled = c.is_sound.ensures.leveled in
     let seen = c.what_is_marked_was_seen.ensures in
     let implied = c.reasons_stay_right.ensures in
     let waiting : AreWaiting x.atoms.items trail.literals ws = c.put_back.ensures.waiting x.atoms.items trail (all_of_atoms t x r) cut (subst (AreWaiting x.atoms.items x.trail.literals) (sym c.learnt.ensures) r.waiting) in
     let size : length ws ≡ length x.decider = c.put_back.ensures.size ∙ ap length c.learnt.ensures in
+    let back = c.go_back.ensures.back in
+    let lawful = g.met.T.Theory.lawful c.args.theory.now in
+    let grown = c.learn.ensures.grown in
     record {
-      ready = ready_learned t u c.learn.ensures.grown c.ids_are_unique-2.ensures x y r c.args.clash d l noted added n c.level_after-level.ensures cut once leveled
-          (λ m i. All-contains (λ (z : Lit). z.term.0 < x.trail.vars) x.trail.literals m c.is_sound.ensures.known i)
-          (seen.cut store x.trail trail n (seen.added u c.learn.new.log d.step x.store store x.trail r.seen added) cut)
-          (implied.cut store x.trail trail n (implied.added u c.learn.new.log d.step x.store store x.trail c.steps_are_paired.ensures r.implied added) cut)
-          refl refl (atoms_kept t u c.learn.ensures.grown c.learn.ensures.declared x.terms.items x.atoms.items r.atoms_are) waiting size;
-      continues = record {
-        table = c.learn.ensures.grown;
-        declared = c.learn.ensures.declared;
-        limit = ap (λ (b : BudgetView). b.limit) noted;
-        more = d.clause ∷ [];
-        learned = ap (λ (b : BudgetView). b.learned) noted;
-        vars = cut.vars;
-        terms = refl;
-        search = search_learned t u c.learn.ensures.grown c.ids_are_unique.ensures c.ids_are_unique-2.ensures c.learn.ensures.declared x y r once leveled c.is_sound.ensures.consistent
-            (c.logs_hold_in_grown_tables.ensures.same t u x.log r.right c.learn.ensures.grown) c.args.clash d l noted added refl;
+      with = back.runs.with u (lawful.grown t u grown c.requires.going.with);
+      came = λ ts n h. subst (λ (es : List (ℕ × ℕ)). (g.T.Theory.meaning c.go_back.new.theory).running.came_by u ts n es) (sym (ap (λ (b : BudgetView). b.exchanges) noted))
+          (back.runs.came u ts n x.budget.exchanges (lawful.came_grown t u grown c.requires.going.with ts n x.budget.exchanges h));
+      step = (d, l);
+      asked = record {
+        keeps = back.keeps;
+        terms = back.watched ∙ c.requires.going.asked.terms;
+        fed = c.len-self.ensures ∙ ap length (sym back.holds);
       };
-      learned = ap (λ (b : BudgetView). length b.learned) noted ∙ length-append x.budget.learned (d.clause ∷ []);
+      learned = record {
+        ready = ready_learned t u c.learn.ensures.grown c.ids_are_unique-2.ensures x y r c.args.clash d l noted added n c.level_after-level.ensures cut once leveled
+            (λ m i. All-contains (λ (z : Lit). z.term.0 < x.trail.vars) x.trail.literals m c.is_sound.ensures.known i)
+            (seen.cut store x.trail trail n (seen.added u c.learn.new.log d.step x.store store x.trail r.seen added) cut)
+            (implied.cut store x.trail trail n (implied.added u c.learn.new.log d.step x.store store x.trail c.steps_are_paired.ensures r.implied added) cut)
+            refl refl (atoms_kept t u c.learn.ensures.grown c.learn.ensures.declared x.terms.items x.atoms.items r.atoms_are) waiting size;
+        continues = record {
+          table = c.learn.ensures.grown;
+          declared = c.learn.ensures.declared;
+          limit = ap (λ (b : BudgetView). b.limit) noted;
+          more = d.clause ∷ [];
+          learned = ap (λ (b : BudgetView). b.learned) noted;
+          vars = cut.vars;
+          terms = refl;
+          search = search_learned t u c.learn.ensures.grown c.ids_are_unique.ensures c.ids_are_unique-2.ensures c.learn.ensures.declared x y r once leveled c.is_sound.ensures.consistent
+              (c.logs_hold_in_grown_tables.ensures.same t u x.log r.right c.learn.ensures.grown) c.args.clash d l noted added refl;
+        };
+        learned = ap (λ (b : BudgetView). length b.learned) noted ∙ length-append x.budget.learned (d.clause ∷ []);
+      };
     }

@@ -1,5 +1,5 @@
 -- What comes of a conflict.
-use Rattle.std.proofs.Common.{sym, subst, arith}
+use Rattle.std.proofs.Common.{rules, sym, subst, ap, refl, arith}
 use Rattle.sat_budget.specs.Budgets.{BudgetView}
 use Rattle.term_core.proofs.TermsExtend.{Extends-self}
 use Rattle.search_loop.proofs.search.Search.resolve_conflict.Goals as goal
@@ -7,14 +7,40 @@ use Rattle.search_loop.proofs.search.Search.resolve_conflict.Goals as goal
 pub refuted-requires-clause-of_zero : goal.refuted-requires-clause-of_zero
 refuted-requires-clause-of_zero g c = λ m n has f. let le = c.conflict_level.ensures.greatest m n has f in omega (arith, le, c.if-conflict_level-eq0.true)
 
-pub returns-in_err-step-clause-grown : goal.returns-in_err-step-clause-grown
-returns-in_err-step-clause-grown g c = Extends-self c.args.table.now
+pub returns-in_err-step : goal.returns-in_err-step
+returns-in_err-step g c = record {
+  grown = Extends-self c.args.table.now;
+  declared = refl;
+  with = search rules;
+  came = search rules;
+  right = search rules;
+  limit = search rules;
+  ended = search rules;
+  resolves_conflict = search rules;
+}
 
-pub returns-then-conflict_level-eq0-clause-grown : goal.returns-then-conflict_level-eq0-clause-grown
-returns-then-conflict_level-eq0-clause-grown g c = Extends-self c.args.table.now
+pub returns-then-conflict_level-eq0 : goal.returns-then-conflict_level-eq0
+returns-then-conflict_level-eq0 g c = record {
+  grown = Extends-self c.args.table.now;
+  declared = refl;
+  with = c.requires.going.with;
+  came = λ ts n h. subst (λ (b : BudgetView). (g.T.Theory.meaning c.args.theory.now).running.came_by c.args.table.now ts n b.exchanges) (sym c.refuted.ensures.budget) h;
+  right = c.in_ok-step.ensures.right;
+  limit = ap (λ (b : BudgetView). b.limit) c.refuted.ensures.budget;
+  ended = (c.refuted.ensures.terms, c.refuted.ensures.budget);
+  resolves_conflict = c.in_ok-step.ensures.shows;
+}
 
-pub returns-clause-resolves_conflict : goal.returns-clause-resolves_conflict
-returns-clause-resolves_conflict g c = (c.in_ok-learn_and_go_back.ensures.learned, c.in_ok-learn_and_go_back.ensures.asked, c.in_default.ensures)
-
-pub returns-then-conflict_level-eq0-clause-came : goal.returns-then-conflict_level-eq0-clause-came
-returns-then-conflict_level-eq0-clause-came g c ts n h = subst (λ (b : BudgetView). g.T.Theory.came_by c.args.theory.now c.args.table.now ts n b.exchanges) (sym c.refuted.ensures.budget) h
+pub returns : goal.returns
+returns g c =
+    let learns = c.in_ok-learn_and_go_back.ensures.learns in
+    record {
+      grown = c.learn_and_go_back.ensures.grown;
+      declared = c.learn_and_go_back.ensures.declared;
+      with = learns.with;
+      came = learns.came;
+      right = learns.learned.ready.right;
+      limit = learns.learned.continues.limit;
+      ended = tt;
+      resolves_conflict = (learns.learned, learns.asked, c.in_default.ensures);
+    }

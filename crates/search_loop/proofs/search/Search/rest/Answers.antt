@@ -32,7 +32,7 @@ returns-clause-continues g c t =
 
 pub returns-clause-asked : goal.returns-clause-asked
 returns-clause-asked g c = record {
-  keeps = c.go_back.ensures.keeps;
-  terms = c.go_back.ensures.watched ∙ c.requires.asked.terms;
-  fed = c.len-self.ensures ∙ ap length (sym c.go_back.ensures.holds);
+  keeps = c.go_back.ensures.back.keeps;
+  terms = c.go_back.ensures.back.watched ∙ c.requires.asked.terms;
+  fed = c.len-self.ensures ∙ ap length (sym c.go_back.ensures.back.holds);
 }

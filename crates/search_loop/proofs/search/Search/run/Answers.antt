@@ -1,5 +1,5 @@
 -- That the rounds end in an answer with its evidence.
-use Rattle.std.proofs.Common.{◌≡◌, ◌<◌, ◌≤◌, ◌-◌, ◌∙◌, ◌∷◌, [], ℕ, List, length, ap, ◌+◌, refl, sym, subst, arith}
+use Rattle.std.proofs.Common.{rules, ◌≡◌, ◌<◌, ◌≤◌, ◌-◌, ◌∙◌, ◌∷◌, [], ℕ, List, length, ap, ◌+◌, refl, sym, subst, arith}
 use Rattle.std.specs.Prelude.{None, Some, Vec, Contains}
 use Rattle.std.specs.declared.alloc.Global.{Global}
 use Rattle.std.proofs.lemmas.List.{length-append}
@@ -28,29 +28,9 @@ rounds-init g c = record {
   with = c.requires.with;
   came = λ ts r h.
       let a = atoms_of c.args.table.now c.args.self.now in
-      (h.0, paid_begun a (length c.args.self.now.budget.learned) r (counted_held c.args.table.now (g.T.Theory.view c.args.theory.now).held) h.0 h.1, h.2);
+      (h.0, paid_begun a (length c.args.self.now.budget.learned) r (counted_held c.args.table.now (g.T.Theory.meaning c.args.theory.now).view.held) h.0 h.1, h.2);
   continues = continues_same c.args.table.now c.args.self.now c.args.self.now refl refl refl refl refl;
 }
-
-pub returns-in_default-clause-ends : goal.returns-in_default-clause-ends
-returns-in_default-clause-ends g c =
-    let u = c.look.new.table in
-    let y = c.look.new.self in
-    let looks = rw c.in-Fine.is at c.in_ok-look.ensures.looks in
-    let l = looks.0 in
-    let chosen = rw c.in_default.is at c.next.ensures.choice y.atoms.items l.ready.waiting in
-    let z = record y { decider = c.next.new.self } in (
-      record {
-        ready = ready_waiting u y c.next.new.self l.ready chosen.1 c.next.ensures.size;
-        held = looks.2;
-        asked = record { keeps = l.asked.keeps; terms = l.asked.terms; fed = l.asked.fed };
-        assigned = chosen.0;
-        satisfied = satisfied_by y.atoms.items y.store.clauses y.trail.literals l.ready.covered looks.1 chosen.0;
-        agrees = looks.3;
-      },
-      continues_on c.args.table.now u u c.args.self.now y z (continues_on c.args.table.now c.rounds.table u c.args.self.now c.rounds.self y c.rounds.invariant.continues l.continues)
-          (continues_same u y z refl refl refl refl refl),
-    )
 
 pub rounds-preserved-in-Fine : goal.rounds-preserved-in-Fine
 rounds-preserved-in-Fine g c =
@@ -70,25 +50,25 @@ rounds-preserved-in-Fine g c =
           (c.what_is_marked_was_seen.ensures.pushed y.store y.trail w d None n c.is_sound.ensures.propagated l.ready.seen pushed)
           (c.reasons_stay_right.ensures.decided y.store y.trail w d n l.ready.implied pushed) looks.1 chosen.0 chosen.1 c.next.ensures.size;
       asked = record {
-        keeps = subst (λ (v : TheoryView). KeepsUp v w) (sym c.in_ok-mark-in-Fine.ensures.marks) (keeps_decided (g.T.Theory.view c.look.new.theory) y.trail w d c.is_sound.ensures.leveled pushed l.asked.keeps looks.2);
+        keeps = subst (λ (v : TheoryView). KeepsUp v w) (sym c.in_ok-mark-in-Fine.ensures.marks) (keeps_decided (g.T.Theory.meaning c.look.new.theory).view y.trail w d c.is_sound.ensures.leveled pushed l.asked.keeps looks.2);
         terms = ap (λ (v : TheoryView). v.watched) c.in_ok-mark-in-Fine.ensures.marks ∙ l.asked.terms;
         fed = l.asked.fed ∙ ap (λ (v : TheoryView). length v.held) (sym c.in_ok-mark-in-Fine.ensures.marks);
       };
-      with = c.mark.ensures.with u c.in_ok-look.ensures.with;
+      with = c.mark.ensures.keeps.with u c.in_ok-look.ensures.with;
       came = λ ts r h.
           let n = c.rounds.invariant.came ts r h in
           let m = rw c.in-Fine.is at (c.in_ok-look.ensures.came ts n.0 n.2) in
           let k = m.3 in
-          let v = g.T.Theory.view c.look.new.theory in
-          let held : counted_held u (g.T.Theory.view c.mark.new.self).held ≡ counted_held c.rounds.table v.held =
+          let v = (g.T.Theory.meaning c.look.new.theory).view in
+          let held : counted_held u (g.T.Theory.meaning c.mark.new.self).view.held ≡ counted_held c.rounds.table v.held =
           ap (λ (v : TheoryView). counted_held u v.held) c.in_ok-mark-in-Fine.ensures.marks
           ∙ held_stay c.rounds.table c.rounds.self c.rounds.invariant.ready u l.continues.table v.held (λ d i.
           subst (λ (ids : Vec TermId Global). Contains ids.items d.term) l.continues.terms (held_among u y l.ready v l.asked d i)) in (
             k.0,
             paid_more (atoms_of c.args.table.now c.args.self.now) (length c.rounds.self.budget.learned) (length y.budget.learned) r
-                (counted_held c.rounds.table (g.T.Theory.view c.rounds.theory).held) (counted_held c.rounds.table v.held) (counted_held u (g.T.Theory.view c.mark.new.self).held)
+                (counted_held c.rounds.table (g.T.Theory.meaning c.rounds.theory).view.held) (counted_held c.rounds.table v.held) (counted_held u (g.T.Theory.meaning c.mark.new.self).view.held)
                 n.0 m.0 k.0 n.1 m.1 k.1 (ap length c.look.ensures.learned) held,
-            c.mark.ensures.came u ts k.0 y.budget.exchanges k.2,
+            c.mark.ensures.keeps.came u ts k.0 y.budget.exchanges k.2,
           );
       continues = continues_on c.args.table.now u u c.args.self.now y z (continues_on c.args.table.now c.rounds.table u c.args.self.now c.rounds.self y c.rounds.invariant.continues l.continues)
           (continues_same u y z refl refl refl pushed.vars refl);
@@ -105,21 +85,6 @@ rounds-smaller-in-Fine g c =
     let b = l.budget.1 in
     let more : length x.trail.literals < length w.literals = omega (arith, l.literals, ap length pushed.literals, length-append y.trail.literals (c.in-Some.l ∷ [])) in
     rw b (less_assigned (x.budget.limit - length x.budget.learned) x.trail.vars w.vars (length x.trail.literals) (length w.literals) (pushed.vars ∙ l.continues.vars) more c.is_sound-in-Fine.ensures.within)
-
-pub returns-in_err-end-in-Clash-clause-grown : goal.returns-in_err-end-in-Clash-clause-grown
-returns-in_err-end-in-Clash-clause-grown g c = Extends-trans c.args.table.now c.look.new.table c.resolve_conflict.new.table (Extends-trans c.args.table.now c.rounds.table c.look.new.table c.rounds.invariant.continues.table c.look.ensures.grown) c.resolve_conflict.ensures.grown
-
-pub returns-in-Some-2-clause-grown : goal.returns-in-Some-2-clause-grown
-returns-in-Some-2-clause-grown g c = Extends-trans c.args.table.now c.look.new.table c.resolve_conflict.new.table (Extends-trans c.args.table.now c.rounds.table c.look.new.table c.rounds.invariant.continues.table c.look.ensures.grown) c.resolve_conflict.ensures.grown
-
-pub returns-in-Some-2-clause-ends : goal.returns-in-Some-2-clause-ends
-returns-in-Some-2-clause-ends g c =
-    let t = c.args.table.now in
-    let u = c.look.new.table in
-    let y = c.look.new.self in
-    let looks = rw c.in-Clash.is at c.in_ok-look.ensures.looks in
-    let on = continues_on t c.rounds.table u c.args.self.now c.rounds.self y c.rounds.invariant.continues looks.0.continues in
-    ends_on t u c.resolve_conflict.new.table c.args.self.now y c.resolve_conflict.new.self (g.T.Theory.view c.resolve_conflict.new.theory) _ c.in-Some-2.end on (rw c.in-Some-2.is at c.in_ok-end-in-Clash.ensures.resolves_conflict)
 
 pub rounds-preserved : goal.rounds-preserved
 rounds-preserved g c =
@@ -138,8 +103,8 @@ rounds-preserved g c =
           let k = m.3 in (
             k.0,
             paid_learned (atoms_of t c.args.self.now) (length c.rounds.self.budget.learned) (length c.resolve_conflict.new.self.budget.learned) r
-                (counted_held c.rounds.table (g.T.Theory.view c.rounds.theory).held) (counted_held c.rounds.table (g.T.Theory.view c.look.new.theory).held)
-                (counted_held c.resolve_conflict.new.table (g.T.Theory.view c.resolve_conflict.new.theory).held) n.0 m.0 k.0 n.1 m.1 (subst (λ a. counted_held c.rounds.table (g.T.Theory.view c.look.new.theory).held ≤ a) (atoms_stay t c.args.self.now c.requires.ready c.rounds.table c.rounds.invariant.continues.table c.rounds.self c.rounds.invariant.continues.terms) m.2) k.1
+                (counted_held c.rounds.table (g.T.Theory.meaning c.rounds.theory).view.held) (counted_held c.rounds.table (g.T.Theory.meaning c.look.new.theory).view.held)
+                (counted_held c.resolve_conflict.new.table (g.T.Theory.meaning c.resolve_conflict.new.theory).view.held) n.0 m.0 k.0 n.1 m.1 (subst (λ a. counted_held c.rounds.table (g.T.Theory.meaning c.look.new.theory).view.held ≤ a) (atoms_stay t c.args.self.now c.requires.ready c.rounds.table c.rounds.invariant.continues.table c.rounds.self c.rounds.invariant.continues.terms) m.2) k.1
                 (resolves_conflict.0.learned ∙ ap (λ (xs : List (List Lit)). length xs + 1) c.look.ensures.learned),
             c.in_ok-end-in-Clash.ensures.came ts k.0 k.2,
           );
@@ -159,115 +124,171 @@ rounds-smaller g c =
     less_learned x.budget.limit z.budget.limit x.trail.vars z.trail.vars (length x.budget.learned) (length z.budget.learned) (x.trail.vars - length x.trail.literals) (z.trail.vars - length z.trail.literals)
     (l.continues.limit ∙ looks.0.continues.limit) size (subst (λ (y : BudgetView). length y.learned < y.limit) b resolves_conflict.2) (l.learned ∙ ap (λ (y : BudgetView). length y.learned + 1) b) (omega (arith, size))
 
-pub returns-in_err-look-clause-grown : goal.returns-in_err-look-clause-grown
-returns-in_err-look-clause-grown g c = Extends-trans c.args.table.now c.rounds.table c.look.new.table c.rounds.invariant.continues.table c.look.ensures.grown
-
-pub returns-in_default-clause-came : goal.returns-in_default-clause-came
-returns-in_default-clause-came g c ts r h =
-    let n = c.rounds.invariant.came ts r h in
-    let looks = rw c.in-Fine.is at c.in_ok-look.ensures.looks in
-    let m = rw c.in-Fine.is at (c.in_ok-look.ensures.came ts n.0 n.2) in
-    let k = m.3 in
-    let x = c.args.self.now in
+pub returns-in_default : goal.returns-in_default
+returns-in_default g c =
     let t = c.args.table.now in
-    let y = c.rounds.self in
+    let x = c.args.self.now in
     let u = c.rounds.table in
-    let z = c.look.new.self in
+    let y = c.rounds.self in
     let s = c.look.new.table in
-    let v = g.T.Theory.view c.rounds.theory in
-    let w = g.T.Theory.view c.look.new.theory in
-    let on = continues_on t u s x y z c.rounds.invariant.continues looks.0.continues in (
-      k.0,
-      paid_quiet (atoms_of t x) (atoms_of s z) (length y.budget.learned) (length z.budget.learned) r (counted_held u v.held) (counted_held u w.held) n.0 m.0 k.0 n.1 m.1
-          (subst (λ a. counted_held u w.held ≤ a) (atoms_stay t x c.requires.ready u c.rounds.invariant.continues.table y c.rounds.invariant.continues.terms) m.2) k.1
-          (ap length c.look.ensures.learned) (atoms_stay t x c.requires.ready s on.table z on.terms),
-      k.2,
-    )
-
-pub returns-in_default-clause-terms : goal.returns-in_default-clause-terms
-returns-in_default-clause-terms g c =
+    let z = c.look.new.self in
+    let v = (g.T.Theory.meaning c.rounds.theory).view in
+    let w = (g.T.Theory.meaning c.look.new.theory).view in
     let looks = rw c.in-Fine.is at c.in_ok-look.ensures.looks in
-    looks.0.continues.terms ∙ c.rounds.invariant.continues.terms
+    let l = looks.0 in
+    let chosen = rw c.in_default.is at c.next.ensures.choice z.atoms.items l.ready.waiting in
+    let end = record z { decider = c.next.new.self } in
+    let on = continues_on t u s x y z c.rounds.invariant.continues l.continues in
+    record {
+      grown = on.table;
+      declared = on.declared;
+      right = l.ready.right;
+      limit = on.limit;
+      terms = on.terms;
+      with = c.in_ok-look.ensures.with;
+      ends = (
+        record {
+          ready = ready_waiting s z c.next.new.self l.ready chosen.1 c.next.ensures.size;
+          held = looks.2;
+          asked = record { keeps = l.asked.keeps; terms = l.asked.terms; fed = l.asked.fed };
+          assigned = chosen.0;
+          satisfied = satisfied_by z.atoms.items z.store.clauses z.trail.literals l.ready.covered looks.1 chosen.0;
+          agrees = looks.3;
+        },
+        continues_on t s s x z end on (continues_same s z end refl refl refl refl refl),
+      );
+      came = λ ts r h.
+          let n = c.rounds.invariant.came ts r h in
+          let m = rw c.in-Fine.is at (c.in_ok-look.ensures.came ts n.0 n.2) in
+          let k = m.3 in (
+            k.0,
+            paid_quiet (atoms_of t x) (atoms_of s z) (length y.budget.learned) (length z.budget.learned) r (counted_held u v.held) (counted_held u w.held) n.0 m.0 k.0 n.1 m.1
+                (subst (λ a. counted_held u w.held ≤ a) (atoms_stay t x c.requires.ready u c.rounds.invariant.continues.table y c.rounds.invariant.continues.terms) m.2) k.1
+                (ap length c.look.ensures.learned) (atoms_stay t x c.requires.ready s on.table z on.terms),
+            k.2,
+          );
+      stops = tt;
+      stopped = tt;
+    }
 
-pub returns-in-Some-2-clause-terms : goal.returns-in-Some-2-clause-terms
-returns-in-Some-2-clause-terms g c =
-    let looks = rw c.in-Clash.is at c.in_ok-look.ensures.looks in
-    let ended = rw c.in-Some-2.is at c.in_ok-end-in-Clash.ensures.ended in
-    ended.0 ∙ looks.0.continues.terms ∙ c.rounds.invariant.continues.terms
-
-pub returns-in-Some-2-clause-came : goal.returns-in-Some-2-clause-came
-returns-in-Some-2-clause-came g c ts r h =
-    let n = c.rounds.invariant.came ts r h in
-    let looks = rw c.in-Clash.is at c.in_ok-look.ensures.looks in
-    let m = rw c.in-Clash.is at (c.in_ok-look.ensures.came ts n.0 n.2) in
-    let k = m.3 in
-    let x = c.args.self.now in
+pub returns-in-Some-2 : goal.returns-in-Some-2
+returns-in-Some-2 g c =
     let t = c.args.table.now in
-    let y = c.rounds.self in
+    let x = c.args.self.now in
     let u = c.rounds.table in
-    let z = c.resolve_conflict.new.self in
+    let y = c.rounds.self in
+    let q = c.look.new.table in
+    let z = c.look.new.self in
     let s = c.resolve_conflict.new.table in
-    let v = g.T.Theory.view c.rounds.theory in
-    let w = g.T.Theory.view c.look.new.theory in
+    let e = c.resolve_conflict.new.self in
+    let v = (g.T.Theory.meaning c.rounds.theory).view in
+    let w = (g.T.Theory.meaning c.look.new.theory).view in
+    let after = (g.T.Theory.meaning c.resolve_conflict.new.theory).view in
     let end = c.in-Some-2.end in
-    let on = continues_on t u c.look.new.table x y c.look.new.self c.rounds.invariant.continues looks.0.continues in
-    let resolves = rw c.in-Some-2.is at c.in_ok-end-in-Clash.ensures.resolves_conflict in
-    let ended = rw c.in-Some-2.is at c.in_ok-end-in-Clash.ensures.ended in
-    let learned : length z.budget.learned ≡ length y.budget.learned = ap (λ (b : BudgetView). length b.learned) ended.1 ∙ ap length c.look.ensures.learned in
-    let same : atoms_of s z ≡ atoms_of t x = atoms_stay t x c.requires.ready s (Extends-trans t c.look.new.table s on.table c.resolve_conflict.ensures.grown) z (ended.0 ∙ on.terms) in (
-      k.0,
-      paid_where s z r k.0 end
-          (λ e. subst (λ (q : End). ResolvesConflict (state c.look.new.table c.look.new.self) (state s z) (g.T.Theory.view c.resolve_conflict.new.theory) (Some q)) e resolves)
-          (paid_clash (atoms_of t x) (atoms_of s z) (length y.budget.learned) (length z.budget.learned) r (counted_held u v.held) (counted_held u w.held) n.0 m.0 k.0 n.1 m.1
-          (subst (λ a. counted_held u w.held ≤ a) (atoms_stay t x c.requires.ready u c.rounds.invariant.continues.table y c.rounds.invariant.continues.terms) m.2) k.1
-          learned same),
-      c.in_ok-end-in-Clash.ensures.came ts k.0 k.2,
-    )
+    let resolved = c.in_ok-end-in-Clash.ensures in
+    let looks = rw c.in-Clash.is at c.in_ok-look.ensures.looks in
+    let on = continues_on t u q x y z c.rounds.invariant.continues looks.0.continues in
+    let grown = Extends-trans t q s on.table resolved.grown in
+    let resolves = rw c.in-Some-2.is at resolved.resolves_conflict in
+    let ended = rw c.in-Some-2.is at resolved.ended in
+    record {
+      grown = grown;
+      declared = resolved.declared ∙ on.declared;
+      right = resolved.right;
+      limit = resolved.limit ∙ on.limit;
+      terms = ended.0 ∙ on.terms;
+      with = resolved.with;
+      ends = ends_on t q s x z e after _ end on resolves;
+      came = λ ts r h.
+          let n = c.rounds.invariant.came ts r h in
+          let m = rw c.in-Clash.is at (c.in_ok-look.ensures.came ts n.0 n.2) in
+          let k = m.3 in
+          let learned : length e.budget.learned ≡ length y.budget.learned = ap (λ (b : BudgetView). length b.learned) ended.1 ∙ ap length c.look.ensures.learned in
+          let same : atoms_of s e ≡ atoms_of t x = atoms_stay t x c.requires.ready s grown e (ended.0 ∙ on.terms) in (
+            k.0,
+            paid_where s e r k.0 end
+                (λ f. subst (λ (b : End). ResolvesConflict (state q z) (state s e) after (Some b)) f resolves)
+                (paid_clash (atoms_of t x) (atoms_of s e) (length y.budget.learned) (length e.budget.learned) r (counted_held u v.held) (counted_held u w.held) n.0 m.0 k.0 n.1 m.1
+                (subst (λ a. counted_held u w.held ≤ a) (atoms_stay t x c.requires.ready u c.rounds.invariant.continues.table y c.rounds.invariant.continues.terms) m.2) k.1
+                learned same),
+            resolved.came ts k.0 k.2,
+          );
+      stops = tt;
+      stopped = tt;
+    }
 
-pub returns-in_err-look-clause-came : goal.returns-in_err-look-clause-came
-returns-in_err-look-clause-came g c ts r h =
-    let n = c.rounds.invariant.came ts r h in
-    let m = c.in_err-look.ensures.came ts n.0 n.2 in
-    let x = c.args.self.now in
+pub returns-in_err-look : goal.returns-in_err-look
+returns-in_err-look g c =
     let t = c.args.table.now in
-    let y = c.rounds.self in
+    let x = c.args.self.now in
     let u = c.rounds.table in
-    let z = c.look.new.self in
+    let y = c.rounds.self in
     let s = c.look.new.table in
-    let v = g.T.Theory.view c.rounds.theory in
-    let w = g.T.Theory.view c.look.new.theory in
-    let es = z.budget.exchanges in
-    let came : ℕ → Type 0 = λ k. g.T.Theory.came_by c.look.new.theory s ts k es in
-    let stopped : ℕ → Type 0 = λ k. g.T.Theory.stopped_by c.look.new.theory s ts k es in
-    let with : Type 0 = g.T.Theory.goes_with c.look.new.theory s in
-    let shown : Type 0 = with × HasStopped (state u y) (state s z) w in
-    came_on_stop (λ verdict. IsPaid came (paid_after verdict m.0)) (λ (end : End). IsPaid came (paid_at s z r end)) (stopped m.0) (IsPaid stopped (paid_by s z r (atoms_of s z))) shown
-    c.from_residual.result c.in_err-look.field-0.0 c.from_residual.ensures.1 c.in_err-look.ensures.stopped
-    (λ q p.
-    let on = continues_on t u s x y z c.rounds.invariant.continues q.1.continues in (
-      m.0,
-      paid_quiet (atoms_of t x) (atoms_of s z) (length y.budget.learned) (length z.budget.learned) r (counted_held u v.held) (counted_held u w.held) n.0 m.0 m.0 n.1 m.1
-          (subst (λ a. counted_held u w.held ≤ a) (atoms_stay t x c.requires.ready u c.rounds.invariant.continues.table y c.rounds.invariant.continues.terms) m.2) (omega arith)
-          (ap length c.look.ensures.learned) (atoms_stay t x c.requires.ready s on.table z on.terms),
-      p,
-    )) m.3
-
-pub returns-in_err-look-clause-stops : goal.returns-in_err-look-clause-stops
-returns-in_err-look-clause-stops g c =
-    let watched = terms_watched c.look.new.table (g.T.Theory.view c.look.new.theory) in
-    let may_overflow : Strain → Type 0 = g.T.Theory.may_overflow c.look.new.theory c.look.new.table watched in
-    handed_on (StopsBy may_overflow) c.from_residual.result c.in_err-look.field-0.0 c.from_residual.ensures.1 c.in_err-look.ensures.stops
-
-pub returns-in_err-look-clause-stopped : goal.returns-in_err-look-clause-stopped
-returns-in_err-look-clause-stopped g c =
-    let t = c.args.table.now in
-    let u = c.rounds.table in
-    let w = c.look.new.table in
-    let x = c.args.self.now in
-    let y = c.rounds.self in
     let z = c.look.new.self in
-    let v = g.T.Theory.view c.look.new.theory in
-    let with : Type 0 = g.T.Theory.goes_with c.look.new.theory w in
+    let v = (g.T.Theory.meaning c.rounds.theory).view in
+    let after = g.T.Theory.meaning c.look.new.theory in
+    let w = after.view in
     let stop = c.in_err-look.field-0.0 in
-    handed_on (OnStop (with × HasStopped (state t x) (state w z) v)) c.from_residual.result stop c.from_residual.ensures.1
-    (on_stop_weaker (with × HasStopped (state u y) (state w z) v) (with × HasStopped (state t x) (state w z) v) (λ h. (h.0, stopped_on t u w x y z v c.rounds.invariant.continues h.1)) stop c.in_err-look.ensures.stopped)
+    let shown : Type 0 = after.goes_with s × HasStopped (state u y) (state s z) w in
+    let may_overflow : Strain → Type 0 = after.running.may_overflow s (terms_watched s w) in
+    record {
+      grown = Extends-trans t u s c.rounds.invariant.continues.table c.look.ensures.grown;
+      declared = c.look.ensures.declared ∙ c.rounds.invariant.continues.declared;
+      right = search rules;
+      limit = search rules;
+      terms = search rules;
+      with = search rules;
+      ends = search rules;
+      came = λ ts r h.
+          let n = c.rounds.invariant.came ts r h in
+          let m = c.in_err-look.ensures.came ts n.0 n.2 in
+          let es = z.budget.exchanges in
+          let came : ℕ → Type 0 = λ k. after.running.came_by s ts k es in
+          let stopped : ℕ → Type 0 = λ k. after.running.stopped_by s ts k es in
+          came_on_stop (λ verdict. IsPaid came (paid_after verdict m.0)) (λ (end : End). IsPaid came (paid_at s z r end)) (stopped m.0) (IsPaid stopped (paid_by s z r (atoms_of s z))) shown
+          c.from_residual.result stop c.from_residual.ensures.1 c.in_err-look.ensures.stopped
+          (λ q p.
+          let on = continues_on t u s x y z c.rounds.invariant.continues q.1.continues in (
+            m.0,
+            paid_quiet (atoms_of t x) (atoms_of s z) (length y.budget.learned) (length z.budget.learned) r (counted_held u v.held) (counted_held u w.held) n.0 m.0 m.0 n.1 m.1
+                (subst (λ a. counted_held u w.held ≤ a) (atoms_stay t x c.requires.ready u c.rounds.invariant.continues.table y c.rounds.invariant.continues.terms) m.2) (omega arith)
+                (ap length c.look.ensures.learned) (atoms_stay t x c.requires.ready s on.table z on.terms),
+            p,
+          )) m.3;
+      stops = handed_on (StopsBy may_overflow) c.from_residual.result stop c.from_residual.ensures.1 c.in_err-look.ensures.stops;
+      stopped = handed_on (OnStop (after.goes_with s × HasStopped (state t x) (state s z) w)) c.from_residual.result stop c.from_residual.ensures.1
+          (on_stop_weaker shown (after.goes_with s × HasStopped (state t x) (state s z) w) (λ h. (h.0, stopped_on t u s x y z w c.rounds.invariant.continues h.1)) stop c.in_err-look.ensures.stopped);
+    }
+
+pub returns-in_err-mark-in-Fine : goal.returns-in_err-mark-in-Fine
+returns-in_err-mark-in-Fine g c =
+    let t = c.args.table.now in
+    record {
+      grown = Extends-trans t c.rounds.table c.look.new.table c.rounds.invariant.continues.table c.look.ensures.grown;
+      declared = c.look.ensures.declared ∙ c.rounds.invariant.continues.declared;
+      right = search rules;
+      limit = search rules;
+      terms = search rules;
+      with = search rules;
+      ends = search rules;
+      came = search rules;
+      stops = search rules;
+      stopped = search rules;
+    }
+
+pub returns-in_err-end-in-Clash : goal.returns-in_err-end-in-Clash
+returns-in_err-end-in-Clash g c =
+    let t = c.args.table.now in
+    let s = c.resolve_conflict.new.table in
+    record {
+      grown = Extends-trans t c.look.new.table s (Extends-trans t c.rounds.table c.look.new.table c.rounds.invariant.continues.table c.look.ensures.grown) c.resolve_conflict.ensures.grown;
+      declared = c.resolve_conflict.ensures.declared ∙ c.look.ensures.declared ∙ c.rounds.invariant.continues.declared;
+      right = search rules;
+      limit = search rules;
+      terms = search rules;
+      with = search rules;
+      ends = search rules;
+      came = search rules;
+      stops = search rules;
+      stopped = search rules;
+    }

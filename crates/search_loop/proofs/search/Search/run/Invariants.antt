@@ -11,11 +11,11 @@ use Rattle.search_loop.proofs.search.Search.run.Given as goal
 abbrev pub invariant-rounds : goal.invariant-rounds
 invariant-rounds g l = record {
   ready : SearchFits l.table l.self;
-  asked : IsAsked (g.T.Theory.view l.theory) l.self;
-  with : g.T.Theory.goes_with l.theory l.table;
-  came : (ts : List Term) (r : ℕ) → IsPaid (λ n. g.T.Theory.came_by l.fn.theory l.fn.table ts n l.fn.self.budget.exchanges) (paid_by l.fn.table l.fn.self r 0)
-      → IsPaid (λ n. g.T.Theory.came_by l.theory l.table ts n l.self.budget.exchanges)
-      (paid (atoms_of l.fn.table l.fn.self) (length l.self.budget.learned) r (counted_held l.table (g.T.Theory.view l.theory).held));
+  asked : IsAsked (g.T.Theory.meaning l.theory).view l.self;
+  with : (g.T.Theory.meaning l.theory).goes_with l.table;
+  came : (ts : List Term) (r : ℕ) → IsPaid (λ n. (g.T.Theory.meaning l.fn.theory).running.came_by l.fn.table ts n l.fn.self.budget.exchanges) (paid_by l.fn.table l.fn.self r 0)
+      → IsPaid (λ n. (g.T.Theory.meaning l.theory).running.came_by l.table ts n l.self.budget.exchanges)
+      (paid (atoms_of l.fn.table l.fn.self) (length l.self.budget.learned) r (counted_held l.table (g.T.Theory.meaning l.theory).view.held));
   continues : Continues l.fn.table l.table l.fn.self l.self;
 }
 
