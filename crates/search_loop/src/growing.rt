@@ -1,6 +1,6 @@
 //! How a search begins, and how it grows: terms come in of which it did not speak, with their clauses.
 
-ghost use Rattle.std.specs.Prelude.{◌≡◌, IfOk, IfErr, OnOk};
+ghost use Rattle.std.specs.Prelude.{◌≡◌, IfErr, OnOk, MatchResult};
 ghost use Rattle.search_loop.specs.Answered.{AreAnswered};
 ghost use Rattle.spec_derivations.specs.Problems.{Problem};
 ghost use Rattle.term_core.specs.Tables.{declared_in, Extends, clause_at};
@@ -22,10 +22,6 @@ use proof_log::laws::empty_logs_are_right;
 use proof_log::{ProofLog, StepId};
 use sat_budget::{Budget, Limits};
 use sat_trail::SatTrail;
-use spec_derivations::growing::{
-    derived_clauses_stay_derived, inputs_stay_inputs, problems_speak_of_more,
-};
-use spec_derivations::search_laws::{whole_clauses_are_over_whole_terms, whole_terms_are_known};
 use std::alloc::Global;
 use term_core::{TermId, TermTable};
 
@@ -67,7 +63,7 @@ impl Search {
     ///
     /// `NoMemory` never comes, as empty lists take no memory.
     pub fn new(alloc: Global, limits: &Limits) -> Result<Search, NoMemory>
-        ensures { IfOk result (IsEmptySearch limits.now) }
+        ensures { MatchResult result (IsEmptySearch limits.now) (λ _. ⊥) }
     {
         empty_logs_are_right();
         what_is_marked_was_seen();
@@ -114,11 +110,6 @@ impl Search {
         ensures wide { IfErr result (OnClauseOverflow (λ o. (p : Problem)
             → GrowsTo table.old self.old roots.now interface.now p → IsOrderOverflow p o)) }
     {
-        problems_speak_of_more();
-        inputs_stay_inputs();
-        derived_clauses_stay_derived();
-        whole_clauses_are_over_whole_terms();
-        whole_terms_are_known();
         what_is_marked_was_seen();
         reasons_stay_right();
         let Stated { steps, terms } = clauses_of_new(
