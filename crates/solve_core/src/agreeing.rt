@@ -14,6 +14,7 @@ ghost use Rattle.solve_core.specs.Answering.{AgreeBoth};
 ghost use Rattle.solve_core.specs.Sharing.{IsAskedOf};
 ghost use Rattle.solve_core.specs.Agreeing.{AreTheoryValues, FindsAgreement};
 
+use crate::marking::{is_marked, mark_all};
 use crate::modelling::TheoryAssignment;
 use crate::sharing::is_declared;
 use agreement::{Agreement, Delta, Shared, agree};
@@ -44,23 +45,6 @@ fn joined(alloc: Global, front: &[TermId], back: &[TermId]) -> Result<Vec<TermId
     let mut ids = Vec::from_slice(alloc, front)?;
     ids.extend_from_slice(back)?;
     Ok(ids)
-}
-
-/// Tells whether a term is marked.
-pub(crate) fn is_marked(marks: &[bool], id: TermId) -> bool {
-    match marks.get(id.0 as usize) {
-        None => false,
-        Some(mark) => *mark,
-    }
-}
-
-/// Marks terms, by their numbers.
-pub(crate) fn mark_all(marks: &mut Vec<bool>, ids: &[TermId]) {
-    'ids: for id in ids.iter() {
-        if (id.0 as usize) < marks.len() {
-            marks[id.0 as usize] = true;
-        }
-    }
 }
 
 /// Gives for each term of the table whether a declared function is applied to it. No answer depends on these marks.

@@ -10,7 +10,7 @@ ghost use Rattle.search_loop.specs.Search.{SearchFits};
 ghost use Rattle.bound_lemmas.specs.Pairs.{IsPairOf};
 ghost use Rattle.solve_core.specs.Relating.{HasRelated};
 
-use crate::agreeing::{is_marked, mark_all};
+use crate::marking::{is_marked, marked};
 use bound_lemmas::{BoundPair, excluding, neighbours_of};
 use no_memory::NoMemory;
 use search_loop::Search;
@@ -34,13 +34,6 @@ fn relate(search: &mut Search, table: &mut TermTable, pair: BoundPair) -> Result
         return Ok(());
     };
     search.keep(table, step)
-}
-
-/// Marks terms, one mark for each term of the table.
-fn marks_of(alloc: Global, table: &TermTable, ids: &[TermId]) -> Result<Vec<bool>, NoMemory> {
-    let mut marks = vec![in alloc; false; table.len() as usize]?;
-    mark_all(&mut marks, ids);
-    Ok(marks)
 }
 
 /// Tells whether an atom of a pair is marked.
@@ -87,6 +80,6 @@ pub(crate) fn relate_bounds(
     ensures related { OnOk result (HasRelated table.old table.new search.old search.new) }
 {
     let pairs = neighbours_of(search.alloc, table, &search.atoms)?;
-    let marks = marks_of(search.alloc, table, &search.terms[from..])?;
+    let marks = marked(search.alloc, table, &search.terms[from..])?;
     relate_marked(search, table, &pairs, &marks)
 }

@@ -9,6 +9,7 @@ mod answering;
 mod bounding;
 mod equalities;
 mod forms;
+mod marking;
 mod modelling;
 mod outcome;
 mod propositional;
