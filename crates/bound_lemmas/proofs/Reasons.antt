@@ -10,7 +10,7 @@ use Rattle.spec_sorts.specs.Terms.{Term}
 use Rattle.spec_derivations.specs.Lemmas.{IsLemma}
 use Rattle.term_core.specs.Tables.{TableView}
 use Rattle.term_core.proofs.TermsExtend.{Extends-self}
-use Rattle.proof_log.specs.Logs.{Logged, IsLogOf, inference_of}
+use Rattle.proof_log.specs.Logs.{Logged, IsLogOf, inference_of, derivation_in}
 use Rattle.proof_log.specs.Theories.{Derived, DerivesLemmas}
 use Rattle.simplex_explain.specs.declared.weighted.Weighted.{Weighted}
 use Rattle.simplex_explain.specs.Reasons.{AreAtomReasons, AreHeld}
@@ -38,7 +38,7 @@ nothing_came ts old new right e f =
       more = [];
       log = sym (append-nil old.log);
       right = right;
-      lemmas = All-nil (λ (l : Logged). IsLemma ts _ (inference_of old.table l));
+      lemmas = All-nil (λ (l : Logged). IsLemma ts (derivation_in old.table old.log) _ (inference_of old.table l));
     })
 
 -- these faults are not that of memory

@@ -45,9 +45,9 @@ module _ (made : AreMadeReadable) (atoms_in : AreAtomsReadable) (p : Problem) (w
   made_readable = made p whole
 
   -- the terms of lemmas
-  lemma_readable : (n : ℕ) (x : Inference) → IsLemma (whole_terms p) n x → (u : Term) → Contains (conclusion x) u → IsReadableWhole u
-  lemma_readable n («assumption» t) h u i = absurd h
-  lemma_readable n (by_rule r premises arguments c) h u i = made_readable u (All-contains (IsMadeOf (whole_terms p)) c u h.1 i)
+  lemma_readable : (d : Derivation) (n : ℕ) (x : Inference) → IsLemma (whole_terms p) d n x → (u : Term) → Contains (conclusion x) u → IsReadableWhole u
+  lemma_readable d n («assumption» t) h u i = absurd h
+  lemma_readable d n (by_rule r premises arguments c) h u i = made_readable u (All-contains (IsMadeOf (whole_terms p)) c u h.1 i)
 
   -- each literal of these clauses is over a term that can be read
   abbrev AreReadableLists : List (List Literal) → Type 0
@@ -70,7 +70,7 @@ module _ (made : AreMadeReadable) (atoms_in : AreAtomsReadable) (p : Problem) (w
     ]
     steps_readable _ _ (lemmas xs ys cs steps each) learned y i = elim (Contains-append_cases xs ys y i) [
       | inl old ↦ steps_readable xs cs steps learned y old
-      | inr new ↦ lemma_readable (length xs) y (All-contains (IsLemma (whole_terms p) (length xs)) ys y each new)
+      | inr new ↦ lemma_readable (xs ++ ys) (length xs) y (All-contains (IsLemma (whole_terms p) (xs ++ ys) (length xs)) ys y each new)
     ]
     steps_readable _ _ (learning xs x cs steps resolved no_weaker) learned y i = elim (Contains-append_cases xs (x ∷ []) y i) [
       | inl old ↦ steps_readable xs cs steps (λ c k. learned c (Contains-append_left cs (literals_of (conclusion x) ∷ []) c k)) y old

@@ -1,19 +1,19 @@
 -- The last clause: that it follows, and is false under what is held.
-use Rattle.std.proofs.Common.{◌≡◌, ◌≢◌, ℕ, ◌+◌, ◌<◌, ◌≤◌, ◌⊎◌, inl, inr, true, false, List, [], ◌∷◌, ◌++◌, map, length, drop, get_or, refl, sym, ap, ◌∙◌, subst, arith, append-nil, append_assoc, add-one}
+use Rattle.std.proofs.Common.{◌≡◌, ◌≢◌, ℕ, ◌+◌, ◌<◌, ◌≤◌, ◌⊎◌, inl, inr, Bool, true, false, not, List, [], ◌∷◌, ◌++◌, map, length, drop, get_or, refl, sym, ap, ◌∙◌, subst, arith, append-nil, append_assoc, add-one}
 use Rattle.std.specs.Prelude.{All, Contains, Result, Ok, Err, IfOk}
 use Rattle.std.proofs.Math.Seq.{drop-cons}
-use Rattle.std.proofs.lemmas.Bool.{cases_eq}
+use Rattle.std.proofs.lemmas.Bool.{cases_eq, not-true}
 use Rattle.std.proofs.lemmas.List.{map-append, drop-map, drop_all}
-use Rattle.std.proofs.lemmas.List.Elements.{All-nil, All-push, All-weaker, All-contains, All-head, All-tail, Contains-append_right, Contains-push}
+use Rattle.std.proofs.lemmas.List.Elements.{All-nil, All-cons, All-push, All-weaker, All-contains, All-head, All-tail, Contains-append_right, Contains-push, Contains-get_or}
 use Rattle.spec_text.specs.Trees.{none}
 use Rattle.spec_text.proofs.Members.{first, later, only, cases, to_image, from_image, none as none_in}
-use Rattle.spec_sorts.specs.Terms.{True, False, Term, of}
+use Rattle.spec_sorts.specs.Terms.{True, False, Term, of, negated}
 use Rattle.spec_sorts.specs.Literals.{Literal, literals_of, complement}
 use Rattle.spec_equality.specs.Reasons.{equal as equal_terms}
-use Rattle.spec_proofs.specs.declared.Rule.TheVariants.{Resolution}
-use Rattle.spec_proofs.specs.Resolution.{Derives as Propagates, given, Conflicts, both_ways}
-use Rattle.spec_rules.specs.Clauses.{IsResolvent}
-use Rattle.spec_derivations.specs.Derivations.{by_rule, FollowsFrom}
+use Rattle.spec_proofs.specs.declared.Rule.TheVariants.{EqTransitive}
+use Rattle.spec_proofs.specs.Resolution.{Derives as Propagates, given, unit, IsWithin}
+use Rattle.spec_rules.specs.Rules.{IsRight}
+use Rattle.spec_derivations.proofs.Learned.{decide_literals}
 use Rattle.spec_derivations.specs.Lemmas.{IsLemma}
 use Rattle.no_memory.specs.declared.NoMemory.{NoMemory}
 use Rattle.term_core.specs.declared.ids.TermId.{TermId}
@@ -37,16 +37,16 @@ use Rattle.congruence_relation.specs.Relation.{Application, Facts, terms_listed}
 use Rattle.congruence_relation.specs.Edges.{IsEdgeReason, IsConflict}
 use Rattle.congruence_relation.proofs.Agree.{equality_term}
 use Rattle.proof_log.specs.declared.premises.StepId.{StepId}
-use Rattle.proof_log.specs.Logs.{Logged, logged_at, no_logged, clauses_in, numbers_of, inference_of, derivation_in, IsLogOf}
+use Rattle.proof_log.specs.Logs.{Logged, logged_at, no_logged, clauses_in, inference_of, derivation_in, IsLogOf}
 use Rattle.proof_log.specs.Clashes.{HasLit, IsClash}
 use Rattle.proof_log.specs.Theories.{Derived, DerivesLemmas}
-use Rattle.proof_log.proofs.Logged.{numbers_there, premises_there}
-use Rattle.congruence_explain.specs.declared.claims.Claim.TheVariants.{Equality}
+use Rattle.congruence_explain.specs.declared.claims.Claim.TheVariants.{Equality, Atom}
 use Rattle.congruence_explain.specs.declared.claims.SignedClaim.{SignedClaim}
-use Rattle.congruence_explain.specs.Claims.{no_term_id, claim_as_term, claim_as_literal, literal_claimed, IsClaimOf, unequal, value_claim}
+use Rattle.congruence_explain.specs.Claims.{no_term_id, claim_as_term, claim_as_literal, literal_claimed, IsClaimOf, equality_claim, unequal, denied, value_claim}
 use Rattle.congruence_explain.specs.Basis.{IsBasis, AreLinkedIn, IsEqualityIn, HasLinkedSides}
 use Rattle.congruence_explain.specs.Steps.{Start, derived, begun, spoken, Explains, literals_logged, steps_since, ExplanationSetting, setting, HasPut, all_denied, apart, IsDenial, IsCollected, IsExplained, others_of, AreNumbersFrom}
-use Rattle.congruence_explain.proofs.Terms.{claims_in, literals_put}
+use Rattle.congruence_explain.specs.Needing.{HasFalsePremise}
+use Rattle.congruence_explain.specs.Choosing.{HasPutSome}
 use Rattle.congruence_explain.proofs.Shown.{derives_more, by_clause, within_more, denied_more}
 use Rattle.congruence_explain.proofs.Facts.{reason_at, argument_term, argument_made, held_made, held_atom, truth_made, truths_in}
 
@@ -58,7 +58,7 @@ derives_none terms t log right = record {
   more = [];
   log = sym (append-nil log);
   right = right;
-  lemmas = All-nil (λ l. IsLemma terms (length log) (inference_of t l));
+  lemmas = All-nil (λ l. IsLemma terms (derivation_in t log) (length log) (inference_of t l));
 }
 
 -- numbers of steps, one more
@@ -73,28 +73,18 @@ numbers_more log ids all n from id is lt last so =
 pub numbers_all : (log : List Logged) (ids : List StepId) (n from : ℕ) → length log ≤ n → map (logged_at log) ids ++ drop n log ≡ drop from log → map (logged_at log) ids ≡ drop from log
 numbers_all log ids n from le so = sym (ap (λ z. map (logged_at log) ids ++ z) (drop_all n log le) ∙ append-nil (map (logged_at log) ids)) ∙ so
 
-premise_literals : (t : TableView) (log : List Logged) (ids : List StepId) → map literals_of (map (clause_at t) (clauses_in log ids)) ≡ map (literals_logged t) (map (logged_at log) ids)
+pub premise_literals : (t : TableView) (log : List Logged) (ids : List StepId) → map literals_of (map (clause_at t) (clauses_in log ids)) ≡ map (literals_logged t) (map (logged_at log) ids)
 premise_literals t log [] = refl
 premise_literals t log (id ∷ ids) = ap (λ z. literals_logged t (logged_at log id) ∷ z) (premise_literals t log ids)
 
--- from the steps since the start a clause follows by resolution
-pub resolution_follows : (start : Start) (t : TableView) (log : List Logged) (from : ℕ) (ids : List StepId) (clause : List SignedClaim) → from ≡ length start.log → AreNumbersFrom log from ids → All (λ s. IsClaimOf (spoken start) start.table s.claim) clause
-    → Conflicts complement (steps_since start (derived t log)) (all_denied start.table clause) → FollowsFrom (derivation_in t log) (by_rule Resolution (numbers_of ids) none (map (claim_as_term start.table) clause))
-resolution_follows start t log from ids clause from_is numbers claims conflict = (
-  numbers_there t log ids numbers.there,
-  subst (λ cs. IsResolvent cs (map (claim_as_term start.table) clause)) (sym (premises_there t log ids numbers.there))
-      (subst (λ ls. Conflicts complement ls (map complement (literals_of (map (claim_as_term start.table) clause)))) (sym premises)
-      (subst (λ ls. Conflicts complement (steps_since start (derived t log)) (map complement ls)) (sym (literals_put start.table clause (claims_in (spoken start) start.table clause claims))) conflict)),
-)
-  where
-    premises : map literals_of (map (clause_at t) (clauses_in log ids)) ≡ steps_since start (derived t log)
-    premises = premise_literals t log ids ∙ ap (map (literals_logged t)) (numbers.all ∙ ap (λ n. drop n log) from_is) ∙ sym (drop-map (literals_logged t) (length start.log) log)
+-- the premises are the steps since the start
+pub premises_are : (start : Start) (t : TableView) (log : List Logged) (ids : List StepId) → AreNumbersFrom log (length start.log) ids → map literals_of (map (clause_at t) (clauses_in log ids)) ≡ steps_since start (derived t log)
+premises_are start t log ids numbers = premise_literals t log ids ∙ ap (map (literals_logged t)) numbers.all ∙ sym (drop-map (literals_logged t) (length start.log) log)
 
--- the two sides of an equality are equal and are not
-pub sides_conflict : (s : ExplanationSetting) (steps : List (List Literal)) (e a c : TermId) (stated clause : List SignedClaim) → IsEqualityIn s.table e a c → IsCollected s steps a c stated → clause ≡ stated ++ value_claim e true ∷ [] → Conflicts complement steps (all_denied s.table clause)
-sides_conflict s steps e a c stated clause q collected is = both_ways (literal_claimed s.table (Equality a c))
-    (derives_more steps steps (all_denied s.table stated) (all_denied s.table clause) (λ x i. i) (denied_more s.table stated clause (within_more stated clause (value_claim e true ∷ []) is)) (literal_claimed s.table (Equality a c)) collected.shown)
-    (given (complement (literal_claimed s.table (Equality a c))) (subst (Contains (all_denied s.table clause)) same last))
+-- the two sides of an equality are equal and are not: a step's clause is false
+pub sides_refuted : (s : ExplanationSetting) (terms : List Term) (steps : List (List Literal)) (e a c : TermId) (stated clause : List SignedClaim) → AreDifferent s.table.terms → IsEqualityIn s.table e a c → IsCollected s steps a c stated
+    → All (λ (m : SignedClaim). IsClaimOf terms s.table m.claim) stated → (Contains stated (value_claim e false) → ⊥) → clause ≡ stated ++ value_claim e true ∷ [] → HasFalsePremise steps (all_denied s.table clause)
+sides_refuted s terms steps e a c stated clause differ q collected claims free is = go (literal_claimed s.table (Equality a c)) refl collected.shown
   where
     last : Contains (all_denied s.table clause) (complement (claim_as_literal s.table (value_claim e true)))
     last = to_image complement (map (claim_as_literal s.table) clause) (claim_as_literal s.table (value_claim e true)) (to_image (claim_as_literal s.table) clause (value_claim e true) (subst (λ zs. Contains zs (value_claim e true)) (sym is) (Contains-push stated (value_claim e true))))
@@ -102,9 +92,40 @@ sides_conflict s steps e a c stated clause q collected is = both_ways (literal_c
     same : complement (claim_as_literal s.table (value_claim e true)) ≡ complement (literal_claimed s.table (Equality a c))
     same = ap (λ (x : Term). let l : Literal = record { atom = x; positive = false } in l) q.is
 
--- `true` and `false` are equal and are not
-pub truths_conflict : (s : ExplanationSetting) (steps after : List (List Literal)) (stated : List SignedClaim) → IsCollected s steps s.truths.true_term s.truths.false_term stated → after ≡ steps ++ apart s.table s.truths → Conflicts complement after (all_denied s.table stated)
-truths_conflict s steps after stated collected is = both_ways off off_derived (by_clause after assumed (not_off ∷ []) not_off (step_in (not_off ∷ []) (later clause ((yes ∷ []) ∷ (not_off ∷ []) ∷ []) (not_off ∷ []) (later (yes ∷ []) ((not_off ∷ []) ∷ []) (not_off ∷ []) (first (not_off ∷ []) [])))) (first not_off []) (λ m i. inl (sym (only not_off m i))))
+    more : IsWithin (all_denied s.table stated) (all_denied s.table clause)
+    more = denied_more s.table stated clause (within_more stated clause (value_claim e true ∷ []) is)
+
+    -- a claim that denies a literal, whose complement says that the sides are equal
+    denies_it : (x : SignedClaim) → Contains stated x → complement (claim_as_literal s.table x) ≡ literal_claimed s.table (Equality a c) → IsDenial s x → x ≡ value_claim e false
+    denies_it x i says (l, k, lt, label, d) =
+        let whole : complement (claim_as_literal s.table (denied l)) ≡ literal_claimed s.table (Equality a c) = ap (λ (y : SignedClaim). complement (claim_as_literal s.table y)) (sym d) ∙ says in
+        let own : IsClaimOf terms s.table (denied l).claim = subst (λ (y : SignedClaim). IsClaimOf terms s.table y.claim) d (All-contains (λ (m : SignedClaim). IsClaimOf terms s.table m.claim) stated x claims i) in
+        let term : term_at s.table l.term ≡ term_at s.table e = ap (λ (y : Literal). y.atom) whole ∙ sym q.is in
+        let id : l.term ≡ e = same_id l.term e (differ l.term.0 e.0 own.0.0.0 q.there term) in
+        let sign : not l.positive ≡ false = not-true (not l.positive) (ap (λ (y : Literal). y.positive) whole) in
+        d ∙ (λ j. let y : SignedClaim = record { claim = Atom (id j); positive = sign j } in y)
+
+    go : (g : Literal) → g ≡ literal_claimed s.table (Equality a c) → Propagates complement steps (all_denied s.table stated) g → HasFalsePremise steps (all_denied s.table clause)
+    go _ e_is (given l i) =
+        let w = from_image complement (map (claim_as_literal s.table) stated) l i in
+        let x = from_image (claim_as_literal s.table) stated w.0 w.1 in
+        absurd (free (subst (Contains stated) (denies_it x.0 x.1 (ap complement x.2 ∙ w.2 ∙ e_is) (All-contains (IsDenial s) stated x.0 collected.held x.1)) x.1))
+    go _ e_is (unit d l d_in l_in others) = (
+      d,
+      d_in,
+      λ m i. elim (decide_literals m l) [
+        | inl here ↦ given (complement m) (subst (Contains (all_denied s.table clause)) (same ∙ ap complement (sym (here ∙ e_is))) last)
+        | inr differs ↦ derives_more steps steps (all_denied s.table stated) (all_denied s.table clause) (λ x j. j) more (complement m) (others m i differs)
+      ],
+    )
+
+-- `true` and `false` are equal and are not: so a step's clause is
+pub truths_refuted : (s : ExplanationSetting) (steps after : List (List Literal)) (stated : List SignedClaim) → IsCollected s steps s.truths.true_term s.truths.false_term stated → after ≡ steps ++ apart s.table s.truths → HasFalsePremise after (all_denied s.table stated)
+truths_refuted s steps after stated collected is = (
+  not_off ∷ [],
+  step_in (not_off ∷ []) (later clause ((yes ∷ []) ∷ (not_off ∷ []) ∷ []) (not_off ∷ []) (later (yes ∷ []) ((not_off ∷ []) ∷ []) (not_off ∷ []) (first (not_off ∷ []) []))),
+  λ m i. subst (λ (z : Literal). Propagates complement after assumed (complement z)) (only not_off m i) off_derived,
+)
   where
     assumed : List Literal
     assumed = all_denied s.table stated
@@ -282,10 +303,32 @@ module _ (t : TableView) (ts : Truths) (v : ForestState) (f : Facts) (b : IsBasi
               subst (Contains f.held) (sym (negation_twice l) ∙ ap lit_complement same) l_in
 
 -- the last clause as it is put
-pub explained_put : (s : ExplanationSetting) (start : Start) (old now : Derived) (clause others : List SignedClaim) → s.table ≡ start.table → All (λ m. IsDenial s m ⊎ Contains others m) clause
-    → (r : Result StepId NoMemory) → IfOk r (HasPut start old now (map (claim_as_literal start.table) clause)) → IfOk r (IsExplained s now others)
-explained_put s start old now clause others same each (Ok id) put = record { there = put.there; clause = clause; literals = put.clause_is ∙ ap (λ (t : TableView). map (claim_as_literal t) clause) (sym same); each = each }
-explained_put s start old now clause others same each (Err e) put = tt
+pub explained_put : (s : ExplanationSetting) (start : Start) (now : Derived) (clause others : List SignedClaim) → s.table ≡ start.table → All (λ m. IsDenial s m ⊎ Contains others m) clause → (r : Result StepId NoMemory) → IfOk r (HasPutSome start now clause) → IfOk r (IsExplained s now others)
+explained_put s start now clause others same each (Ok id) put = record {
+  there = put.there;
+  clause = put.kept;
+  literals = put.literals ∙ ap (λ (t : TableView). map (claim_as_literal t) put.kept) (sym same);
+  each = λ k d lt. All-contains (λ m. IsDenial s m ⊎ Contains others m) clause (get_or put.kept k d) each (put.within (get_or put.kept k d) (Contains-get_or put.kept k d lt));
+}
+explained_put s start now clause others same each (Err e) put = tt
+
+-- an equality that is held with its negation
+pub both_right : (t : TableView) (a c : TermId) → IsRight EqTransitive [] none (map (claim_as_term t) (unequal a c ∷ equality_claim a c ∷ []))
+both_right t a c = (record { literals = negated (equal_terms (term_at t a) (term_at t c)) ∷ []; one = term_at t a; other = term_at t c; same = refl }, (λ e. cc), (term_at t c, inl refl, refl))
+
+pub both_put : (s : ExplanationSetting) (start : Start) (old now : Derived) (e a c : TermId) (stated clause : List SignedClaim) → s.table ≡ start.table → IsEqualityIn start.table e a c → All (IsDenial s) stated → Contains stated (value_claim e false) → clause ≡ unequal a c ∷ equality_claim a c ∷ []
+    → (r : Result StepId NoMemory) → IfOk r (HasPut start old now (map (claim_as_literal start.table) clause)) → IfOk r (IsExplained s now (value_claim e true ∷ []))
+both_put s start old now e a c stated clause same q held there is (Ok id) put = record {
+  there = put.there;
+  clause = value_claim e false ∷ value_claim e true ∷ [];
+  literals = put.clause_is ∙ ap (map (claim_as_literal start.table)) is ∙ (λ i. literal (sym q.is i) false ∷ literal (sym q.is i) true ∷ []) ∙ ap (λ (t : TableView). map (claim_as_literal t) (value_claim e false ∷ value_claim e true ∷ [])) (sym same);
+  each = All-cons (λ m. IsDenial s m ⊎ Contains (value_claim e true ∷ []) m) (value_claim e false) (value_claim e true ∷ []) (inl (All-contains (IsDenial s) stated (value_claim e false) held there))
+      (All-cons (λ m. IsDenial s m ⊎ Contains (value_claim e true ∷ []) m) (value_claim e true) [] (inr (first (value_claim e true) [])) (All-nil (λ m. IsDenial s m ⊎ Contains (value_claim e true ∷ []) m)));
+}
+  where
+    literal : Term → Bool → Literal
+    literal x p = record { atom = x; positive = p }
+both_put s start old now e a c stated clause same q held there is (Err x) put = tt
 
 pub each_denied : (s : ExplanationSetting) (others stated : List SignedClaim) → All (IsDenial s) stated → All (λ m. IsDenial s m ⊎ Contains others m) stated
 each_denied s others stated h = All-weaker (IsDenial s) (λ m. IsDenial s m ⊎ Contains others m) (λ m d. inl d) stated h

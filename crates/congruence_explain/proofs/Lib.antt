@@ -10,3 +10,10 @@ pub mod Meeting
 pub mod Decided
 pub mod Going
 pub mod Concluding
+pub mod Stuck
+pub mod Lefts
+pub mod Traced
+pub mod Backward
+pub mod Starting
+pub mod Imaged
+pub mod Chosen

@@ -8,8 +8,9 @@ use Rattle.spec_text.specs.Trees.{none}
 use Rattle.spec_sorts.specs.Terms.{Term}
 use Rattle.spec_sorts.specs.Literals.{literals_of}
 use Rattle.spec_proofs.specs.declared.Rule.{Rule}
-use Rattle.spec_derivations.specs.Derivations.{by_rule, Derivation, FollowsFrom}
-use Rattle.spec_derivations.specs.Lemmas.{IsMadeOf, IsLemma}
+use Rattle.spec_derivations.specs.Derivations.{Inference, by_rule, Derivation, FollowsFrom}
+use Rattle.spec_derivations.specs.Lemmas.{IsMadeOf, TakesNoMore, IsLemma}
+use Rattle.spec_derivations.proofs.Onward.{lemma_onward}
 use Rattle.no_memory.specs.declared.NoMemory.{NoMemory}
 use Rattle.term_core.specs.declared.ids.TermId.{TermId}
 use Rattle.term_core.specs.Tables.{TableView, term_at, clause_at}
@@ -57,8 +58,11 @@ module _ (start : Start) (t u : TableView) (log : List Logged) (derives : Explai
   wider_right = grown_right t u log derives.right wider.terms
 
   -- what came are still lemmas
-  lemmas_wider : All (λ l. IsLemma (spoken start) (length start.log) (inference_of u l)) derives.more
-  lemmas_wider = grown_lemmas t u (spoken start) (length start.log) start.log derives.more (subst (IsLogOf t) derives.log derives.right) wider.terms derives.lemmas
+  lemmas_wider : All (λ l. IsLemma (spoken start) (derivation_in u log) (length start.log) (inference_of u l)) derives.more
+  lemmas_wider =
+      let Lemmas : TableView → List Logged → Type 0 = λ (v : TableView) (xs : List Logged). All (λ l. IsLemma (spoken start) (derivation_in v xs) (length start.log) (inference_of v l)) derives.more in
+      subst (Lemmas u) (sym derives.log)
+      (grown_lemmas t u (spoken start) (length start.log) start.log derives.more (subst (IsLogOf t) derives.log derives.right) wider.terms (subst (Lemmas t) derives.log derives.lemmas))
 
   -- and still derived
   pub derives_wider : Explains start (derived u log)
@@ -93,7 +97,28 @@ module _ (start : Start) (t u : TableView) (log : List Logged) (derives : Explai
       terms_made = subst (λ (c : List Term). All (IsMadeOf (spoken start)) c) (sym terms_are)
           (All-map (IsMadeOf (spoken start)) (claim_as_term start.table) clause (λ k d lt. claimed_made (spoken start) start.table (get_or clause k d) (claims k d lt)))
 
-      module _ (rule : Rule) (ps : List StepId) (since : All (λ (p : StepId). length start.log ≤ p.0) ps) (id : StepId) (new : List Logged) (added : IsAdded u log (stepped rule ps [] ids) id new) where
+      module _ (rule : Rule) (ps : List StepId) (since : All (λ (p : StepId). length start.log ≤ p.0) ps) (follows : FollowsFrom (derivation_in t log) (by_rule rule (numbers_of ps) none (map (claim_as_term start.table) clause)))
+          (exact : TakesNoMore (derivation_in t log) (by_rule rule (numbers_of ps) none (map (claim_as_term start.table) clause))) (id : StepId) (new : List Logged) (added : IsAdded u log (stepped rule ps [] ids) id new) where
+        -- the log says one inference more
+        longer : derivation_in u new ≡ derivation_in u log ++ inference_of u (stepped rule ps [] ids) ∷ []
+        longer = ap (derivation_in u) added.last ∙ map-append (inference_of u) log (stepped rule ps [] ids ∷ [])
+
+        -- so each lemma is one still
+        lemma_longer : (x : Inference) → IsLemma (spoken start) (derivation_in u log) (length start.log) x → IsLemma (spoken start) (derivation_in u new) (length start.log) x
+        lemma_longer x h = subst (λ (d : Derivation). IsLemma (spoken start) d (length start.log) x) (sym longer)
+            (lemma_onward (derivation_in u log) (inference_of u (stepped rule ps [] ids) ∷ []) (spoken start) (length start.log) x h)
+
+        -- and so is the step
+        lemma_here : IsLemma (spoken start) (derivation_in u log) (length start.log) (inference_of u (stepped rule ps [] ids))
+        lemma_here =
+            let same : derivation_in u log ≡ derivation_in t log = grown_same t u log derives.right wider.terms in
+            let low = All-map (λ m. length start.log ≤ m) (λ (p : StepId). p.0) ps since in (
+              λ k d lt. (low k d lt, subst (λ (e : Derivation). get_or (numbers_of ps) k d < length e) (sym same) (follows.0 k d lt)),
+              terms_made,
+              subst (λ (e : Derivation). TakesNoMore e (by_rule rule (numbers_of ps) none (clause_at u ids))) (sym same)
+                  (subst (λ (c : List Term). TakesNoMore (derivation_in t log) (by_rule rule (numbers_of ps) none c)) (sym terms_are) exact),
+            )
+
         -- it is derived
         pub derives_step : Explains start (derived u new)
         derives_step = record {
@@ -102,8 +127,8 @@ module _ (start : Start) (t u : TableView) (log : List Logged) (derives : Explai
           more = derives.more ++ stepped rule ps [] ids ∷ [];
           log = added.last ∙ ap (λ l. l ++ stepped rule ps [] ids ∷ []) derives.log ∙ append_assoc start.log derives.more (stepped rule ps [] ids ∷ []);
           right = added.right;
-          lemmas = All-push (λ l. IsLemma (spoken start) (length start.log) (inference_of u l)) derives.more (stepped rule ps [] ids) lemmas_wider
-              (All-map (λ m. length start.log ≤ m) (λ (p : StepId). p.0) ps since, terms_made);
+          lemmas = All-push (λ l. IsLemma (spoken start) (derivation_in u new) (length start.log) (inference_of u l)) derives.more (stepped rule ps [] ids)
+              (λ k d lt. lemma_longer (inference_of u (get_or derives.more k d)) (lemmas_wider k d lt)) (lemma_longer (inference_of u (stepped rule ps [] ids)) lemma_here);
         }
 
         literals_are : literals_of (clause_at u ids) ≡ map (claim_as_literal start.table) clause
@@ -129,7 +154,8 @@ module _ (start : Start) (t u : TableView) (log : List Logged) (derives : Explai
             low = omega (arith, length-map log (literals_logged t), ap length derives.log, length-append start.log derives.more)
 
       -- whatever comes of adding it
-      pub put_result : (rule : Rule) (ps : List StepId) → All (λ (p : StepId). length start.log ≤ p.0) ps → (new : List Logged) (r : Result StepId NoMemory) → MatchResult r (λ id. IsAdded u log (stepped rule ps [] ids) id new) (λ _. new ≡ log)
+      pub put_result : (rule : Rule) (ps : List StepId) → All (λ (p : StepId). length start.log ≤ p.0) ps → FollowsFrom (derivation_in t log) (by_rule rule (numbers_of ps) none (map (claim_as_term start.table) clause))
+          → TakesNoMore (derivation_in t log) (by_rule rule (numbers_of ps) none (map (claim_as_term start.table) clause)) → (new : List Logged) (r : Result StepId NoMemory) → MatchResult r (λ id. IsAdded u log (stepped rule ps [] ids) id new) (λ _. new ≡ log)
           → Explains start (derived u new) × IfOk r (HasPut start (derived t log) (derived u new) (map (claim_as_literal start.table) clause))
-      put_result rule ps since new (Ok id) added = (derives_step rule ps since id new added, put_last rule ps since id new added)
-      put_result rule ps since new (Err e) same = (subst (λ l. Explains start (derived u l)) (sym same) derives_wider, tt)
+      put_result rule ps since follows exact new (Ok id) added = (derives_step rule ps since follows exact id new added, put_last rule ps since follows exact id new added)
+      put_result rule ps since follows exact new (Err e) same = (subst (λ l. Explains start (derived u l)) (sym same) derives_wider, tt)

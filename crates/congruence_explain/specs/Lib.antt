@@ -3,3 +3,5 @@ pub mod Claims
 pub mod Rules
 pub mod Basis
 pub mod Steps
+pub mod Needing
+pub mod Choosing

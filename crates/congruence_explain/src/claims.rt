@@ -1,6 +1,6 @@
 //! What the literals of a clause say, before their terms are put.
 
-ghost use Rattle.std.specs.Prelude.{◌≡◌};
+ghost use Rattle.std.specs.Prelude.{◌≡◌, ◌≢◌, false, MatchBool};
 ghost use Rattle.congruence_relation.specs.Relation.{truth_of};
 ghost use Rattle.congruence_explain.specs.Claims.{says, equality_claim, unequal, value_claim, denied, joins};
 
@@ -62,6 +62,16 @@ pub(crate) fn value_claimed(term: TermId, positive: bool) -> SignedClaim
     SignedClaim {
         claim: Claim::Atom(term),
         positive,
+    }
+}
+
+/// Tells whether a literal is the negation of an atom.
+pub(crate) fn is_denial(s: SignedClaim, e: TermId) -> bool
+    ensures { MatchBool result (s ≡ value_claim e false) (s ≢ value_claim e false) }
+{
+    match s.claim {
+        Claim::Atom(id) => !s.positive && id.0 == e.0,
+        Claim::Equality(_, _) => false,
     }
 }
 

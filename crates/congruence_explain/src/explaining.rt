@@ -1,6 +1,6 @@
 //! The clause of a conflict.
 
-ghost use Rattle.std.specs.Prelude.{◌≡◌, ◌≤◌, true, [], ◌∷◌, ◌++◌, length, IfOk, OnOk, OnErr};
+ghost use Rattle.std.specs.Prelude.{◌≡◌, true, false, [], ◌∷◌, ◌++◌, Contains, IfOk, OnOk, OnErr, MatchBool};
 ghost use Rattle.congruence_relation.specs.Relation.{Facts, terms_listed};
 ghost use Rattle.congruence_relation.specs.Edges.{IsConflict};
 ghost use Rattle.proof_log.specs.Logs.{IsLogOf};
@@ -8,30 +8,19 @@ ghost use Rattle.proof_log.specs.Clashes.{IsClash};
 ghost use Rattle.proof_log.specs.Theories.{DerivesLemmas};
 ghost use Rattle.congruence_explain.specs.Claims.{value_claim};
 ghost use Rattle.congruence_explain.specs.Basis.{IsBasis, AreLinkedIn, IsEqualityIn, HasLinkedSides, AreTruths};
-ghost use Rattle.congruence_explain.specs.Steps.{Start, derived, begun, spoken, Explains, setting, steps_since, AreNumbersFrom, IsExplained, others_of, apart};
+ghost use Rattle.congruence_explain.specs.Steps.{Start, derived, begun, spoken, Explains, setting, steps_since, IsExplained, others_of, apart};
 ghost use Rattle.term_core.specs.declared.ids.TermId.{TermId as Number};
 
-use crate::claims::{unequality, value_claimed};
+use crate::choosing::put_needed;
+use crate::claims::{SignedClaim, equality, is_denial, unequality, value_claimed};
 use crate::collecting::collect;
-use crate::putting::{put, put_alone};
+use crate::putting::put_alone;
 use congruence_relation::{Conflict, Truths};
 use explain_forest::Forest;
 use no_memory::NoMemory;
 use proof_log::{ProofLog, Rule, StepId};
 use std::alloc::Global;
 use term_core::{TermId, TermTable};
-
-/// Lists the numbers of the steps from one on.
-fn steps_from(alloc: Global, log: &ProofLog, from: u64) -> Result<Vec<StepId>, NoMemory>
-    requires { from ≤ length log.now }
-    ensures { IfOk result (λ steps. AreNumbersFrom log.now from steps.items) }
-{
-    let mut steps = Vec::new(alloc);
-    'steps: for number in from..log.len() {
-        steps.push(StepId(number))?;
-    }
-    Ok(steps)
-}
 
 /// Gives the sides of an equality.
 fn sides(table: &TermTable, e: TermId) -> (TermId, TermId)
@@ -42,7 +31,22 @@ fn sides(table: &TermTable, e: TermId) -> (TermId, TermId)
     (arguments[0], arguments[1])
 }
 
+/// Tells whether claims have the negation of an atom.
+fn denies(stated: &[SignedClaim], e: TermId) -> bool
+    ensures { MatchBool result (Contains stated.now (value_claim e false))
+        (Contains stated.now (value_claim e false) → ⊥) }
+{
+    'claims: for s in stated {
+        if is_denial(*s, e) {
+            return true;
+        }
+    }
+    false
+}
+
 /// Logs why the sides of an equality are equal. The last clause has this equality, whose negation is held.
+///
+/// Where the equality is held too, the step is one by `eq_transitive`.
 fn explain_sides(
     alloc: Global,
     table: &mut TermTable,
@@ -64,9 +68,12 @@ fn explain_sides(
     let from = log.len();
     let (a, b) = sides(table, e);
     let mut stated = collect(alloc, table, log, forest, truths, a, b)?;
+    if denies(&stated, e) {
+        let clause = [unequality(a, b), equality(a, b)];
+        return put_alone(alloc, table, log, Rule::EqTransitive, &clause);
+    }
     stated.push(value_claimed(e, true))?;
-    let premises = steps_from(alloc, log, from)?;
-    put(alloc, table, log, Rule::Resolution, premises, &stated)
+    put_needed(alloc, table, log, from, &stated)
 }
 
 /// Logs that `true` and `false` are not equal: by `equiv_pos2`, `true` and `false`.
@@ -125,8 +132,7 @@ fn explain_truths(
         truths.false_term,
     )?;
     tell_apart(alloc, table, log, truths)?;
-    let premises = steps_from(alloc, log, from)?;
-    put(alloc, table, log, Rule::Resolution, premises, &stated)
+    put_needed(alloc, table, log, from, &stated)
 }
 
 /// Logs why a conflict is one. Where memory runs out, the terms and steps that it has put stay.
@@ -160,16 +166,20 @@ fn explained(
 ///
 /// It tells the path between the two terms, and why each edge is there that is needed. A held literal is denied in the last clause. Terms
 /// with one head are equal by `eq_congruent`, and their arguments by `eq_transitive`, where a path is more than an edge that says so.
-/// The last clause follows from exactly these steps, by `resolution`. No step is judged as it is logged. Equalities and negations that
+/// The last clause is what a chain of resolutions over these steps gives, and no more. No step is judged as it is logged. Equalities and negations that
 /// the clauses need come into the table. All steps that come are lemmas: they depend on each other alone, and speak of terms made of
 /// the listed ones.
 ///
 /// Conditions: the log is right over the table, the edges of the forest represent the facts, and these have the conflict. With each
 /// listed term its arguments are listed.
 ///
+/// An equality may be held and follow from others that are held too, so the denials of all that were told may be more than a chain gives.
+/// Which of them the last clause needs, unit propagation over the steps tells, and the way back from where it ends.
+///
 /// It takes time and memory in proportion to the paths that it tells, and the arguments of the applications on them. Its time is also that
-/// of the climbs which find the paths, and each edge on a path takes the logarithm of how many edges wait to be explained. `NoMemory`
-/// comes where a set, a list, a term or a step finds no memory; then table and log are as they were.
+/// of the climbs which find the paths, and each edge on a path takes the logarithm of how many edges wait to be explained. Propagation goes
+/// from the last step to the first, and looks again at those that wait for others, which are few in this order. `NoMemory` comes where a
+/// set, a list, a term or a step finds no memory; then table and log are as they were.
 /// Source: Nieuwenhuis and Oliveras, Information and Computation 205, 2007; Alethe specification, rules of equality.
 pub fn explain(
     alloc: Global,

@@ -3,6 +3,8 @@
 //! It goes from the newest edge down, since what an edge depends on is older, and explains each edge that is needed once.
 #![tactic(auto)]
 
+mod chain;
+mod choosing;
 mod claims;
 mod collecting;
 mod edges;

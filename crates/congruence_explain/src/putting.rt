@@ -5,6 +5,7 @@ ghost use Rattle.spec_text.specs.Trees.{none};
 ghost use Rattle.spec_rules.specs.Rules.{IsRight};
 ghost use Rattle.spec_rules.specs.Schemes.{signed_term};
 ghost use Rattle.spec_derivations.specs.Derivations.{by_rule, FollowsFrom};
+ghost use Rattle.spec_derivations.specs.Lemmas.{TakesNoMore};
 ghost use Rattle.term_core.specs.Tables.{term_at, clause_at};
 ghost use Rattle.proof_log.specs.Logs.{IsFormulaIn, AreFormulasIn, numbers_of, derivation_in};
 ghost use Rattle.term_clauses.specs.Stating.{Widens};
@@ -65,7 +66,7 @@ fn term_of(
 }
 
 /// Puts the terms of literals, in their order.
-fn terms_of(
+pub(crate) fn terms_of(
     alloc: Global,
     table: &mut TermTable,
     clause: &[SignedClaim],
@@ -83,7 +84,8 @@ fn terms_of(
     Ok(terms)
 }
 
-/// Logs a clause that follows by a rule from premises that came since the start, and gives the step's number.
+/// Logs a clause that follows by a rule from premises that came since the start, and gives the step's number. With premises, it is what a
+/// chain of resolutions over them gives.
 ///
 /// `NoMemory` comes where a term or the step finds no memory. Then the table may have more terms.
 pub(crate) fn put(
@@ -100,6 +102,8 @@ pub(crate) fn put(
     requires follows { FollowsFrom (derivation_in table.old log.old)
         (by_rule rule (numbers_of premises.items) none (map (claim_as_term start.table) clause.now)) }
     requires since { All (λ p. length start.log ≤ p.0) premises.items }
+    requires exact { TakesNoMore (derivation_in table.old log.old)
+        (by_rule rule (numbers_of premises.items) none (map (claim_as_term start.table) clause.now)) }
     ensures derives { Explains start (derived table.new log.new) }
     ensures put { IfOk result (HasPut start (derived table.old log.old) (derived table.new log.new)
         (map (claim_as_literal start.table) clause.now)) }

@@ -84,9 +84,10 @@ module _ (t u : TableView) where
   cut_same n log h front same below = derivation_kept log (cut n log h front below)
 
   -- lemmas stay lemmas
-  pub grown_lemmas : (ts : List Term) (n : ℕ) (before more : List Logged) → IsLogOf t (before ++ more) → Extends t u → All (λ l. IsLemma ts n (inference_of t l)) more → All (λ l. IsLemma ts n (inference_of u l)) more
+  pub grown_lemmas : (ts : List Term) (n : ℕ) (before more : List Logged) → IsLogOf t (before ++ more) → Extends t u → All (λ l. IsLemma ts (derivation_in t (before ++ more)) n (inference_of t l)) more → All (λ l. IsLemma ts (derivation_in u (before ++ more)) n (inference_of u l)) more
   unfolding IsKept
   grown_lemmas ts n before more h extends lemmas =
       let kept : All (λ l. All IsKept (named l)) more =
       subst (All (λ l. All IsKept (named l))) (drop-append_seam before more) (All-drop (λ l. All IsKept (named l)) (length before) (before ++ more) (grown (before ++ more) h extends)) in
-      λ k d lt. subst (IsLemma ts n) (sym (inference_kept (get_or more k d) (kept k d lt))) (lemmas k d lt)
+      λ k d lt. subst (λ (e : Derivation). IsLemma ts e n (inference_of u (get_or more k d))) (sym (grown_same (before ++ more) h extends))
+      (subst (IsLemma ts (derivation_in t (before ++ more)) n) (sym (inference_kept (get_or more k d) (kept k d lt))) (lemmas k d lt))

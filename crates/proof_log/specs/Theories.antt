@@ -15,7 +15,7 @@ use Rattle.sat_budget.specs.declared.limits.Stop.TheVariants.{Strained}
 use Rattle.sat_budget.specs.declared.limits.Stop.TheVariants as stops
 use Rattle.proof_log.specs.declared.theory.Verdict.{Verdict}
 use Rattle.proof_log.specs.declared.theory.Verdict.TheVariants.{Fine, Clash}
-use Rattle.proof_log.specs.Logs.{Logged, inference_of, IsFormulaIn, IsLogOf}
+use Rattle.proof_log.specs.Logs.{Logged, inference_of, derivation_in, IsFormulaIn, IsLogOf}
 use Rattle.proof_log.specs.Clashes.{IsClash}
 
 -- How many literals and terms a theory had at a mark.
@@ -117,7 +117,7 @@ pub record DerivesLemmas (ts : List Term) (old new : Derived) : Type 0 where
   -- the log is right over the table
   pub right : IsLogOf new.table new.log
   -- what came are lemmas
-  pub lemmas : All (λ l. IsLemma ts (length old.log) (inference_of new.table l)) more
+  pub lemmas : All (λ l. IsLemma ts (derivation_in new.table new.log) (length old.log) (inference_of new.table l)) more
 
 -- what a check answers of what is held and watched: that nothing is wrong with the literals, with what it changes; or a
 -- step whose

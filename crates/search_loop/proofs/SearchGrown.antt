@@ -107,10 +107,12 @@ module _ (t u : TableView) (g : Extends t u) (declared : declared_in u ≡ decla
     is : derivation_in u log ≡ derivation_in t x.log ++ map (inference_of u) more
     is = ap (derivation_in u) last ∙ map-append (inference_of u) x.log more ∙ ap (λ (d : Derivation). d ++ map (inference_of u) more) same
 
-    module _ (lemmas : All (λ (l : Logged). IsLemma (clause_at t x.terms.items) (length x.log) (inference_of u l)) more) (problem : Problem) (s : IsSearch t problem x) where
-      lemmas_of : All (IsLemma (whole_terms problem) (length (derivation_in t x.log))) (map (inference_of u) more)
-      lemmas_of = subst (λ (n : ℕ). All (IsLemma (whole_terms problem) n) (map (inference_of u) more)) (sym (length-map x.log (inference_of t)))
-          (All-map (IsLemma (whole_terms problem) (length x.log)) (inference_of u) more (λ k d lt. lemma_more (clause_at t x.terms.items) (whole_terms problem) (spoken t x problem s) (length x.log) (inference_of u (get_or more k d)) (lemmas k d lt)))
+    module _ (lemmas : All (λ (l : Logged). IsLemma (clause_at t x.terms.items) (derivation_in u log) (length x.log) (inference_of u l)) more) (problem : Problem) (s : IsSearch t problem x) where
+      lemmas_of : All (IsLemma (whole_terms problem) (derivation_in t x.log ++ map (inference_of u) more) (length (derivation_in t x.log))) (map (inference_of u) more)
+      lemmas_of = subst (λ (e : Derivation). All (IsLemma (whole_terms problem) e (length (derivation_in t x.log))) (map (inference_of u) more)) is
+          (subst (λ (n : ℕ). All (IsLemma (whole_terms problem) (derivation_in u log) n) (map (inference_of u) more)) (sym (length-map x.log (inference_of t)))
+          (All-map (IsLemma (whole_terms problem) (derivation_in u log) (length x.log)) (inference_of u) more
+          (λ k d lt. lemma_more (clause_at t x.terms.items) (whole_terms problem) (spoken t x problem s) (derivation_in u log) (length x.log) (inference_of u (get_or more k d)) (lemmas k d lt))))
 
       derived : HasDerived problem (derivation_in t x.log ++ map (inference_of u) more) (images t x.store.clauses) (images t x.budget.learned)
       derived = derived_lemmas problem (derivation_in t x.log) (images t x.store.clauses) (images t x.budget.learned) s.derived (map (inference_of u) more) (subst IsDerivation is right.right) lemmas_of
@@ -136,7 +138,7 @@ module _ (t u : TableView) (g : Extends t u) (declared : declared_in u ≡ decla
                 (subst (HasWholeClauses problem (derivation_in t x.log ++ map (inference_of u) more)) (sym (images_kept t u g x.store.clauses stored_in)) whole);
           }
 
-    pub continues_grown : All (λ (l : Logged). IsLemma (clause_at t x.terms.items) (length x.log) (inference_of u l)) more → Continues t u x (record x { log = log; fed = n })
+    pub continues_grown : All (λ (l : Logged). IsLemma (clause_at t x.terms.items) (derivation_in u log) (length x.log) (inference_of u l)) more → Continues t u x (record x { log = log; fed = n })
     continues_grown lemmas = record { table = g; declared = declared; limit = refl; more = []; learned = sym (append-nil x.budget.learned); vars = refl; terms = refl; search = search_grown lemmas }
 
   -- with terms alone

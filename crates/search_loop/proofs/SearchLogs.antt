@@ -86,12 +86,12 @@ last_at xs x k late lt =
     sym (get_or-append_seam xs x [] no_inference) ∙ ap (inference_at (xs ++ x ∷ [])) (sym is)
 
 -- those of a batch
-module _ (ts : List Term) (xs ys : Derivation) (all : All (IsLemma ts (length xs)) ys) where
-  in_batch : (n : ℕ) → length xs ≤ n → n < length (xs ++ ys) → IsLemma ts (length xs) (inference_at (xs ++ ys) n)
+module _ (ts : List Term) (xs ys : Derivation) (all : All (IsLemma ts (xs ++ ys) (length xs)) ys) where
+  in_batch : (n : ℕ) → length xs ≤ n → n < length (xs ++ ys) → IsLemma ts (xs ++ ys) (length xs) (inference_at (xs ++ ys) n)
   in_batch n from lt =
       let is : length xs + (n - length xs) ≡ n = omega (arith, from) in
       let there : inference_at ys (n - length xs) ≡ inference_at (xs ++ ys) n = sym (get_or-append-add xs ys (n - length xs) no_inference) ∙ ap (inference_at (xs ++ ys)) is in
-      subst (IsLemma ts (length xs)) there (all (n - length xs) no_inference (omega (arith, lt, from, length-append xs ys)))
+      subst (IsLemma ts (xs ++ ys) (length xs)) there (all (n - length xs) no_inference (omega (arith, lt, from, length-append xs ys)))
 
   lemma_in : (k : ℕ) → length xs ≤ k → k < length (xs ++ ys) → HasLemma ts (xs ++ ys) (literals_of (conclusion_at (xs ++ ys) k))
   lemma_in k late lt = record {
@@ -164,13 +164,13 @@ pub derived_stated : (problem : Problem) (d : Derivation) (cs ls : List (List Li
 derived_stated problem d cs ls h x right among i = derived_onward problem d (x ∷ []) cs ls h right (All-push (AssumesAmong (terms_of_problem problem)) [] x (λ k e lt. absurd (omega (arith, lt))) among) (one_stated d x ls h.steps i)
 
 -- lemmas come
-no_assumption : (problem : Problem) (n : ℕ) (x : Inference) → IsLemma (whole_terms problem) n x → AssumesAmong (terms_of_problem problem) x
-no_assumption problem n («assumption» t) i = absurd i
-no_assumption problem n (by_rule r ps given c) i = tt
+no_assumption : (problem : Problem) (d : Derivation) (n : ℕ) (x : Inference) → IsLemma (whole_terms problem) d n x → AssumesAmong (terms_of_problem problem) x
+no_assumption problem d n («assumption» t) i = absurd i
+no_assumption problem d n (by_rule r ps given c) i = tt
 
-pub derived_lemmas : (problem : Problem) (d : Derivation) (cs ls : List (List Literal)) → HasDerived problem d cs ls → (more : Derivation) → IsDerivation (d ++ more) → All (IsLemma (whole_terms problem) (length d)) more → HasDerived problem (d ++ more) cs ls
+pub derived_lemmas : (problem : Problem) (d : Derivation) (cs ls : List (List Literal)) → HasDerived problem d cs ls → (more : Derivation) → IsDerivation (d ++ more) → All (IsLemma (whole_terms problem) (d ++ more) (length d)) more → HasDerived problem (d ++ more) cs ls
 derived_lemmas problem d cs ls h more right lemmas =
-    derived_onward problem d more cs ls h right (λ k e lt. no_assumption problem (length d) (get_or more k e) (lemmas k e lt)) (some_lemmas d more ls h.steps lemmas)
+    derived_onward problem d more cs ls h right (λ k e lt. no_assumption problem (d ++ more) (length d) (get_or more k e) (lemmas k e lt)) (some_lemmas d more ls h.steps lemmas)
 
 -- the clause of an inference comes into the clauses
 pub derived_stored : (problem : Problem) (d : Derivation) (cs ls : List (List Literal)) → HasDerived problem d cs ls → (k : ℕ) → k < length d → HasDerived problem d (cs ++ literals_of (conclusion_at d k) ∷ []) ls

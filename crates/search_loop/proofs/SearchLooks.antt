@@ -88,8 +88,8 @@ module _ (t : TableView) (x : Search) (r : SearchFits t x) (v : TheoryView) (ask
     abbrev spent : Search
     spent = record checked { budget = b }
 
-    lemmas : All (λ (l : Logged). IsLemma (clause_at t x.terms.items) (length x.log) (inference_of u l)) d.more
-    lemmas = subst (λ (ids : List TermId). All (λ (l : Logged). IsLemma (clause_at t ids) (length x.log) (inference_of u l)) d.more) asked.terms d.lemmas
+    lemmas : All (λ (l : Logged). IsLemma (clause_at t x.terms.items) (derivation_in u log) (length x.log) (inference_of u l)) d.more
+    lemmas = subst (λ (ids : List TermId). All (λ (l : Logged). IsLemma (clause_at t ids) (derivation_in u log) (length x.log) (inference_of u l)) d.more) asked.terms d.lemmas
 
     pub looked_checked : HasLooked (state t x) (state u spent) (fed v w.literals)
     looked_checked = record {

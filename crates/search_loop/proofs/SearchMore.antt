@@ -37,7 +37,7 @@ module _ (p q : Problem) (asserted : q.asserted ≡ p.asserted) (assumed : q.ass
   steps_of_more _ _ nothing = nothing
   steps_of_more _ _ (stating xs x cs before i) = stating xs x cs (steps_of_more xs cs before) (clauses_of_more (conclusion x) i)
   steps_of_more _ _ (some_lemmas xs ys cs before all) = some_lemmas xs ys cs (steps_of_more xs cs before)
-      (All-weaker (IsLemma (whole_terms p) (length xs)) (IsLemma (whole_terms q) (length xs)) (lemma p q known (length xs)) ys all)
+      (All-weaker (IsLemma (whole_terms p) (xs ++ ys) (length xs)) (IsLemma (whole_terms q) (xs ++ ys) (length xs)) (lemma p q known (xs ++ ys) (length xs)) ys all)
   steps_of_more _ _ (learning xs x cs before by exact) = learning xs x cs (steps_of_more xs cs before) by exact
 
   -- each clause comes from there still

@@ -52,7 +52,7 @@ pub data AreSteps (p : Problem) : Derivation → List (List Literal) → Type 0 
       → Contains (whole_clauses p) (conclusion x) → AreSteps p (xs ++ x ∷ []) cs
   -- lemmas of a theory come, which depend on each other alone
   lemmas : (xs ys : Derivation) (cs : List (List Literal)) → AreSteps p xs cs
-      → All (IsLemma (whole_terms p) (length xs)) ys → AreSteps p (xs ++ ys) cs
+      → All (IsLemma (whole_terms p) (xs ++ ys) (length xs)) ys → AreSteps p (xs ++ ys) cs
   -- a clause is learned, by resolution
   learning : (xs : Derivation) (x : Inference) (cs : List (List Literal)) → AreSteps p xs cs → IsByResolution x
       → IsNoWeaker xs x → AreSteps p (xs ++ x ∷ []) (cs ++ literals_of (conclusion x) ∷ [])

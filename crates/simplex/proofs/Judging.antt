@@ -17,7 +17,7 @@ use Rattle.sat_budget.specs.declared.limits.Stop.{Stop}
 use Rattle.sat_budget.specs.declared.limits.Stop.TheVariants.{Strained}
 use Rattle.sat_budget.specs.declared.limits.Stop.TheVariants as stops
 use Rattle.proof_log.specs.Theories.{IsTheoryOver, terms_watched, literals_held, DerivesLemmas}
-use Rattle.proof_log.specs.Logs.{Logged, inference_of, IsLogOf}
+use Rattle.proof_log.specs.Logs.{Logged, inference_of, derivation_in, IsLogOf}
 use Rattle.proof_log.specs.declared.theory.Verdict.{Verdict}
 use Rattle.proof_log.specs.declared.theory.Verdict.TheVariants as verdicts
 use Rattle.proof_log.specs.declared.premises.StepId.{StepId}
@@ -138,7 +138,7 @@ nothing_came ts t log right = record {
   more = [];
   log = sym (append-nil log);
   right = right;
-  lemmas = All-nil (λ l. IsLemma ts (length log) (inference_of t l));
+  lemmas = All-nil (λ l. IsLemma ts (derivation_in t log) (length log) (inference_of t l));
 }
 
 -- another answer than that nothing is wrong

@@ -1,5 +1,5 @@
 -- The step that was logged: what it says, that it is a lemma, and that its clause is false where the literals hold.
-use Rattle.std.proofs.Common.{◌≡◌, ◌<◌, Bool, true, false, List, [], ◌∷◌, length, map, get_or, refl, sym, ap, ◌∙◌, subst, arith, length-append}
+use Rattle.std.proofs.Common.{◌≡◌, ◌<◌, inl, Bool, true, false, List, [], ◌∷◌, length, map, get_or, refl, sym, ap, ◌∙◌, subst, arith, length-append}
 use Rattle.std.specs.Prelude.{All, Contains}
 use Rattle.std.proofs.Math.Seq.{get_or-append_seam}
 use Rattle.std.proofs.lemmas.List.Elements.{All-nil, All-cons, All-map, All-head, All-tail, All-contains}
@@ -19,7 +19,7 @@ use Rattle.clause_literals.specs.Literals.{lit_complement}
 use Rattle.clause_literals.proofs.LiteralLists.{negation_twice}
 use Rattle.clause_literals.proofs.TableLiterals.{literals_apart}
 use Rattle.proof_log.specs.declared.premises.StepId.{StepId}
-use Rattle.proof_log.specs.Logs.{Logged, named, logged_at, no_logged, inference_of}
+use Rattle.proof_log.specs.Logs.{Logged, named, logged_at, no_logged, inference_of, derivation_in}
 use Rattle.proof_log.specs.Clashes.{HasLit, IsClash, literals_in}
 use Rattle.proof_log.specs.Theories.{DerivesLemmas, IsAtomIn}
 use Rattle.term_clauses.specs.Stating.{Widens}
@@ -75,9 +75,9 @@ module _ (t u : TableView) (old new : List Logged) (rs : List Weighted) (id : St
       more = refuting (weights_of rs) s.clause ∷ [];
       log = s.added.last;
       right = s.added.right;
-      lemmas = All-cons (λ l. IsLemma terms (length old) (inference_of u l)) (refuting (weights_of rs) s.clause) []
-          (λ k d lt. absurd (omega (arith, lt)), subst (λ (c : List Term). All (IsMadeOf terms) c) (sym s.says) (denials_made terms t rs reasons))
-          (All-nil (λ l. IsLemma terms (length old) (inference_of u l)));
+      lemmas = All-cons (λ l. IsLemma terms (derivation_in u new) (length old) (inference_of u l)) (refuting (weights_of rs) s.clause) []
+          (λ k d lt. absurd (omega (arith, lt)), subst (λ (c : List Term). All (IsMadeOf terms) c) (sym s.says) (denials_made terms t rs reasons), inl refl)
+          (All-nil (λ l. IsLemma terms (derivation_in u new) (length old) (inference_of u l)));
     }
 
     literals_are : literals_in u new id ≡ map (λ (r : Weighted). complement (literal_at t r.literal)) rs

@@ -1,13 +1,14 @@
 -- Exact chains: how one is made, and what stands in none.
-use Rattle.std.proofs.Common.{◌≡◌, ◌≢◌, ◌⊎◌, Bool, true, false, not, List, [], ◌∷◌, ◌++◌, Contains, inl, inr, refl, sym, ap, ◌∙◌, subst}
+use Rattle.std.proofs.Common.{◌≡◌, ◌≢◌, ◌⊎◌, Bool, true, false, not, List, [], ◌∷◌, ◌++◌, map, Contains, inl, inr, refl, sym, ap, ◌∙◌, subst}
 use Rattle.std.specs.Prelude.{◌↔◌, filter}
 use Rattle.std.specs.List.{AllByRecursion}
 use Rattle.std.proofs.lemmas.Bool.{false≢true, not-true}
 use Rattle.std.proofs.lemmas.List.Elements.{All-contains, All-contains_itself, All-filter, filter_passes, Contains-append_left, Contains-append_right, Contains-append_cases}
-use Rattle.spec_text.proofs.Members.{first, later, cases, none, only, in_filter}
+use Rattle.spec_text.proofs.Members.{first, later, cases, none, only, in_filter, to_image}
 use Rattle.spec_sorts.specs.Terms.{Term}
 use Rattle.spec_sorts.specs.Literals.{Literal, complement}
 use Rattle.spec_sorts.proofs.General.{complement-twice}
+use Rattle.spec_proofs.specs.Resolution.{Derives, given as given_there, unit, Conflicts, false_clause, Resolves}
 use Rattle.spec_derivations.specs.Learned.{same_literal}
 use Rattle.spec_derivations.specs.ExactChains.{HasSame, IsExactBinary, AreGone, IsExactChain, begin, resolve, IsExactResolvent, AreExactResolvents, AreAlike, IsNoTautology}
 use Rattle.spec_derivations.proofs.Learned.{literals_decide, decide_literals}
@@ -175,3 +176,17 @@ learned_alike test Given each [] h = tt
 learned_alike test Given each (x ∷ xs) h =
     let this = chain_alike Given test each h.0.0 x h.0.1 in
     (this, learned_alike test (λ d. Given d ⊎ (d ≡ x)) (λ d g. elim g [ inl old ↦ each d old | inr e ↦ subst (AreAlike test) (sym e) this ]) xs h.1)
+
+-- what a chain gives follows by propagation
+module _ (premises : List (List Literal)) (assumed : List Literal) where
+  chain_refutes : (pivots clause : List Literal) → IsExactChain complement (Contains premises) pivots clause → ((m : Literal) → Contains clause m → Derives complement premises assumed (complement m)) → Conflicts complement premises assumed
+  chain_refutes _ clause (begin c _ given same) each = false_clause c given (λ m i. each m ((same m).0 i))
+  chain_refutes _ clause (resolve pivot pivots so_far c _ chain given b gone) each =
+      let derived : Derives complement premises assumed (complement pivot) = unit c (complement pivot) given b.in_other (λ m i ne. each m ((b.rest m).1 (inr (i, ne)))) in
+      chain_refutes pivots so_far chain (λ m i. elim (decide_literals m pivot) [
+        | inl e ↦ subst (λ (x : Literal). Derives complement premises assumed (complement x)) (sym e) derived
+        | inr ne ↦ each m ((b.rest m).1 (inl (i, ne)))
+      ])
+
+pub exact_resolves : (premises : List (List Literal)) (clause : List Literal) → IsExactResolvent complement (Contains premises) clause → Resolves complement premises clause
+exact_resolves premises clause h = chain_refutes premises (map complement clause) h.0 clause h.1 (λ m i. given_there (complement m) (to_image complement clause m i))

@@ -45,9 +45,9 @@ made_more ts us among _ (is_equality t u a b) = is_equality t u (made_more ts us
 made_more ts us among _ (is_negation t a) = is_negation t (made_more ts us among t a)
 
 -- so lemmas over some are lemmas over more
-pub lemma_more : (ts us : List Term) → AreAmong ts us → (n : ℕ) (x : Inference) → IsLemma ts n x → IsLemma us n x
-lemma_more ts us among n («assumption» t) i = absurd i
-lemma_more ts us among n (by_rule r ps arguments c) i = (i.0, All-weaker (IsMadeOf ts) (IsMadeOf us) (made_more ts us among) c i.1)
+pub lemma_more : (ts us : List Term) → AreAmong ts us → (d : Derivation) (n : ℕ) (x : Inference) → IsLemma ts d n x → IsLemma us d n x
+lemma_more ts us among d n («assumption» t) i = absurd i
+lemma_more ts us among d n (by_rule r ps arguments c) i = (i.0, All-weaker (IsMadeOf ts) (IsMadeOf us) (made_more ts us among) c i.1, i.2)
 
 -- and a derivation has them
 pub has_lemma_more : (ts us : List Term) → AreAmong ts us → (d : Derivation) (c : List Literal) → HasLemma ts d c → HasLemma us d c
@@ -56,7 +56,7 @@ has_lemma_more ts us among d c h = record {
   there = h.there;
   since = h.since;
   begun = h.begun;
-  batch = λ n from to. lemma_more ts us among h.since (inference_at d n) (h.batch n from to);
+  batch = λ n from to. lemma_more ts us among d h.since (inference_at d n) (h.batch n from to);
   same = h.same;
 }
 
@@ -91,7 +91,7 @@ module _ (p q : Problem) (h : AreAmong (known_terms p) (known_terms q)) where
   pub over : (c : List Literal) → IsOverAtoms p c → IsOverAtoms q c
   over c = All-weaker (λ (l : Literal). IsAtomOf p l.atom) (λ (l : Literal). IsAtomOf q l.atom) (λ l. atom l.atom) c
 
-  pub lemma : (n : ℕ) (x : Inference) → IsLemma (whole_terms p) n x → IsLemma (whole_terms q) n x
+  pub lemma : (d : Derivation) (n : ℕ) (x : Inference) → IsLemma (whole_terms p) d n x → IsLemma (whole_terms q) d n x
   lemma = lemma_more (whole_terms p) (whole_terms q) whole
 
   -- the clauses of more terms, with more of them alone

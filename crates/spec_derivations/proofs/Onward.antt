@@ -1,14 +1,15 @@
 -- What is derived stays derived with further steps, and a clause may be learned after others.
-use Rattle.std.proofs.Common.{◌≡◌, ℕ, ◌<◌, List, [], ◌∷◌, ◌++◌, length, take, map, Contains, ◌⊎◌, inl, inr, sym, ap, ◌∙◌, subst, arith}
+use Rattle.std.proofs.Common.{◌≡◌, ℕ, ◌<◌, List, [], ◌∷◌, ◌++◌, length, take, map, All, Contains, ◌⊎◌, inl, inr, refl, sym, ap, ap₂, ◌∙◌, subst, arith}
 use Rattle.std.proofs.lemmas.List.{append_assoc, append-nil, length-append, length-take-le, get_or_append_left}
-use Rattle.std.proofs.lemmas.List.Elements.{All-append, All-cons, All-nil}
+use Rattle.std.proofs.lemmas.List.Elements.{All-append, All-cons, All-head, All-nil, All-tail}
 use Rattle.spec_sorts.specs.Terms.{Term}
 use Rattle.spec_sorts.specs.Literals.{Literal, complement, literals_of}
 use Rattle.spec_derivations.specs.Problems.{Problem, terms_of_problem}
 use Rattle.spec_derivations.specs.Orders.{first_clauses}
 use Rattle.spec_derivations.specs.Lemmas.{IsLemma, HasLemma}
 use Rattle.spec_derivations.specs.Inputs.{IsInput}
-use Rattle.spec_derivations.specs.Derivations.{Inference, Derivation, conclusion, premises_of, no_inference, inference_at, IsDerivation, DependsOn, itself, by_premise, AssumesAmong, IsDerivedFrom}
+use Rattle.spec_derivations.specs.ExactChains.{IsExactResolvent, IsExactFrom}
+use Rattle.spec_derivations.specs.Derivations.{Inference, «assumption», by_rule, Derivation, conclusion, premises_of, no_inference, inference_at, conclusion_at, IsDerivation, DependsOn, itself, by_premise, AssumesAmong, IsDerivedFrom}
 use Rattle.spec_derivations.specs.Learned.{IsNew, AreNew}
 use Rattle.spec_derivations.specs.Spent.{IsLearnedFrom, IsOverAtoms, AreLearned, CanLearnMore}
 use Rattle.spec_derivations.proofs.Derivations.{follows_at}
@@ -44,14 +45,33 @@ module _ (d more : Derivation) where
     same = ap (λ x. literals_of (conclusion x)) (kept_at h.number h.derived.there) ∙ h.same;
   }
 
-  -- lemmas stay such
+  -- clauses of numbers stay the same
+  clauses_kept : (ns : List ℕ) → All (λ m. m < length d) ns → map literals_of (map (conclusion_at (d ++ more)) ns) ≡ map literals_of (map (conclusion_at d) ns)
+  clauses_kept [] low = refl
+  clauses_kept (n ∷ ns) low = ap₂ (λ (c : List Literal) (cs : List (List Literal)). c ∷ cs) (ap (λ x. literals_of (conclusion x)) (kept_at n (All-head (λ m. m < length d) n ns low))) (clauses_kept ns (All-tail (λ m. m < length d) n ns low))
+
+  -- so what a chain over them gives it gives still
+  exact_onward : (x : Inference) → All (λ m. m < length d) (premises_of x) → IsExactFrom d x → IsExactFrom (d ++ more) x
+  exact_onward («assumption» t) low h = h
+  exact_onward (by_rule r ps arguments c) low h = subst (λ (cs : List (List Literal)). IsExactResolvent complement (Contains cs) (literals_of c)) (sym (clauses_kept ps low)) h
+
+  -- a lemma stays one
+  pub lemma_onward : (ts : List Term) (n : ℕ) (x : Inference) → IsLemma ts d n x → IsLemma ts (d ++ more) n x
+  lemma_onward ts n («assumption» t) i = i
+  lemma_onward ts n (by_rule r ps arguments c) i = (
+    λ k e lt. ((i.0 k e lt).0, omega (arith, (i.0 k e lt).1, length-append d more)),
+    i.1,
+    elim i.2 [ inl bare ↦ inl bare | inr exact ↦ inr (exact_onward (by_rule r ps arguments c) (λ k e lt. (i.0 k e lt).1) exact) ],
+  )
+
+  -- and a derivation has it still
   pub has_lemma_onward : (ts : List Term) (c : List Literal) → HasLemma ts d c → HasLemma ts (d ++ more) c
   has_lemma_onward ts c h = record {
     number = h.number;
     there = omega (arith, h.there, length-append d more);
     since = h.since;
     begun = h.begun;
-    batch = λ n from to. subst (IsLemma ts h.since) (sym (kept_at n (omega (arith, to, h.there)))) (h.batch n from to);
+    batch = λ n from to. subst (IsLemma ts (d ++ more) h.since) (sym (kept_at n (omega (arith, to, h.there)))) (lemma_onward ts h.since (inference_at d n) (h.batch n from to));
     same = ap (λ x. literals_of (conclusion x)) (kept_at h.number h.there) ∙ h.same;
   }
 

@@ -1,5 +1,5 @@
 -- The eight disjunctions, with a constant of which they say nothing.
-use Rattle.std.specs.Prelude.{◌≡◌, ◌⊎◌, List, [], ◌∷◌, ◌++◌, map, codes}
+use Rattle.std.specs.Prelude.{◌≡◌, ◌⊎◌, List, [], ◌∷◌, ◌++◌, map, codes, Contains}
 use Rattle.spec_sorts.specs.Terms.{Or, Truth, Term, of, negated, constant, constant_term}
 use Rattle.spec_sorts.specs.Literals.{Literal, literals_of}
 use Rattle.spec_rules.specs.Examples.{p, q}
@@ -25,3 +25,7 @@ copy = literals_of (negated p ∷ negated q ∷ idle ∷ [])
 -- the constant, or that it is true or not
 abbrev pub IsIdle : Term → Type 0
 IsIdle t = (t ≡ idle) ⊎ (t ≡ idle_or_not)
+
+-- all atoms of the clause are such, or none is
+abbrev pub IsUnmixed : List Literal → Type 0
+IsUnmixed c = ((l : Literal) → Contains c l → IsIdle l.atom) ⊎ ((l : Literal) → Contains c l → IsIdle l.atom → ⊥)

@@ -1,17 +1,16 @@
 //! What exact chains of resolutions imply. Each law is a function whose contract is the law; it computes nothing.
 
-ghost use Rattle.std.specs.Prelude.{◌≡◌, Bool, List, [], ◌∷◌, ◌++◌, map, All, Contains};
+ghost use Rattle.std.specs.Prelude.{◌≡◌, ℕ, ◌<◌, Bool, List, [], ◌∷◌, ◌++◌, map, length, All, Contains};
 ghost use Rattle.spec_sorts.specs.Terms.{Term};
 ghost use Rattle.spec_sorts.specs.Literals.{Literal, complement, literals_of};
-ghost use Rattle.spec_derivations.specs.Derivations.{Derivation};
-ghost use Rattle.spec_derivations.specs.Orders.{whole_terms, first_clauses};
-ghost use Rattle.spec_derivations.specs.Lemmas.{HasLemma};
+ghost use Rattle.spec_derivations.specs.Derivations.{Derivation, premises_of, inference_at, conclusion_at};
+ghost use Rattle.spec_derivations.specs.Orders.{first_clauses};
 ghost use Rattle.spec_derivations.specs.Learned.{IsNew};
 ghost use Rattle.spec_derivations.specs.ExactChains.{IsExactResolvent, AreExactResolvents};
 ghost use Rattle.spec_derivations.specs.ExactChains.{AreAlike, IsNoTautology};
 ghost use Rattle.spec_derivations.specs.Spent.{AreLearned};
 ghost use Rattle.spec_derivations.specs.Examples.{asserting, eight, not_both};
-ghost use Rattle.spec_derivations.specs.Copies.{idle, idle_or_not, given, copy, IsIdle};
+ghost use Rattle.spec_derivations.specs.Copies.{idle, idle_or_not, given, copy, IsIdle, IsUnmixed};
 
 /// States that each literal of what a chain gives is one of a premise. So a clause with an atom that stands in none
 /// comes by no chain.
@@ -43,8 +42,8 @@ pub fn chains_need_no_tautology()
 /// States that of the eight disjunctions a chain gives `(cl (not p) (not q))`, and that no chain gives a copy of it
 /// with an idle literal, though such a copy is new. Given are their base clauses, and those of `(or z (not z))`. Of what
 /// is learned by chains, one after the other, no clause has a literal of `z` and one of another atom but that
-/// disjunction. Nor has one that a check of these terms learns in a derivation without lemmas, though the copy is new
-/// over all clauses with which its search begins.
+/// disjunction. Nor has one that a check of these terms learns where no inference without premises has both, though the
+/// copy is new over all clauses with which its search begins. So none comes by a lemma that has premises.
 pub fn copies_come_by_no_chain()
     ensures first { IsExactResolvent complement (Contains given) (literals_of not_both) }
     ensures copy_is_new { IsNew given copy }
@@ -53,7 +52,7 @@ pub fn copies_come_by_no_chain()
         → (l m : Literal) → Contains c l → l.atom ≡ idle → Contains c m → IsIdle m.atom }
     ensures new_at_first { IsNew (map literals_of (first_clauses (asserting (eight ++ idle_or_not ∷ [])))) copy }
     ensures none_learned { (d : Derivation) (learned : List (List Literal))
-        → ((c : List Literal) → HasLemma (whole_terms (asserting (eight ++ idle_or_not ∷ []))) d c → ⊥)
+        → ((n : ℕ) → n < length d → premises_of (inference_at d n) ≡ [] → IsUnmixed (literals_of (conclusion_at d n)))
         → AreLearned (asserting (eight ++ idle_or_not ∷ [])) d learned → (c : List Literal) → Contains learned c
         → (l m : Literal) → Contains c l → l.atom ≡ idle → Contains c m → IsIdle m.atom }
 {

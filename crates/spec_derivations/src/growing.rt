@@ -26,8 +26,8 @@ pub fn problems_speak_of_more()
         → IsAtomOf p t → IsAtomOf q t }
     ensures over { (p q : Problem) (c : List Literal) → AreAmong (known_terms p) (known_terms q)
         → IsOverAtoms p c → IsOverAtoms q c }
-    ensures lemmas { (p q : Problem) (n : ℕ) (x : Inference) → AreAmong (known_terms p) (known_terms q)
-        → IsLemma (whole_terms p) n x → IsLemma (whole_terms q) n x }
+    ensures lemmas { (p q : Problem) (d : Derivation) (n : ℕ) (x : Inference) → AreAmong (known_terms p) (known_terms q)
+        → IsLemma (whole_terms p) d n x → IsLemma (whole_terms q) d n x }
     ensures clauses { (p q : Problem) → AreAmong p.asserted q.asserted → AreAmong (known_terms p) (known_terms q)
         → IsWithin (whole_clauses p) (whole_clauses q) }
 {}

@@ -7,5 +7,5 @@ ghost-collect g a = g.start
 abbrev pub ghost-tell_apart : goal.ghost-tell_apart
 ghost-tell_apart g a = g.start
 
-abbrev pub ghost-put : goal.ghost-put
-ghost-put g a = g.start
+abbrev pub ghost-put_needed : goal.ghost-put_needed
+ghost-put_needed g a = g.start

@@ -39,5 +39,5 @@ returns g c =
     let l : stepped rule c.from.result c.from-2.result c.from-3.result ≡ stepped rule c.args.premises.items [] c.in_ok-terms.terms.items =
     (λ i. stepped rule (c.from.ensures i) ((c.from-2.ensures ∙ ap fractions_of c.new.ensures.items) i) (c.from-3.ensures i)) in
     let added = subst (λ (x : Logged). MatchResult c.add_right.result (λ id. IsAdded u log x id new) (λ _. new ≡ log)) l c.add_right.ensures in
-    let all = put_result g.start c.args.table.now u log c.requires.0 c.terms_of.ensures.wider c.args.clause.now c.requires.1.0 c.in_ok-terms.terms.items c.in_ok-terms.ensures.means.1 rule c.args.premises.items c.requires.1.1.1 new c.add_right.result added in
+    let all = put_result g.start c.args.table.now u log c.requires.0 c.terms_of.ensures.wider c.args.clause.now c.requires.1.0 c.in_ok-terms.terms.items c.in_ok-terms.ensures.means.1 rule c.args.premises.items c.requires.1.1.1.0 c.requires.1.1.0 c.requires.1.1.1.1 new c.add_right.result added in
     record { derives = all.0; put = all.1 }

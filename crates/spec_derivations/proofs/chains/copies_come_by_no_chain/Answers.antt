@@ -26,7 +26,7 @@ pub returns-clause-new_at_first : goal.returns-clause-new_at_first
 returns-clause-new_at_first c = new_at_first
 
 pub returns-clause-none_learned : goal.returns-clause-none_learned
-returns-clause-none_learned c d learned no_lemma h e e_in l m l_in is m_in =
-    let each = learned_alike is_idle (IsInput (asserting (eight ++ idle_or_not ∷ [])) d) (input_alike d no_lemma) learned h.exact in
+returns-clause-none_learned c d learned bare h e e_in l m l_in is m_in =
+    let each = learned_alike is_idle (IsInput (asserting (eight ++ idle_or_not ∷ [])) d) (input_alike d h.right bare) learned h.exact in
     let alike = All-contains (AreAlike is_idle) learned e (All-from_recursion (AreAlike is_idle) learned each) e_in in
     idle_is m.atom (sym (alike l m l_in m_in) ∙ is_idle_by l.atom (inl is))

@@ -15,7 +15,7 @@ pub returns-clause-over : goal.returns-clause-over
 returns-clause-over c p q x h a = over p q h x a
 
 pub returns-clause-lemmas : goal.returns-clause-lemmas
-returns-clause-lemmas c p q n x h i = lemma p q h n x i
+returns-clause-lemmas c p q d n x h i = lemma p q h d n x i
 
 pub returns-clause-clauses : goal.returns-clause-clauses
 returns-clause-clauses c p q a h = clauses p q h a

@@ -3,7 +3,7 @@ use Rattle.std.proofs.Common.{rules, [], length, refl, sym, append-nil}
 use Rattle.std.proofs.lemmas.List.Elements.{All-nil}
 use Rattle.spec_derivations.specs.Lemmas.{IsLemma}
 use Rattle.term_core.proofs.TermsExtend.{Extends-self}
-use Rattle.proof_log.specs.Logs.{inference_of}
+use Rattle.proof_log.specs.Logs.{inference_of, derivation_in}
 use Rattle.proof_log.specs.Theories.{terms_watched}
 use Rattle.held_literals.proofs.propositional.PropositionalTheoryTheory.check.Goals as goal
 
@@ -23,7 +23,7 @@ returns c =
           more = [];
           log = sym (append-nil log);
           right = c.requires.log;
-          lemmas = All-nil (λ l. IsLemma (terms_watched t c.args.self.now) (length log) (inference_of t l));
+          lemmas = All-nil (λ l. IsLemma (terms_watched t c.args.self.now) (derivation_in t log) (length log) (inference_of t l));
         },
       );
       came = λ ts n h. h;

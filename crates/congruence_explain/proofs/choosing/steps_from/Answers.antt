@@ -5,7 +5,7 @@ use Rattle.std.proofs.lemmas.List.Elements.{All-nil, All-push}
 use Rattle.proof_log.specs.declared.premises.StepId.{StepId}
 use Rattle.proof_log.specs.Logs.{AreStepsOf, logged_at}
 use Rattle.congruence_explain.proofs.Concluding.{numbers_more, numbers_all}
-use Rattle.congruence_explain.proofs.explaining.steps_from.Goals as goal
+use Rattle.congruence_explain.proofs.choosing.steps_from.Goals as goal
 
 pub steps-init : goal.steps-init
 steps-init c = record {

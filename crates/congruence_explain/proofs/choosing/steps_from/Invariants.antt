@@ -3,7 +3,7 @@ use Rattle.std.proofs.Common.{◌≡◌, ◌≤◌, ◌++◌, map, drop}
 use Rattle.std.specs.Prelude.{All}
 use Rattle.proof_log.specs.declared.premises.StepId.{StepId}
 use Rattle.proof_log.specs.Logs.{AreStepsOf, logged_at}
-use Rattle.congruence_explain.proofs.explaining.steps_from.Given as goal
+use Rattle.congruence_explain.proofs.choosing.steps_from.Given as goal
 
 abbrev pub invariant-steps : goal.invariant-steps
 invariant-steps l = record {

@@ -1,0 +1,43 @@
+-- Which literals a last clause keeps.
+use Rattle.std.specs.Prelude.{◌≡◌, ℕ, ◌<◌, List, map, length, get_or, Contains}
+use Rattle.spec_sorts.specs.Literals.{complement}
+use Rattle.spec_derivations.specs.ExactChains.{IsExactResolvent}
+use Rattle.spec_proofs.specs.Resolution.{IsWithin}
+use Rattle.term_core.specs.declared.ids.Lit.{Lit}
+use Rattle.proof_log.specs.declared.premises.StepId.{StepId}
+use Rattle.proof_log.specs.Clashes.{literals_in}
+use Rattle.proof_log.specs.Theories.{Derived}
+use Rattle.congruence_explain.specs.declared.claims.SignedClaim.{SignedClaim}
+use Rattle.congruence_explain.specs.Claims.{claim_as_literal}
+use Rattle.congruence_explain.specs.Steps.{Start, steps_since, AreNumbersFrom}
+
+-- Of the claims of a clause those are kept whose literals are needed.
+pub record AreKept (needed literals : List Lit) (clause kept : List SignedClaim) : Type 0 where
+  -- each is one whose literal is needed
+  pub only : (s : SignedClaim) (d : Lit) → Contains kept s → (k : ℕ) × (k < length clause) × (get_or clause k s ≡ s)
+      × Contains needed (get_or literals k d)
+  -- and they are all
+  pub all : (k : ℕ) (s : SignedClaim) (d : Lit) → k < length clause → Contains needed (get_or literals k d)
+      → Contains kept (get_or clause k s)
+
+-- The steps since the start, and claims of a clause, whose literals are what a chain of resolutions over these steps
+-- gives, and no more.
+pub record IsChosen (start : Start) (now : Derived) (clause : List SignedClaim) (steps : List StepId)
+    (kept : List SignedClaim) : Type 0 where
+  -- the steps
+  pub numbers : AreNumbersFrom now.log (length start.log) steps
+  -- each claim is of the clause
+  pub within : IsWithin kept clause
+  -- a chain gives them
+  pub comes : IsExactResolvent complement (Contains (steps_since start now)) (map (claim_as_literal start.table) kept)
+
+-- A clause is logged that has claims of another one, and no others.
+pub record HasPutSome (start : Start) (now : Derived) (clause : List SignedClaim) (id : StepId) : Type 0 where
+  -- its claims
+  pub kept : List SignedClaim
+  -- they are of the other one
+  pub within : IsWithin kept clause
+  -- its number
+  pub there : id.0 < length now.log
+  -- is that of the clause
+  pub literals : literals_in now.table now.log id ≡ map (claim_as_literal start.table) kept
