@@ -1,6 +1,6 @@
 //! The order of variables by activity.
 
-ghost use Rattle.std.specs.Prelude.{◌≡◌, ◌<◌, ◌++◌, ◌∷◌, [], true, false, length, set, OnOk, OnErr, MatchOption};
+ghost use Rattle.std.specs.Prelude.{◌≡◌, ◌<◌, ◌++◌, ◌∷◌, [], true, false, length, get_or, set, OnOk, OnErr, MatchOption};
 ghost use Rattle.variable_order.specs.Orders.{IsEmpty, IsRemoved};
 
 use crate::places::Places;
@@ -84,6 +84,14 @@ impl VariableOrder {
         ensures { result ≡ length self.now }
     {
         self.places.vars() as u64
+    }
+
+    /// Tells whether a variable is in the order. It takes no memory.
+    pub fn has(&self, v: TermId) -> bool
+        requires known { v.0 < length self.now }
+        ensures { result ≡ get_or self.now v.0 false }
+    {
+        self.places.place(v).is_some()
     }
 
     /// Puts a variable into the order; where it is in, nothing changes. It takes no memory.
