@@ -9,12 +9,12 @@ use Rattle.term_core.specs.Tables.{Shape}
 use Rattle.class_table.specs.Classes.{AreSame}
 use Rattle.explain_forest.specs.Forest.{Linked}
 use Rattle.congruence_relation.specs.Relation.{Application, truth_of, IsEquality, StatesEqual, decides, equates}
-use Rattle.congruence_relation.specs.Edges.{Meet}
+use Rattle.congruence_relation.specs.Edges.{Meet, HasLinkedSidesIn}
 use Rattle.congruence_closure.specs.Closure.{denial}
 use Rattle.congruence_closure.specs.Listed.{nth, HasPlace, equality_of}
 use Rattle.congruence_closure.specs.Keys.{key_of, IsHeld}
 use Rattle.congruence_closure.specs.State.{PartsState, IsApart, PartsFit}
-use Rattle.congruence_closure.specs.Changes.{IsAgainst, IsGiven}
+use Rattle.congruence_closure.specs.Changes.{IsGiven}
 use Rattle.congruence_closure.proofs.Denials.{held_there}
 use Rattle.congruence_closure.proofs.Steps.{holder_key, holder_listed, holder_part}
 use Rattle.congruence_closure.proofs.Terms.{cons_same, place_of, at_place, arguments_low, sides_low, same_roots}
@@ -56,10 +56,9 @@ module _ (s : PartsState) (h : PartsFit s) (i : ℕ) (there : i < length s.facts
   pub apart_held : (Contains s.facts.held (denial (nth s.facts.listed i).term) → ⊥) → IsApart s i
   apart_held absent j a b low is shape same = absent (subst (Contains s.facts.held) is (held_there s.facts.held j (omega (arith, low, h.given))))
 
-  -- one with linked sides that is denied is against what is held
-  pub against : (a b : TermId) → (nth s.facts.listed i).shape ≡ equality_of a b → (nth s.facts.listed i).takes_part ≡ true → Linked s.edges a.0 b.0 → Contains s.facts.held (denial (nth s.facts.listed i).term) → IsAgainst s i
-  against a b shape part linked denied =
-      (denied, (a, b, record { at = nth s.facts.listed i; there = at_place s.facts.listed i there; term = refl; shape = shape }, part, linked))
+  -- an equality that takes part, with linked sides
+  pub linked_sides : (a b : TermId) → (nth s.facts.listed i).shape ≡ equality_of a b → (nth s.facts.listed i).takes_part ≡ true → Linked s.edges a.0 b.0 → HasLinkedSidesIn s.facts s.edges (nth s.facts.listed i).term
+  linked_sides a b shape part linked = (a, b, record { at = nth s.facts.listed i; there = at_place s.facts.listed i there; term = refl; shape = shape }, part, linked)
 
   -- another term of one key has linked arguments
   pub they_meet : (nth s.facts.listed i).takes_part ≡ true → (holder : ℕ) → IsHeld s.keys (key_of s.numbers (nth s.facts.listed i).shape) holder → Meet s.facts s.edges (nth s.facts.listed i).term (nth s.facts.listed holder).term

@@ -111,7 +111,7 @@ impl Closure {
 
     /// Makes the edges link all that is congruent, or gives a conflict of what is held. At once where it is saturated.
     ///
-    /// `NoMemory` comes where it finds no memory; then it can be called again, and goes on.
+    /// What it meets on the way is in `noted`. `NoMemory` comes where it finds no memory; then it can be called again, and goes on.
     pub fn saturate(&mut self) -> Result<Option<Conflict>, NoMemory>
         ensures facts { self.new.now.facts ≡ self.old.now.facts }
         ensures marks { self.new.marks ≡ self.old.marks }
@@ -125,6 +125,25 @@ impl Closure {
         let found = self.parts.saturate()?;
         self.saturated = found.is_none();
         Ok(found)
+    }
+
+    /// Lends terms that came to be true or false by what is held, since they were forgotten, or since it went back. They are equalities with
+    /// linked sides, and what came into the class of a truth value. `saturate` notes them as it meets them, and some may be there twice. It
+    /// takes no memory.
+    pub fn noted(&self) -> &[TermId] {
+        self.parts.noted.as_slice()
+    }
+
+    /// Forgets the noted terms. It takes no memory.
+    pub fn forget_noted(&mut self)
+        ensures { self.new ≡ self.old }
+    {
+        self.parts.forget_noted();
+    }
+
+    /// Tells whether a term is true or false by the classes, where they say so. It takes no memory.
+    pub fn truth(&self, t: TermId) -> Option<bool> {
+        self.parts.truth(t)
     }
 
     /// Tells whether two terms are congruent by what is held, in constant time, where it is saturated. It takes no memory.

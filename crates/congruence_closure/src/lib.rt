@@ -12,6 +12,7 @@ mod holding;
 mod key_table;
 mod listing;
 mod looking;
+mod noting;
 mod parts;
 mod reading;
 mod saturating;

@@ -4,6 +4,7 @@ ghost use Rattle.std.specs.Prelude.{◌≡◌, ◌<◌, length, true, false, IfO
 ghost use Rattle.term_core.specs.declared.ids.TermId.{TermId as Number};
 ghost use Rattle.class_table.specs.Classes.{AreSame};
 ghost use Rattle.congruence_relation.specs.Relation.{truth_of};
+ghost use Rattle.congruence_relation.specs.Edges.{HasLinkedSidesIn};
 ghost use Rattle.congruence_closure.specs.Listed.{nth, HasPlace, equality_of};
 ghost use Rattle.congruence_closure.specs.Keys.{key_of, IsHeld};
 ghost use Rattle.congruence_closure.specs.State.{IsApart};
@@ -41,30 +42,54 @@ impl ClosureParts {
     }
 
     /// Tells whether the listed term of a place takes part. It takes no memory.
-    fn takes_part_at(&self, place: u64) -> bool
+    pub(crate) fn takes_part_at(&self, place: u64) -> bool
         requires { place < length self.now.now.facts.listed }
         ensures { result ≡ (nth self.now.now.facts.listed place).takes_part }
     {
         self.listing.at(place).takes_part
     }
 
-    /// Tells whether the listed term of a place, which takes part, is an equality that is denied, with linked sides. It takes no memory.
-    fn is_against(&self, place: u64) -> bool
+    /// Tells whether the listed term of a place, which takes part, is an equality with linked sides. It takes no memory.
+    pub(crate) fn has_linked_sides(&self, place: u64) -> bool
         requires there { place < length self.now.now.facts.listed }
         requires part { (nth self.now.now.facts.listed place).takes_part ≡ true }
-        ensures { MatchBool result (IsAgainst self.now.now place) (IsApart self.now.now place) }
+        ensures { MatchBool result (HasLinkedSidesIn self.now.now.facts self.now.now.edges
+            (nth self.now.now.facts.listed place).term) (IsApart self.now.now place) }
     {
         self.are_kept();
         match self.sides_at(place) {
-            Some((a, b)) => self.same(a, b) && self.holding.denies(self.listing.at(place).term),
+            Some((a, b)) => self.same(a, b),
             None => false,
         }
     }
 
-    /// Looks at the listed term of a place, if it takes part: whether it is denied though its sides are linked, and whether another
-    /// term has its key.
+    /// Tells whether the listed term of a place, which takes part, is an equality that is denied, with linked sides. One with linked
+    /// sides that is not denied is noted.
     ///
-    /// `NoMemory` comes where the key, or what is to be looked at again, finds no memory.
+    /// `NoMemory` comes where the note finds no memory.
+    fn is_against(&mut self, place: u64) -> Result<bool, NoMemory>
+        requires there { place < length self.old.now.facts.listed }
+        requires part { (nth self.old.now.facts.listed place).takes_part ≡ true }
+        ensures same { self.new ≡ self.old }
+        ensures against { IfOk result (λ against. MatchBool against (IsAgainst self.old.now place)
+            (IsApart self.old.now place)) }
+    {
+        self.are_kept();
+        if !self.has_linked_sides(place) {
+            return Ok(false);
+        }
+        let term = self.listing.at(place).term;
+        if self.holding.denies(term) {
+            return Ok(true);
+        }
+        self.noted.push(term)?;
+        Ok(false)
+    }
+
+    /// Looks at the listed term of a place, if it takes part: whether it is denied though its sides are linked, and whether another
+    /// term has its key. An equality with linked sides that is not denied is noted.
+    ///
+    /// `NoMemory` comes where the note, the key, or what is to be looked at again, finds no memory.
     pub(crate) fn look(&mut self, place: u64) -> Result<Turn, NoMemory>
         requires { place < length self.old.now.facts.listed }
         ensures goes { KeepsFacts self.old self.new }
@@ -73,7 +98,8 @@ impl ClosureParts {
         if !self.takes_part_at(place) {
             return Ok(Turn::Quiet);
         }
-        if self.is_against(place) {
+        let against = self.is_against(place)?;
+        if against {
             return Ok(Turn::Against(Conflict::Sides(self.listing.at(place).term)));
         }
         let key = key_of(self.alloc, &self.classes, &self.listing.at(place).node)?;

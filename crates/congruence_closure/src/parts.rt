@@ -44,6 +44,8 @@ pub(crate) struct ClosureParts {
     pub(crate) pending: Vec<u64>,
     /// How many of these were looked at.
     pub(crate) next: usize,
+    /// Equalities that had linked sides when they were looked at, and were not denied. No contract sees them.
+    pub(crate) noted: Vec<TermId>,
 }
 
 impl Model for ClosureParts {
@@ -82,6 +84,7 @@ impl ClosureParts {
             given: 0,
             pending: Vec::new(alloc),
             next: 0,
+            noted: Vec::new(alloc),
         })
     }
 
@@ -213,7 +216,14 @@ impl ClosureParts {
         Ok(copy)
     }
 
-    /// Goes back over so many marks, to where there was so much and this was left. It takes no memory.
+    /// Forgets the equalities that were noted. It takes no memory.
+    pub fn forget_noted(&mut self)
+        ensures { self.new ≡ self.old }
+    {
+        self.noted.truncate(0);
+    }
+
+    /// Goes back over so many marks, to where there was so much and this was left. Nothing is noted then. It takes no memory.
     pub fn back(&mut self, marks: u32, extent: Extent, pending: Vec<u64>)
         requires some { 0 < marks }
         requires numbers { marks ≤ length self.old.numbers_marks }
@@ -231,6 +241,7 @@ impl ClosureParts {
         self.given = extent.given;
         self.pending = pending;
         self.next = 0;
+        self.noted.truncate(0);
     }
 }
 

@@ -91,6 +91,7 @@ impl ClosureParts {
         ensures goes { KeepsFacts self.old self.new }
         ensures ok { OnOk result (IsLonger self.old self.new) }
     {
+        self.note_decided(a, b, why)?;
         if self.classes.size_of(a) <= self.classes.size_of(b) {
             self.put_under(a, b, why)
         } else {

@@ -53,9 +53,13 @@ pub record IsClosed (f : Facts) (es : List Edge) : Type 0 where
       → x.takes_part ≡ true → y.takes_part ≡ true
       → roots es x.shape.arguments ≡ roots es y.shape.arguments → Linked es x.term.0 y.term.0
 
+-- a listed equality takes part, and its sides are linked
+abbrev pub HasLinkedSidesIn : Facts → List Edge → TermId → Type 0
+HasLinkedSidesIn f es e = (a : TermId) × (b : TermId) × (q : IsEquality f.listed e a b) × (q.at.takes_part ≡ true)
+    × Linked es a.0 b.0
+
 -- terms are linked that must not be: `true` and `false`, or the sides of an equality that takes part, whose
 -- negation is held
 abbrev pub IsConflict : Facts → List Edge → Conflict → Type 0
 IsConflict f es Truths = Linked es f.truths.true_term.0 f.truths.false_term.0
-IsConflict f es (Sides e) = Contains f.held (record { term = e; positive = false })
-    × ((a : TermId) × (b : TermId) × (q : IsEquality f.listed e a b) × (q.at.takes_part ≡ true) × Linked es a.0 b.0)
+IsConflict f es (Sides e) = Contains f.held (record { term = e; positive = false }) × HasLinkedSidesIn f es e
