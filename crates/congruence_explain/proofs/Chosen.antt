@@ -23,12 +23,12 @@ use Rattle.clause_literals.proofs.LiteralLists.{negation_twice}
 use Rattle.rule_bool.specs.Resolvents.{MeansEach}
 use Rattle.proof_log.specs.declared.premises.StepId.{StepId}
 use Rattle.proof_log.specs.Logs.{Logged, clauses_in, numbers_of, derivation_in}
-use Rattle.proof_log.specs.Theories.{Derived}
+use Rattle.proof_log.specs.Theories.{Derived, derived}
 use Rattle.proof_log.proofs.Logged.{numbers_there, premises_there}
 use Rattle.term_clauses.specs.Stating.{Widens}
 use Rattle.congruence_explain.specs.declared.claims.SignedClaim.{SignedClaim}
 use Rattle.congruence_explain.specs.Claims.{no_term_id, claim_as_term, claim_as_literal, IsClaimOf, equality_claim}
-use Rattle.congruence_explain.specs.Steps.{Start, derived, spoken, Explains, steps_since, all_denied, AreNumbersFrom, HasPut}
+use Rattle.congruence_explain.specs.Steps.{Start, spoken, Explains, steps_since, all_denied, AreNumbersFrom, HasPut}
 use Rattle.congruence_explain.specs.Needing.{HasFalsePremise, IsRefuted, standing}
 use Rattle.congruence_explain.specs.Choosing.{AreKept, IsChosen, HasPutSome}
 use Rattle.congruence_explain.proofs.Terms.{claims_in, literals_put}

@@ -39,12 +39,12 @@ use Rattle.congruence_relation.proofs.Agree.{equality_term}
 use Rattle.proof_log.specs.declared.premises.StepId.{StepId}
 use Rattle.proof_log.specs.Logs.{Logged, logged_at, no_logged, clauses_in, inference_of, derivation_in, IsLogOf}
 use Rattle.proof_log.specs.Clashes.{HasLit, IsClash}
-use Rattle.proof_log.specs.Theories.{Derived, DerivesLemmas}
+use Rattle.proof_log.specs.Theories.{Derived, DerivesLemmas, derived}
 use Rattle.congruence_explain.specs.declared.claims.Claim.TheVariants.{Equality, Atom}
 use Rattle.congruence_explain.specs.declared.claims.SignedClaim.{SignedClaim}
 use Rattle.congruence_explain.specs.Claims.{no_term_id, claim_as_term, claim_as_literal, literal_claimed, IsClaimOf, equality_claim, unequal, denied, value_claim}
 use Rattle.congruence_explain.specs.Basis.{IsBasis, AreLinkedIn, IsEqualityIn, HasLinkedSides}
-use Rattle.congruence_explain.specs.Steps.{Start, derived, begun, spoken, Explains, literals_logged, steps_since, ExplanationSetting, setting, HasPut, all_denied, apart, IsDenial, IsCollected, IsExplained, others_of, AreNumbersFrom}
+use Rattle.congruence_explain.specs.Steps.{Start, begun, spoken, Explains, literals_logged, steps_since, ExplanationSetting, setting, HasPut, all_denied, apart, IsDenial, IsCollected, IsExplained, others_of, AreNumbersFrom}
 use Rattle.congruence_explain.specs.Needing.{HasFalsePremise}
 use Rattle.congruence_explain.specs.Choosing.{HasPutSome}
 use Rattle.congruence_explain.proofs.Shown.{derives_more, by_clause, within_more, denied_more}

@@ -1,4 +1,5 @@
 -- Steps that are logged, and the clauses that came since the start.
+use Rattle.proof_log.specs.Theories.{derived}
 use Rattle.std.proofs.Common.{◌≡◌, ℕ, ◌+◌, ◌<◌, ◌≤◌, List, [], ◌∷◌, ◌++◌, length, map, take, drop, get_or, refl, sym, ap, ◌∙◌, subst, arith, append_assoc, length-append}
 use Rattle.std.specs.Prelude.{All, Result, Ok, Err, IfOk, MatchResult}
 use Rattle.std.proofs.lemmas.List.{map-append, map_more, drop-append-le, length-map}
@@ -23,7 +24,7 @@ use Rattle.term_clauses.specs.Stating.{Widens}
 use Rattle.term_clauses.proofs.Parts.{formula_kept}
 use Rattle.congruence_explain.specs.declared.claims.SignedClaim.{SignedClaim}
 use Rattle.congruence_explain.specs.Claims.{claim_as_term, claim_as_literal, IsClaimIn, IsClaimOf}
-use Rattle.congruence_explain.specs.Steps.{Start, derived, spoken, Explains, literals_logged, HasPut}
+use Rattle.congruence_explain.specs.Steps.{Start, spoken, Explains, literals_logged, HasPut}
 use Rattle.congruence_explain.proofs.Terms.{claims_in, claimed_made, claim_kept, claimed_same, clause_same, literals_put}
 
 -- a literal more is put

@@ -19,15 +19,11 @@ use Rattle.congruence_relation.specs.Edges.{roots}
 use Rattle.proof_log.specs.declared.premises.StepId.{StepId}
 use Rattle.proof_log.specs.Logs.{Logged, named, logged_at}
 use Rattle.proof_log.specs.Clashes.{literals_in}
-use Rattle.proof_log.specs.Theories.{Derived, DerivesLemmas}
+use Rattle.proof_log.specs.Theories.{Derived, DerivesLemmas, derived}
 use Rattle.congruence_explain.specs.declared.claims.Claim.TheVariants.{Equality}
 use Rattle.congruence_explain.specs.declared.claims.SignedClaim.{SignedClaim}
 use Rattle.congruence_explain.specs.Claims.{claim_as_literal, literal_claimed, equality_claim, unequal, denied}
 use Rattle.congruence_explain.specs.Claims.{value_claim, edge_says, all_unequal}
-
--- a table with a log
-abbrev pub derived : TableView → List Logged → Derived
-derived t log = record { table = t; log = log }
 
 -- What an explanation begins with: a table with a log of it, and facts over its terms.
 pub record Start : Type 0 where

@@ -5,8 +5,9 @@ ghost use Rattle.term_core.specs.Tables.{AreIn, clause_at};
 ghost use Rattle.clause_literals.specs.Literals.{lists};
 ghost use Rattle.rule_bool.specs.Resolvents.{MeansEach};
 ghost use Rattle.proof_log.specs.Logs.{IsLogOf, AreStepsOf, clauses_in};
+ghost use Rattle.proof_log.specs.Theories.{derived};
 ghost use Rattle.congruence_explain.specs.Claims.{IsClaimOf, claim_as_term};
-ghost use Rattle.congruence_explain.specs.Steps.{Start, derived, spoken, Explains, steps_since, all_denied, AreNumbersFrom};
+ghost use Rattle.congruence_explain.specs.Steps.{Start, spoken, Explains, steps_since, all_denied, AreNumbersFrom};
 ghost use Rattle.congruence_explain.specs.Needing.{HasFalsePremise};
 ghost use Rattle.congruence_explain.specs.Choosing.{AreKept, IsChosen, HasPutSome};
 

@@ -1,8 +1,9 @@
 //! The edges that are needed, from the newest down.
 
+ghost use Rattle.proof_log.specs.Theories.{derived};
 ghost use Rattle.std.specs.Prelude.{IfOk};
 ghost use Rattle.congruence_explain.specs.Basis.{IsBasis, AreLinkedIn};
-ghost use Rattle.congruence_explain.specs.Steps.{Start, derived, spoken, Explains, setting, steps_since, IsCollected};
+ghost use Rattle.congruence_explain.specs.Steps.{Start, spoken, Explains, setting, steps_since, IsCollected};
 
 use crate::claims::SignedClaim;
 use crate::edges::turn;

@@ -1,5 +1,6 @@
 //! Why an edge is there, as steps.
 
+ghost use Rattle.proof_log.specs.Theories.{derived};
 ghost use Rattle.std.specs.Prelude.{◌≡◌, ℕ, ◌<◌, true, false, List, [], ◌∷◌, ◌++◌, length, All, IfOk, OnOk};
 ghost use Rattle.spec_sorts.specs.Subsets.{arguments_of};
 ghost use Rattle.term_core.specs.Tables.{term_at, IsIn, clause_at};
@@ -9,7 +10,7 @@ ghost use Rattle.congruence_relation.specs.Relation.{truth_of};
 ghost use Rattle.explain_forest.specs.declared.types.Label.TheVariants.{Held};
 ghost use Rattle.congruence_explain.specs.Claims.{denied, joins};
 ghost use Rattle.congruence_explain.specs.Basis.{IsBasis, IsAtomLiteral, IsByArguments};
-ghost use Rattle.congruence_explain.specs.Steps.{Start, derived, spoken, Explains, setting, notes, steps_since, decision, TellsEdge, GoesOn};
+ghost use Rattle.congruence_explain.specs.Steps.{Start, spoken, Explains, setting, notes, steps_since, decision, TellsEdge, GoesOn};
 
 use crate::claims::{SignedClaim, denial, equality, is_between, truth, value_claimed};
 use crate::paths::tell_pairs;

@@ -5,10 +5,10 @@ ghost use Rattle.congruence_relation.specs.Relation.{Facts, terms_listed};
 ghost use Rattle.congruence_relation.specs.Edges.{IsConflict};
 ghost use Rattle.proof_log.specs.Logs.{IsLogOf};
 ghost use Rattle.proof_log.specs.Clashes.{IsClash};
-ghost use Rattle.proof_log.specs.Theories.{DerivesLemmas};
+ghost use Rattle.proof_log.specs.Theories.{DerivesLemmas, derived};
 ghost use Rattle.congruence_explain.specs.Claims.{value_claim};
 ghost use Rattle.congruence_explain.specs.Basis.{IsBasis, AreLinkedIn, IsEqualityIn, HasLinkedSides, AreTruths};
-ghost use Rattle.congruence_explain.specs.Steps.{Start, derived, begun, spoken, Explains, setting, steps_since, IsExplained, others_of, apart};
+ghost use Rattle.congruence_explain.specs.Steps.{Start, begun, spoken, Explains, setting, steps_since, IsExplained, others_of, apart};
 ghost use Rattle.term_core.specs.declared.ids.TermId.{TermId as Number};
 
 use crate::choosing::put_needed;

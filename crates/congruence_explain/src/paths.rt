@@ -1,11 +1,12 @@
 //! Steps that say that linked terms are equal, where the edges between them are explained.
 
+ghost use Rattle.proof_log.specs.Theories.{derived};
 ghost use Rattle.std.specs.Prelude.{◌≡◌, ◌≢◌, ℕ, ◌<◌, true, [], ◌∷◌, ◌++◌, map, length, get_or, All, Contains, IfOk, OnOk};
 ghost use Rattle.spec_equality.specs.Reasons.{equal as equal_terms};
 ghost use Rattle.term_core.specs.Tables.{term_at, IsIn};
 ghost use Rattle.congruence_explain.specs.Claims.{IsClaimIn, IsOneEquality, denied_step, unequal, all_unequal, no_term_id};
 ghost use Rattle.congruence_explain.specs.Basis.{IsBasis, AreLinkedIn, AreLinkedOr};
-ghost use Rattle.congruence_explain.specs.Steps.{Start, derived, spoken, Explains, setting, notes, AddsEdges, edges_on, TellsPair, TellsPairs};
+ghost use Rattle.congruence_explain.specs.Steps.{Start, spoken, Explains, setting, notes, AddsEdges, edges_on, TellsPair, TellsPairs};
 
 use crate::claims::{Claim, SignedClaim, claim_of, equality, unequality};
 use crate::putting::put_alone;

@@ -1,5 +1,6 @@
 //! Steps of the log, whose terms are put with them.
 
+ghost use Rattle.proof_log.specs.Theories.{derived};
 ghost use Rattle.std.specs.Prelude.{◌≡◌, ◌≤◌, [], length, map, All, IfOk};
 ghost use Rattle.spec_text.specs.Trees.{none};
 ghost use Rattle.spec_rules.specs.Rules.{IsRight};
@@ -10,7 +11,7 @@ ghost use Rattle.term_core.specs.Tables.{term_at, clause_at};
 ghost use Rattle.proof_log.specs.Logs.{IsFormulaIn, AreFormulasIn, numbers_of, derivation_in};
 ghost use Rattle.term_clauses.specs.Stating.{Widens};
 ghost use Rattle.congruence_explain.specs.Claims.{IsClaimIn, IsClaimOf, IsClaimPut, term_claimed, claim_as_term, claim_as_literal};
-ghost use Rattle.congruence_explain.specs.Steps.{Start, derived, spoken, Explains, HasPut};
+ghost use Rattle.congruence_explain.specs.Steps.{Start, spoken, Explains, HasPut};
 
 use crate::claims::{Claim, SignedClaim};
 use no_memory::NoMemory;

@@ -5,3 +5,4 @@ pub mod Earlier
 pub mod Added
 pub mod Tables
 pub mod Sound
+pub mod Composed

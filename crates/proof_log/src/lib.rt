@@ -2,6 +2,7 @@
 //! Its terms are of every sort.
 #![tactic(auto)]
 
+mod atoms;
 mod entry;
 pub mod laws;
 mod log;
@@ -11,6 +12,7 @@ mod premises;
 mod step;
 mod theory;
 
+pub use atoms::is_atom;
 pub use log::ProofLog;
 pub use log_fault::LogFault;
 pub use numbers::Numbers;

@@ -1,25 +1,13 @@
 //! Which terms are decided.
 
-ghost use Rattle.std.specs.Prelude.{◌≡◌, ◌↔◌, true, All, IfOk};
-ghost use Rattle.proof_log.specs.Theories.{IsTermIn, IsAtomIn};
+ghost use Rattle.std.specs.Prelude.{All, IfOk};
+ghost use Rattle.proof_log.specs.Theories.{IsTermIn};
 ghost use Rattle.search_loop.specs.Search.{AreAtomsAmong};
 
 use no_memory::NoMemory;
+use proof_log::is_atom;
 use std::alloc::Global;
-use term_core::{Lit, Sort, TermId, TermTable};
-
-/// Tells whether a term is an atom: of sort Bool, and no negation.
-fn is_atom(table: &TermTable, id: TermId) -> bool
-    requires { IsTermIn table.now id }
-    ensures { (result ≡ true) ↔ IsAtomIn table.now id }
-{
-    table.ids_are_unique();
-    let own = Lit {
-        term: id,
-        positive: true,
-    };
-    table.sort(id) == Sort::Bool && table.literal(id) == own
-}
+use term_core::{TermId, TermTable};
 
 /// Lists the atoms among terms, in their order.
 pub(crate) fn atoms_of(

@@ -16,7 +16,7 @@ use Rattle.sat_budget.specs.Budgets.{BudgetView, StopsBy}
 use Rattle.sat_budget.specs.declared.limits.Stop.{Stop}
 use Rattle.sat_budget.specs.declared.limits.Stop.TheVariants.{Strained}
 use Rattle.sat_budget.specs.declared.limits.Stop.TheVariants as stops
-use Rattle.proof_log.specs.Theories.{IsTheoryOver, terms_watched, literals_held, DerivesLemmas}
+use Rattle.proof_log.specs.Theories.{IsTheoryOver, terms_watched, literals_held, DerivesLemmas, derived}
 use Rattle.proof_log.specs.Logs.{Logged, inference_of, derivation_in, IsLogOf}
 use Rattle.proof_log.specs.declared.theory.Verdict.{Verdict}
 use Rattle.proof_log.specs.declared.theory.Verdict.TheVariants as verdicts
@@ -44,7 +44,6 @@ use Rattle.simplex_atoms.specs.Slacks.{slack_in}
 use Rattle.simplex_atoms.specs.Watching.{IsWatched}
 use Rattle.simplex_atoms.proofs.Fitting.{right_after}
 use Rattle.simplex.specs.Views.{SimplexView, SimplexFits, IsOf}
-use Rattle.simplex_explain.specs.Steps.{derived}
 use Rattle.term_core.proofs.TermsExtend.{Extends-self, term_at-kept}
 use Rattle.simplex.specs.Checks.{KeepsBounds, Found, AnswersOutcome}
 use Rattle.simplex.specs.Coming.{term_tableau_of, IsOverflowAt}

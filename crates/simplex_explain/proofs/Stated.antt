@@ -21,11 +21,11 @@ use Rattle.clause_literals.proofs.TableLiterals.{literals_apart}
 use Rattle.proof_log.specs.declared.premises.StepId.{StepId}
 use Rattle.proof_log.specs.Logs.{Logged, named, logged_at, no_logged, inference_of, derivation_in}
 use Rattle.proof_log.specs.Clashes.{HasLit, IsClash, literals_in}
-use Rattle.proof_log.specs.Theories.{DerivesLemmas, IsAtomIn}
+use Rattle.proof_log.specs.Theories.{DerivesLemmas, IsAtomIn, derived}
 use Rattle.term_clauses.specs.Stating.{Widens}
 use Rattle.simplex_explain.specs.declared.weighted.Weighted.{Weighted}
 use Rattle.simplex_explain.specs.Reasons.{AreAtomReasons, AreHeld, weights_of, weights_meant, literals_meant, denials_meant}
-use Rattle.simplex_explain.specs.Steps.{derived, refuting, refutation, LogsRefutation}
+use Rattle.simplex_explain.specs.Steps.{refuting, refutation, LogsRefutation}
 
 -- the denial of an atom's literal is made of terms among which the atom is
 denial_made : (terms : List Term) (l : Literal) → Contains terms l.atom → IsMadeOf terms (denial l)

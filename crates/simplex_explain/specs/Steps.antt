@@ -11,15 +11,10 @@ use Rattle.term_core.specs.Tables.{TableView, clause_at}
 use Rattle.proof_log.specs.declared.premises.StepId.{StepId}
 use Rattle.proof_log.specs.Logs.{Logged, stepped}
 use Rattle.proof_log.specs.Adding.{IsAdded}
-use Rattle.proof_log.specs.Theories.{Derived}
 use Rattle.simplex_explain.specs.declared.stop.ExplainStop.{ExplainStop}
 use Rattle.simplex_explain.specs.declared.stop.ExplainStop.TheVariants as stops
 use Rattle.simplex_explain.specs.declared.weighted.Weighted.{Weighted}
 use Rattle.simplex_explain.specs.Reasons.{weights_of, weights_meant, denials_meant, arguments_meant}
-
--- a table with a log
-abbrev pub derived : TableView → List Logged → Derived
-derived t log = record { table = t; log = log }
 
 -- what the rule `la_generic` says of the clause that not all of the literals hold, with their weights
 abbrev pub judged : TableView → List Weighted → Result (Unit {0}) Failure

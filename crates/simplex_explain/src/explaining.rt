@@ -5,9 +5,9 @@ ghost use Rattle.spec_sorts.specs.Terms.{Term};
 ghost use Rattle.term_core.specs.declared.ids.Lit.{Lit as LitView};
 ghost use Rattle.proof_log.specs.Logs.{IsLogOf, logged_at, inference_of};
 ghost use Rattle.proof_log.specs.Clashes.{IsClash};
-ghost use Rattle.proof_log.specs.Theories.{DerivesLemmas};
+ghost use Rattle.proof_log.specs.Theories.{DerivesLemmas, derived};
 ghost use Rattle.simplex_explain.specs.Reasons.{AreAtomReasons, AreHeld, Refutes};
-ghost use Rattle.simplex_explain.specs.Steps.{derived, judged, refutation, IsCause};
+ghost use Rattle.simplex_explain.specs.Steps.{judged, refutation, IsCause};
 
 use crate::stating::refute;
 use crate::stop::ExplainStop;

@@ -10,10 +10,10 @@ ghost use Rattle.rule_bool.specs.Arguments.{fractions_of};
 ghost use Rattle.proof_log.specs.Logs.{IsFormulaIn, AreFormulasIn, IsLogOf, logged_at, inference_of};
 ghost use Rattle.proof_log.specs.Adding.{IsAdded};
 ghost use Rattle.proof_log.specs.Clashes.{IsClash};
-ghost use Rattle.proof_log.specs.Theories.{DerivesLemmas};
+ghost use Rattle.proof_log.specs.Theories.{DerivesLemmas, derived};
 ghost use Rattle.term_clauses.specs.Stating.{Widens};
 ghost use Rattle.simplex_explain.specs.Reasons.{AreAtomReasons, AreHeld, weights_of};
-ghost use Rattle.simplex_explain.specs.Steps.{derived, judged, refuting, refutation, LogsRefutation};
+ghost use Rattle.simplex_explain.specs.Steps.{judged, refuting, refutation, LogsRefutation};
 
 use crate::judging::judge;
 use crate::putting::negations;

@@ -1,4 +1,5 @@
 -- By what is chosen.
+use Rattle.proof_log.specs.Theories.{derived}
 use Rattle.std.proofs.Common.{List, map, sym, ap, ◌∙◌, subst}
 use Rattle.std.specs.Prelude.{All}
 use Rattle.spec_text.specs.Trees.{none}
@@ -11,7 +12,7 @@ use Rattle.proof_log.specs.Logs.{numbers_of, derivation_in}
 use Rattle.term_clauses.proofs.Arguments.{Widens-self}
 use Rattle.congruence_explain.specs.declared.claims.SignedClaim.{SignedClaim}
 use Rattle.congruence_explain.specs.Claims.{IsClaimOf, claim_as_term}
-use Rattle.congruence_explain.specs.Steps.{derived, spoken, all_denied}
+use Rattle.congruence_explain.specs.Steps.{spoken, all_denied}
 use Rattle.congruence_explain.proofs.Logging.{claims_wide, derives_wider, terms_are}
 use Rattle.congruence_explain.proofs.Chosen.{refuted_wider, kept_claims, chosen_follows, chosen_exact, some_put}
 use Rattle.congruence_explain.proofs.choosing.put_needed.Goals as goal

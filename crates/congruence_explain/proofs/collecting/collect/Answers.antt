@@ -1,10 +1,11 @@
 -- The loop begins with the path, and ends where no edge is needed.
+use Rattle.proof_log.specs.Theories.{derived}
 use Rattle.std.proofs.Common.{[], List, refl, sym, subst, true≢false}
 use Rattle.spec_text.proofs.General.{nothing_left}
 use Rattle.congruence_explain.specs.declared.claims.Claim.TheVariants.{Equality}
 use Rattle.congruence_explain.specs.declared.claims.SignedClaim.{SignedClaim}
 use Rattle.congruence_explain.specs.Claims.{literal_claimed}
-use Rattle.congruence_explain.specs.Steps.{derived, setting, notes, steps_since, Going}
+use Rattle.congruence_explain.specs.Steps.{setting, notes, steps_since, Going}
 use Rattle.congruence_explain.proofs.Going.{going_start, newest_there, bound_falls, going_on, going_ends}
 use Rattle.congruence_explain.proofs.collecting.collect.Goals as goal
 

@@ -1,7 +1,8 @@
 -- The start is the same, and what is asked is shown by the edges that are needed.
+use Rattle.proof_log.specs.Theories.{derived}
 use Rattle.congruence_explain.specs.declared.claims.Claim.TheVariants.{Equality}
 use Rattle.congruence_explain.specs.Claims.{literal_claimed}
-use Rattle.congruence_explain.specs.Steps.{derived, Explains, setting, notes, Going}
+use Rattle.congruence_explain.specs.Steps.{Explains, setting, notes, Going}
 use Rattle.congruence_explain.proofs.Needed.{bound}
 use Rattle.congruence_explain.proofs.collecting.collect.Given as goal
 

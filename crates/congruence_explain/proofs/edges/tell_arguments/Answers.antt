@@ -1,4 +1,5 @@
 -- That the clause is right, and what it shows.
+use Rattle.proof_log.specs.Theories.{derived}
 use Rattle.std.proofs.Common.{◌≡◌, ◌++◌, ◌∷◌, [], List, map, sym, ◌∙◌, ap, subst}
 use Rattle.std.specs.Prelude.{All}
 use Rattle.spec_text.specs.Trees.{none}
@@ -6,7 +7,7 @@ use Rattle.spec_rules.specs.Rules.{IsRight}
 use Rattle.congruence_explain.specs.declared.claims.SignedClaim.{SignedClaim}
 use Rattle.congruence_explain.specs.Rules.{arguments_rule}
 use Rattle.congruence_explain.specs.Claims.{IsClaimOf, claim_as_term, claim_as_literal, equality_claim, all_unequal}
-use Rattle.congruence_explain.specs.Steps.{derived, spoken, steps_since}
+use Rattle.congruence_explain.specs.Steps.{spoken, steps_since}
 use Rattle.congruence_explain.proofs.Meeting.{meet_at, ends_in, arguments_same, as_many, each_linked, arguments_in, arguments_right, arguments_shown}
 use Rattle.congruence_explain.proofs.edges.tell_arguments.Goals as goal
 

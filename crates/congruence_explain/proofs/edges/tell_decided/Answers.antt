@@ -1,4 +1,5 @@
 -- That both clauses are right, and come one after the other.
+use Rattle.proof_log.specs.Theories.{derived}
 use Rattle.std.proofs.Common.{◌≡◌, ◌++◌, ◌∷◌, [], List, map, sym, ◌∙◌, ap, subst}
 use Rattle.std.specs.Prelude.{All, not}
 use Rattle.spec_text.specs.Trees.{none}
@@ -7,7 +8,7 @@ use Rattle.spec_rules.specs.Rules.{IsRight}
 use Rattle.congruence_relation.specs.Relation.{truth_of}
 use Rattle.congruence_explain.specs.declared.claims.SignedClaim.{SignedClaim}
 use Rattle.congruence_explain.specs.Claims.{IsClaimOf, claim_as_term, claim_as_literal, equality_claim, value_claim}
-use Rattle.congruence_explain.specs.Steps.{derived, spoken, steps_since}
+use Rattle.congruence_explain.specs.Steps.{spoken, steps_since}
 use Rattle.congruence_explain.proofs.Decided.{value_in, value_right, decided_clause, decided_in, decided_right, two_more}
 use Rattle.congruence_explain.proofs.edges.tell_decided.Goals as goal
 

@@ -1,8 +1,9 @@
 -- What the literal shows.
+use Rattle.proof_log.specs.Theories.{derived}
 use Rattle.std.proofs.Common.{◌≡◌, ◌++◌, ◌∷◌, [], sym, ◌∙◌, ap, true, false}
 use Rattle.congruence_relation.specs.Relation.{truth_of}
 use Rattle.congruence_explain.specs.Claims.{joins}
-use Rattle.congruence_explain.specs.Steps.{ExplanationSetting, derived, steps_since}
+use Rattle.congruence_explain.specs.Steps.{ExplanationSetting, steps_since}
 use Rattle.congruence_explain.proofs.Going.{held_shown, decided_shown}
 use Rattle.congruence_explain.proofs.edges.tell_held.Goals as goal
 

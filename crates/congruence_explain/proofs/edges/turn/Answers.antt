@@ -1,8 +1,9 @@
 -- One edge more.
+use Rattle.proof_log.specs.Theories.{derived}
 use Rattle.std.proofs.Common.{◌∷◌, [], sym, append-nil}
 use Rattle.std.proofs.lemmas.List.Elements.{All-nil}
 use Rattle.congruence_explain.specs.Claims.{denied}
-use Rattle.congruence_explain.specs.Steps.{derived, setting, notes, steps_since, IsDenial}
+use Rattle.congruence_explain.specs.Steps.{setting, notes, steps_since, IsDenial}
 use Rattle.congruence_explain.proofs.Going.{edge_with, goes_on, denial_of, by_arguments, held_decided, held_positive}
 use Rattle.congruence_explain.proofs.edges.turn.Goals as goal
 

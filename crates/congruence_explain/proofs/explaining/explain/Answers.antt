@@ -1,5 +1,5 @@
 -- That the last clause is false, and that table and log are cut back.
-use Rattle.congruence_explain.specs.Steps.{derived}
+use Rattle.proof_log.specs.Theories.{derived}
 use Rattle.congruence_explain.proofs.Concluding.{explained_clash}
 use Rattle.congruence_explain.proofs.explaining.explain.Goals as goal
 

@@ -6,10 +6,10 @@ use Rattle.spec_text.specs.Trees.{none}
 use Rattle.spec_proofs.specs.declared.Rule.TheVariants.{EqTransitive}
 use Rattle.spec_rules.specs.Rules.{IsRight}
 use Rattle.term_core.specs.Tables.{AreDifferent}
-use Rattle.proof_log.specs.Theories.{Derived}
+use Rattle.proof_log.specs.Theories.{Derived, derived}
 use Rattle.congruence_explain.specs.declared.claims.SignedClaim.{SignedClaim}
 use Rattle.congruence_explain.specs.Claims.{IsClaimOf, claim_as_term, equality_claim, unequal, value_claim}
-use Rattle.congruence_explain.specs.Steps.{derived, spoken, setting, steps_since}
+use Rattle.congruence_explain.specs.Steps.{spoken, setting, steps_since}
 use Rattle.congruence_explain.proofs.Along.{linked_in}
 use Rattle.congruence_explain.proofs.Concluding.{start_derives, start_length, sides_found, denials_in, sides_refuted, both_right, both_put, explained_put, each_other}
 use Rattle.congruence_explain.proofs.explaining.explain_sides.Goals as goal

@@ -1,10 +1,11 @@
 -- That the last clause follows.
+use Rattle.proof_log.specs.Theories.{derived}
 use Rattle.std.proofs.Common.{◌≡◌, [], List, refl, sym, subst}
 use Rattle.std.specs.Prelude.{All}
 use Rattle.congruence_explain.specs.declared.claims.SignedClaim.{SignedClaim}
 use Rattle.congruence_explain.specs.Claims.{IsClaimOf}
 use Rattle.congruence_explain.specs.Needing.{HasFalsePremise}
-use Rattle.congruence_explain.specs.Steps.{derived, spoken, setting, steps_since, all_denied, IsDenial}
+use Rattle.congruence_explain.specs.Steps.{spoken, setting, steps_since, all_denied, IsDenial}
 use Rattle.congruence_explain.proofs.Concluding.{start_derives, start_length, denials_in, truths_refuted, explained_put, each_denied}
 use Rattle.congruence_explain.proofs.explaining.explain_truths.Goals as goal
 

@@ -1,4 +1,5 @@
 -- That the clause of the path is right, and what it shows.
+use Rattle.proof_log.specs.Theories.{derived}
 use Rattle.std.proofs.Common.{◌≡◌, ◌∷◌, [], ◌++◌, List, map, refl, sym, ◌∙◌, ap, subst}
 use Rattle.std.specs.Prelude.{All}
 use Rattle.spec_text.specs.Trees.{none}
@@ -7,7 +8,7 @@ use Rattle.explain_forest.specs.Forest.{path}
 use Rattle.term_clauses.proofs.Arguments.{Widens-self}
 use Rattle.congruence_explain.specs.declared.claims.SignedClaim.{SignedClaim}
 use Rattle.congruence_explain.specs.Claims.{IsOneEquality, IsClaimIn, IsClaimOf, claim_as_term, claim_as_literal, denied_step}
-use Rattle.congruence_explain.specs.Steps.{derived, spoken, setting, steps_since, AddsEdges, edges_on}
+use Rattle.congruence_explain.specs.Steps.{spoken, setting, steps_since, AddsEdges, edges_on}
 use Rattle.congruence_explain.proofs.Terms.{claims_in}
 use Rattle.congruence_explain.proofs.Logging.{start_wide, claims_wide}
 use Rattle.congruence_explain.proofs.Along.{path_clause, steps_in, path_in, path_right, tells_path, one_equality_back, tells_edge_alone}

@@ -1,6 +1,7 @@
 -- That two terms that differ are explained.
+use Rattle.proof_log.specs.Theories.{derived}
 use Rattle.std.proofs.Common.{◌++◌, ◌∷◌, [], sym, ap, ◌∙◌, append-nil}
-use Rattle.congruence_explain.specs.Steps.{derived, spoken, setting, notes}
+use Rattle.congruence_explain.specs.Steps.{spoken, setting, notes}
 use Rattle.congruence_explain.proofs.Pairs.{unequal_same, unequal_other, linked_apart, same_pair, one_pair}
 use Rattle.congruence_explain.proofs.paths.tell_pair.Goals as goal
 

@@ -1,9 +1,10 @@
 -- One pair more.
+use Rattle.proof_log.specs.Theories.{derived}
 use Rattle.std.proofs.Common.{◌≡◌, ◌≢◌, ◌<◌, List, [], ◌∷◌, ◌++◌, length, get_or, sym, ap, ◌∙◌, subst, arith}
 use Rattle.std.specs.Prelude.{Contains}
 use Rattle.congruence_explain.specs.declared.claims.SignedClaim.{SignedClaim}
 use Rattle.congruence_explain.specs.Claims.{no_term_id, unequal, all_unequal}
-use Rattle.congruence_explain.specs.Steps.{derived, setting, notes, TellsClause}
+use Rattle.congruence_explain.specs.Steps.{setting, notes, TellsClause}
 use Rattle.congruence_explain.proofs.Pairs.{unequal_other, unequal_next, unequal_all, pairs_none, pairs_more, pairs_again}
 use Rattle.congruence_explain.proofs.paths.tell_pairs.Goals as goal
 

@@ -1,7 +1,8 @@
 -- The start is the same, and the pairs up to here are explained.
+use Rattle.proof_log.specs.Theories.{derived}
 use Rattle.std.proofs.Common.{◌≡◌, ◌++◌, [], drop}
 use Rattle.congruence_explain.specs.Claims.{all_unequal}
-use Rattle.congruence_explain.specs.Steps.{derived, Explains, setting, notes, TellsClause}
+use Rattle.congruence_explain.specs.Steps.{Explains, setting, notes, TellsClause}
 use Rattle.congruence_explain.proofs.paths.tell_pairs.Given as goal
 
 abbrev pub ghost-tell_pair : goal.ghost-tell_pair

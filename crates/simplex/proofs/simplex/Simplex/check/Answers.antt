@@ -9,11 +9,10 @@ use Rattle.spec_causes.specs.Bounds.{AreBounds}
 use Rattle.sat_budget.specs.Budgets.{StopsBy}
 use Rattle.sat_budget.specs.declared.limits.Stop.{Stop}
 use Rattle.proof_log.specs.Clashes.{IsClash}
-use Rattle.proof_log.specs.Theories.{IsTheoryOver, IsTermIn, terms_watched, literals_held, DerivesLemmas, CameTo, paid_after}
+use Rattle.proof_log.specs.Theories.{IsTheoryOver, IsTermIn, terms_watched, literals_held, DerivesLemmas, CameTo, paid_after, derived}
 use Rattle.tableau.specs.Views.{IsTableau}
 use Rattle.simplex_check.specs.Ends.{EndsCheck}
 use Rattle.proof_log.specs.declared.theory.Verdict.{Verdict}
-use Rattle.simplex_explain.specs.Steps.{derived}
 use Rattle.simplex.specs.Checks.{KeepsBounds}
 use Rattle.simplex.specs.Coming.{term_tableau_of, CameBy, StoppedBy, IsOverflowAt}
 use Rattle.simplex.proofs.Coming.{came_over_more, watched_bounds, suits_over, fits_on, came_fine, came_found, stopped_found, came_stopped, stops_there}
