@@ -4,3 +4,5 @@ pub mod Terms
 pub mod Conflicts
 pub mod Checking
 pub mod Taking
+pub mod Shown
+pub mod Implied

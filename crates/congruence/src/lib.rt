@@ -5,6 +5,7 @@
 #![tactic(auto)]
 
 mod congruence;
+mod implying;
 mod parts;
 mod theory;
 
