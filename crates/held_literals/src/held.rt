@@ -1,6 +1,6 @@
 //! Literals of watched terms, held without memory, with marks.
 
-ghost use Rattle.std.specs.Prelude.{◌≡◌, ◌<◌, ◌≤◌, [], length, get_or, Contains, MatchResult};
+ghost use Rattle.std.specs.Prelude.{◌≡◌, ◌<◌, ◌≤◌, [], length, get_or, Contains, MatchOption, MatchResult};
 ghost use Rattle.proof_log.specs.Theories.{with_held, with_watched, with_mark, at_mark, gone_back};
 ghost use Rattle.held_literals.specs.Room.{without_mark, IsHeldOver, AreHeldMarks};
 
@@ -90,6 +90,24 @@ impl HeldLiterals {
         ensures { result ≡ get_or self.now.held n result }
     {
         self.held[n as usize]
+    }
+
+    /// Counts the terms that are watched.
+    pub fn terms_len(&self) -> u64
+        ensures { result ≡ length self.now.watched }
+    {
+        self.watched.len() as u64
+    }
+
+    /// Gives a watched term by its number, from 0 for the oldest; `None` exactly where no more than so many are watched.
+    pub fn term(&self, n: u64) -> Option<TermId>
+        ensures { MatchOption result (length self.now.watched ≤ n) (λ id. (n < length self.now.watched)
+            × (id ≡ get_or self.now.watched n id)) }
+    {
+        if n < self.watched.len() as u64 {
+            return Some(self.watched[n as usize]);
+        }
+        None
     }
 
     /// States that each literal is held once, and is one of a watched term.

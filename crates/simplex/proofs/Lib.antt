@@ -11,3 +11,4 @@ pub mod TermNumbers
 pub mod SharedTerms
 pub mod TellingValues
 pub mod NumbersApart
+pub mod Hinting

@@ -4,3 +4,4 @@ pub mod Checks
 pub mod Coming
 pub mod Values
 pub mod Numbers
+pub mod Hints

@@ -119,6 +119,7 @@ impl Simplex {
             self.starts.truncate(kept);
             self.slack_list = start.slack_list;
             self.kept = self.kept.min(start.bounds);
+            self.told = self.told.min(start.bounds);
         }
     }
 }

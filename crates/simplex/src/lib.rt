@@ -3,8 +3,12 @@
 //! It holds literals that compare linear terms, and watches their atoms. Going back takes bounds back, and leaves rows and values.
 #![tactic(auto)]
 
+mod atom_lists;
 mod checking;
+mod due_rows;
+mod hints;
 mod holding;
+mod implying;
 mod numbers;
 mod shared;
 mod simplex;

@@ -10,6 +10,8 @@ ghost use Rattle.simplex_check.specs.Moves.{rule_move};
 ghost use Rattle.simplex_atoms.specs.Owners.{IsNumberOf};
 ghost use Rattle.simplex.specs.Views.{SimplexFits};
 
+use crate::atom_lists::AtomLists;
+use crate::due_rows::DueRows;
 use crate::starts::Start;
 use delta_num::Delta;
 use held_literals::HeldLiterals;
@@ -40,6 +42,12 @@ pub struct Simplex {
     pub(crate) slack_list: u64,
     /// How many of the bounds, from the oldest on, the values are known to keep.
     pub(crate) kept: u64,
+    /// The atoms on each variable.
+    pub(crate) atom_lists: AtomLists,
+    /// Which rows are looked at for what they imply.
+    pub(crate) due_rows: DueRows,
+    /// How many of the bounds, from the oldest on, were looked at for what they imply.
+    pub(crate) told: u64,
 }
 
 impl Model for Simplex {
@@ -86,6 +94,9 @@ impl Simplex {
             starts: Vec::new(alloc),
             slack_list: 0,
             kept: 0,
+            atom_lists: AtomLists::new(alloc),
+            due_rows: DueRows::new(alloc),
+            told: 0,
         }
     }
 

@@ -13,10 +13,12 @@ ghost use Rattle.simplex_explain.specs.Stated.{IsKnownIn};
 ghost use Rattle.simplex.specs.Views.{IsOf, slack_count};
 ghost use Rattle.simplex.specs.Coming.{CameBy, StoppedBy, IsOverflowAt};
 
+use crate::atom_lists::AtomLists;
 use crate::simplex::Simplex;
+use no_memory::NoMemory;
 use ratio128::Wide;
 use sat_budget::{Stop, Strain};
-use simplex_atoms::AtomStop;
+use simplex_atoms::{AtomStop, Atoms};
 use simplex_check::RealAssignment;
 use term_core::{TermId, TermTable};
 
@@ -28,6 +30,16 @@ fn overflowed(assignment: &RealAssignment, wide: Wide) -> Stop
     match assignment.basis() {
         Ok(basis) => Stop::Strained(Strain { wide, basis }),
         Err(_) => Stop::Memory,
+    }
+}
+
+/// Lists a term of a number with the atoms on its variable, if it has a place.
+///
+/// `NoMemory` comes where there is no memory; numbers that are not below that one may have gone from the variable's list then.
+fn list_atom(lists: &mut AtomLists, atoms: &Atoms, id: TermId, n: u64) -> Result<(), NoMemory> {
+    match atoms.slack(id) {
+        None => Ok(()),
+        Some(slack) => lists.add(slack.variable, n),
     }
 }
 
@@ -99,6 +111,8 @@ impl Simplex {
         let Some(room) = slack_list.checked_mul(4) else {
             return Err(Stop::Memory);
         };
+        let n = self.literals.terms_len();
+        list_atom(&mut self.atom_lists, &self.atoms, id, n)?;
         self.literals.are_of_watched_terms();
         self.literals.marks_are_prefixes();
         self.bounds.reserve(room)?;
