@@ -2,3 +2,4 @@
 pub mod Marks
 pub mod Checks
 pub mod Watching
+pub mod Implying

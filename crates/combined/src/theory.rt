@@ -3,8 +3,9 @@
 use crate::combined::Combined;
 use congruence::Congruence;
 use no_memory::NoMemory;
-use proof_log::{ProofLog, Theory, Verdict};
+use proof_log::{ProofLog, StepId, Theory, Verdict};
 use sat_budget::{Budget, Stop};
+use sat_trail::SatTrail;
 use simplex::Simplex;
 use term_core::{Lit, TermId, TermTable};
 
@@ -47,6 +48,19 @@ impl Theory for Combined {
             Verdict::Clash(step) => Ok(Verdict::Clash(step)),
             Verdict::Fine => Theory::check(&mut self.simplex, table, log, budget),
         }
+    }
+
+    fn implied(
+        &mut self,
+        table: &mut TermTable,
+        log: &mut ProofLog,
+        trail: &SatTrail,
+    ) -> Result<Vec<StepId>, NoMemory> {
+        let steps = self.congruence.implied(table, log, trail)?;
+        if !steps.is_empty() {
+            return Ok(steps);
+        }
+        Theory::implied(&mut self.simplex, table, log, trail)
     }
 
     fn mark(&mut self) -> Result<(), NoMemory> {

@@ -14,6 +14,7 @@ ghost use Rattle.congruence_relation.specs.Edges.{IsConflict};
 ghost use Rattle.congruence.specs.Views.{theory_of};
 
 use crate::congruence::Congruence;
+use crate::implying::implied_steps;
 use crate::parts::takes_part;
 use congruence_closure::Closure;
 use congruence_explain::explain;
@@ -21,11 +22,12 @@ use congruence_relation::{Conflict, facts_stay_over_more_terms, refutations_agre
 use no_memory::NoMemory;
 use proof_log::{ProofLog, StepId, Theory, Verdict};
 use sat_budget::{Budget, Stop};
+use sat_trail::SatTrail;
 use std::alloc::Global;
 use term_core::{Lit, TermId, TermTable};
 
 /// Explains a conflict of a closure's edges by steps of the log. Where memory runs out, table and log are as they were.
-fn explain_conflict(
+pub(crate) fn explain_conflict(
     alloc: Global,
     table: &mut TermTable,
     log: &mut ProofLog,
@@ -133,6 +135,18 @@ impl Theory for Congruence {
         };
         let step = explain_conflict(self.alloc, table, log, &self.closure, conflict)?;
         Ok(Verdict::Clash(step))
+    }
+
+    /// Adds lemmas by which noted terms are true or false: what came into the class of a truth value, and equalities with linked sides. Each
+    /// is explained as a conflict with its complement, which is held for that time alone. `NoMemory` comes where memory ran out. Then some of
+    /// the lemmas may be there, and it holds and watches what it did.
+    fn implied(
+        &mut self,
+        table: &mut TermTable,
+        log: &mut ProofLog,
+        trail: &SatTrail,
+    ) -> Result<Vec<StepId>, NoMemory> {
+        implied_steps(self.alloc, table, log, trail, &mut self.closure)
     }
 
     /// Marks what it holds and watches, and whether it is saturated. `NoMemory` comes where the mark finds no memory; then all is as it was.

@@ -4,8 +4,9 @@ ghost use Rattle.std.specs.Prelude.{◌≡◌, []};
 
 use crate::held::HeldLiterals;
 use no_memory::NoMemory;
-use proof_log::{ProofLog, Theory, Verdict};
+use proof_log::{ProofLog, StepId, Theory, Verdict};
 use sat_budget::{Budget, Stop};
+use sat_trail::SatTrail;
 use std::alloc::Global;
 use std::marker::Model;
 use term_core::{Lit, TermId, TermTable};
@@ -15,6 +16,8 @@ use term_core::{Lit, TermId, TermTable};
 /// A search of propositional formulas needs no more, as their clauses define each connective.
 #[derive(Drop)]
 pub struct PropositionalTheory {
+    /// Where its memory comes from.
+    alloc: Global,
     literals: HeldLiterals,
 }
 
@@ -32,6 +35,7 @@ impl PropositionalTheory {
         ensures { result ≡ record { held = []; watched = []; marks = [] } }
     {
         PropositionalTheory {
+            alloc,
             literals: HeldLiterals::new(alloc),
         }
     }
@@ -70,6 +74,18 @@ impl Theory for PropositionalTheory {
         let _ = log;
         let _ = budget;
         Ok(Verdict::Fine)
+    }
+
+    fn implied(
+        &mut self,
+        table: &mut TermTable,
+        log: &mut ProofLog,
+        trail: &SatTrail,
+    ) -> Result<Vec<StepId>, NoMemory> {
+        let _ = table;
+        let _ = log;
+        let _ = trail;
+        Ok(Vec::new(self.alloc))
     }
 
     fn mark(&mut self) -> Result<(), NoMemory> {

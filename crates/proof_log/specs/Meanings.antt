@@ -1,26 +1,29 @@
 -- What a theory means, and what each of its calls does to that.
-use Rattle.std.specs.Prelude.{◌≡◌, ℕ, List, [], Result, MatchResult, IfErr, Contains}
+use Rattle.std.specs.Prelude.{◌≡◌, ℕ, List, [], Result, Ok, Err, MatchResult, IfErr, Contains, Vec}
+use Rattle.std.specs.declared.alloc.Global.{Global}
 use Rattle.no_memory.specs.declared.NoMemory.{NoMemory}
 use Rattle.spec_sorts.specs.Terms.{Term}
 use Rattle.spec_sorts.specs.Literals.{Literal}
 use Rattle.spec_causes.specs.Counts.{counted}
 use Rattle.term_core.specs.declared.ids.TermId.{TermId}
 use Rattle.term_core.specs.declared.ids.Lit.{Lit}
-use Rattle.term_core.specs.Tables.{TableView, Extends, term_at}
+use Rattle.term_core.specs.Tables.{TableView, Extends, declared_in, term_at}
 use Rattle.sat_budget.specs.declared.limits.Stop.{Stop}
 use Rattle.sat_budget.specs.declared.limits.Strain.{Strain}
 use Rattle.sat_budget.specs.Budgets.{BudgetView, Spends, StopsBy}
+use Rattle.proof_log.specs.Logs.{AreStepsOf}
+use Rattle.proof_log.specs.declared.premises.StepId.{StepId}
 use Rattle.proof_log.specs.declared.theory.Verdict.{Verdict}
 use Rattle.proof_log.specs.Theories.{TheoryView, with_held, with_watched, with_mark, gone_back, terms_watched}
-use Rattle.proof_log.specs.Theories.{literals_held, Derived, Checks, CameTo, paid_after}
+use Rattle.proof_log.specs.Theories.{literals_held, Derived, DerivesLemmas, Checks, CameTo, paid_after}
 
 -- How exchanges led a theory to what it is: what is told where a check is answered `unknown`.
 pub record Running : Type 1 where
   -- What it is over a table came of terms, among which are all that it ever watched, and of these exchanges, oldest
   -- first. Fewer runs made them than so many; or no more, and a check now would make none.
   pub came_by : TableView → List Term → ℕ → List (ℕ × ℕ) → Type 0
-  -- What it is over a table, where an overflow stopped it, came of terms and of exchanges, of which the last may be kept
-  -- and not made. No more runs made them than so many.
+  -- What it is over a table, where an overflow stopped it, came of terms and of exchanges, of which the last may be
+  -- kept and not made. No more runs made them than so many.
   pub stopped_by : TableView → List Term → ℕ → List (ℕ × ℕ) → Type 0
   -- what shows that a stop by an overflow is one, over a table and the watched terms
   pub may_overflow : TableView → List Term → Strain → Type 0
@@ -109,6 +112,27 @@ pub record AnswersCheck (old new : CheckState) (result : Result Verdict Stop) : 
   -- a stop is shown
   pub stops : IfErr result (StopsBy
       (new.theory.running.may_overflow new.derived.table (terms_watched old.derived.table old.theory.view)))
+
+-- Lemmas came that may imply literals, and the theory is as it was.
+pub record AddsLemmas (old new : Meaning) (before after : Derived) : Type 0 where
+  -- it goes with the table
+  pub with : new.goes_with after.table
+  -- it holds and watches the same
+  pub same : new.view ≡ old.view
+  -- what came are lemmas
+  pub derives : DerivesLemmas (terms_watched before.table old.view) before after
+  -- it came by the same runs
+  pub came : (ts : List Term) (n : ℕ) (es : List (ℕ × ℕ)) → old.running.came_by before.table ts n es
+      → new.running.came_by after.table ts n es
+  -- and agrees to what it did
+  pub agrees : (ts : List Term) (ls : List Literal) → old.agrees ts ls → new.agrees ts ls
+
+-- what a call does that lists the steps of lemmas which may imply literals; where memory runs out, terms may have come,
+-- and it holds and watches the same
+abbrev pub Implies : Meaning → Meaning → Derived → Derived → Result (Vec StepId Global) NoMemory → Type 0
+Implies old new before after (Ok steps) = AddsLemmas old new before after × AreStepsOf after.log steps.items
+Implies old new before after (Err no_memory) = (new.view ≡ old.view) × Extends before.table after.table
+    × (declared_in after.table ≡ declared_in before.table)
 
 -- It goes with each table that it went with, and came by the same runs.
 pub record KeepsRuns (old new : Meaning) : Type 0 where

@@ -1,14 +1,15 @@
 //! What the search asks of a theory.
 
-ghost use Rattle.std.specs.Prelude.{◌≤◌, length, Contains};
+ghost use Rattle.std.specs.Prelude.{◌≡◌, ◌≤◌, length, Contains};
 ghost use Rattle.proof_log.specs.Logs.{IsLogOf};
 ghost use Rattle.proof_log.specs.Theories.{IsTermIn, IsTheoryOver, derived};
-ghost use Rattle.proof_log.specs.Meanings.{Meaning, IsLawful, Watches, Holds, check_state, AnswersCheck, Marks, GoesBack};
+ghost use Rattle.proof_log.specs.Meanings.{Meaning, IsLawful, Watches, Holds, check_state, AnswersCheck, Implies, Marks, GoesBack};
 
 use crate::log::ProofLog;
 use crate::premises::StepId;
 use no_memory::NoMemory;
 use sat_budget::{Budget, Stop};
+use sat_trail::SatTrail;
 use term_core::{Lit, TermId, TermTable};
 
 /// What a theory says of the literals that it holds.
@@ -65,6 +66,24 @@ pub trait Theory {
         requires log { IsLogOf table.old log.old }
         ensures { AnswersCheck (check_state (meaning self.old) (derived table.old log.old) budget.old)
             (check_state (meaning self.new) (derived table.new log.new) budget.new) result };
+
+    /// Adds lemmas to the log that may imply literals, where the last check answered `Fine`, and lists their steps.
+    ///
+    /// The trail has the literals that it holds. A lemma may imply a literal where one has no value there, and all others are false. No
+    /// answer depends on which come, as the search looks at each. `NoMemory` comes where memory ran out; then some of the terms may have come
+    /// into the table, and it holds and watches what it did.
+    fn implied(
+        &mut self,
+        table: &mut TermTable,
+        log: &mut ProofLog,
+        trail: &SatTrail,
+    ) -> Result<Vec<StepId>, NoMemory>
+        requires over { IsTheoryOver table.old (meaning self.old).view }
+        requires with { (meaning self.old).goes_with table.old }
+        requires log { IsLogOf table.old log.old }
+        requires held { (meaning self.old).view.held ≡ trail.now.literals }
+        ensures { Implies (meaning self.old) (meaning self.new) (derived table.old log.old) (derived table.new log.new)
+            result };
 
     /// Marks what it holds and watches.
     ///

@@ -2,8 +2,9 @@
 
 use crate::simplex::Simplex;
 use no_memory::NoMemory;
-use proof_log::{ProofLog, Theory, Verdict};
+use proof_log::{ProofLog, StepId, Theory, Verdict};
 use sat_budget::{Budget, Stop};
+use sat_trail::SatTrail;
 use term_core::{Lit, TermId, TermTable};
 
 impl Theory for Simplex {
@@ -52,6 +53,15 @@ impl Theory for Simplex {
         budget: &mut Budget,
     ) -> Result<Verdict, Stop> {
         Simplex::check(self, table, log, budget)
+    }
+
+    fn implied(
+        &mut self,
+        table: &mut TermTable,
+        log: &mut ProofLog,
+        trail: &SatTrail,
+    ) -> Result<Vec<StepId>, NoMemory> {
+        Simplex::implied(self, table, log, trail)
     }
 
     fn mark(&mut self) -> Result<(), NoMemory> {
