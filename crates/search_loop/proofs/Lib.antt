@@ -1,5 +1,6 @@
 -- Lemmas on the parts of the search.
 pub mod SearchLists
+pub mod SearchClauses
 pub mod SearchValues
 pub mod SearchReasons
 pub mod SearchWaiting
@@ -25,3 +26,5 @@ pub mod SearchLooks
 pub mod SearchPays
 pub mod SearchChosen
 pub mod SearchKept
+pub mod SearchImplied
+pub mod SearchTaken

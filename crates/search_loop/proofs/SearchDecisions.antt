@@ -68,6 +68,11 @@ decided_more atoms clauses a b l n paired x quiet mentioned h = decided_with ato
 quiet_more : (clauses : List (List Lit)) (c held : List Lit) → IsPropagated clauses held → PropagatesNothing held c → IsPropagated (clauses ++ c ∷ []) held
 quiet_more clauses c held quiet s d i = elim (Contains-push_cases clauses c d i) [ inl was ↦ quiet d was | inr is ↦ subst (λ (x : List Lit). PropagatesNothing held x) is s ]
 
+-- a clause comes from which nothing follows before each decision
+pub decided_wider : (atoms : List TermId) (clauses : List (List Lit)) (c : List Lit) (v : TrailView) → ((p : ℕ) → p < length v.literals → get_or v.reasons p None ≡ None → PropagatesNothing (take p v.literals) c)
+    → AreDecided atoms clauses v → AreDecided atoms (clauses ++ c ∷ []) v
+decided_wider atoms clauses c v stays_quiet h = record { quiet = λ p lt none. quiet_more clauses c (take p v.literals) (h.quiet p lt none) (stays_quiet p lt none); of_atoms = h.of_atoms }
+
 -- a clause is learned, and the literals of higher levels go
 pub decided_learned : (atoms : List TermId) (clauses : List (List Lit)) (c : List Lit) (a b : TrailView) (n : ℕ) → length a.levels ≡ length a.literals
     → ((p : ℕ) → p < length a.literals → get_or a.reasons p None ≡ None → get_or a.levels p 0 ≤ n → PropagatesNothing (take p a.literals) c)

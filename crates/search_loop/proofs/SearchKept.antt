@@ -1,28 +1,29 @@
 -- That a search goes on with the clause of a step of its log in the store.
-use Rattle.std.proofs.Common.{◌≡◌, ℕ, ◌<◌, List, [], ◌∷◌, ◌++◌, length, get_or, map, All, Contains, inl, inr, refl, sym, ap, ◌∙◌, subst, arith}
+use Rattle.std.proofs.Common.{◌≡◌, ℕ, ◌<◌, List, [], ◌∷◌, ◌++◌, length, get_or, take, map, All, Contains, inl, inr, refl, sym, ap, ◌∙◌, subst}
 use Rattle.std.specs.Prelude.{None}
 use Rattle.std.proofs.lemmas.List.{append-nil, length-map, map-append}
 use Rattle.std.proofs.lemmas.List.Elements.{All-contains, All-push, Contains-append_left, Contains-get_or, Contains-push_cases}
-use Rattle.spec_text.proofs.Members.{to_image}
 use Rattle.spec_sorts.specs.Literals.{Literal, literals_of}
 use Rattle.spec_derivations.specs.Problems.{Problem}
 use Rattle.spec_derivations.specs.Derivations.{conclusion_at}
 use Rattle.term_core.specs.declared.ids.TermId.{TermId}
 use Rattle.term_core.specs.declared.ids.Lit.{Lit}
-use Rattle.term_core.specs.Tables.{TableView, IsIn, literal_at}
+use Rattle.term_core.specs.Tables.{TableView, literal_at, clause_at}
 use Rattle.term_core.proofs.TermsExtend.{Extends-self}
 use Rattle.clause_literals.specs.Literals.{lit_complement}
-use Rattle.sat_trail.specs.Trails.{IsLeveled}
+use Rattle.clause_literals.specs.Statuses.{PropagatesNothing}
 use Rattle.proof_log.specs.declared.premises.StepId.{StepId}
-use Rattle.proof_log.specs.Logs.{derivation_in}
+use Rattle.proof_log.specs.Logs.{named, logged_at, derivation_in}
 use Rattle.proof_log.specs.Clashes.{IsClash}
 use Rattle.proof_log.proofs.Logged.{conclusion_there}
 use Rattle.clause_store.specs.Stores.{StoreView, HasSeen, IsAdded}
 use Rattle.clause_store.specs.Propagating.{AreImplied}
 use Rattle.search_loop.specs.declared.search.Search.{Search}
 use Rattle.search_loop.specs.Waiting.{AreOfAtoms}
-use Rattle.search_loop.specs.Search.{images, AreCovered, SearchFits}
+use Rattle.search_loop.specs.Search.{images, AreDecided, AreCovered, SearchFits}
 use Rattle.search_loop.specs.Rounds.{HasDerived, IsSearch, Continues}
+use Rattle.search_loop.proofs.SearchLists.{in_table, meant}
+use Rattle.search_loop.proofs.SearchDecisions.{decided_wider}
 use Rattle.search_loop.proofs.SearchStored.{derives_with}
 use Rattle.search_loop.proofs.SearchLogs.{derived_stored}
 
@@ -31,8 +32,8 @@ module _ (t : TableView) (x : Search) (r : SearchFits t x) (step : StepId) (held
   -- the clause is over the atoms
   atom_of : (m : Lit) → Contains a.clause m → Contains x.atoms.items m.term
   atom_of m i = of_atoms (lit_complement m) (clash.fails m (record {
-    in_table = All-contains (λ (l : Lit). IsIn t l.term) a.clause m a.means.there i;
-    there = subst (λ (ls : List Literal). Contains ls (literal_at t m)) a.means.same (to_image (literal_at t) a.clause m i);
+    in_table = in_table t a.clause (clause_at t (named (logged_at x.log step))) a.means m i;
+    there = meant t a.clause (clause_at t (named (logged_at x.log step))) a.means m i;
   }))
 
   covers : AreCovered x.atoms.items (x.store.clauses ++ a.clause ∷ [])
@@ -47,22 +48,15 @@ module _ (t : TableView) (x : Search) (r : SearchFits t x) (step : StepId) (held
       let m = get_or a.clause k e in
       All-contains (λ (id : TermId). id.0 < x.trail.vars) x.terms.items m.term r.variables (r.atoms_are.chosen.among m.term (atom_of m (Contains-get_or a.clause k e lt)))
 
-  -- at level 0 no literal is decided
-  undecided : IsLeveled x.trail → x.trail.level ≡ 0 → (p : ℕ) → p < length x.trail.literals → get_or x.trail.reasons p None ≡ None → ⊥
-  undecided leveled level p lt none = omega (arith, leveled.topped p lt, leveled.decided p lt none, level)
-
-  -- what the search has fits together, where there is no decision yet
-  pub ready_kept : IsLeveled x.trail → x.trail.level ≡ 0 → HasSeen s x.trail → AreImplied s x.trail → SearchFits t (record x { store = s })
-  ready_kept leveled level seen implied = record {
+  -- what the search has fits together, where nothing followed from the clause before each decision
+  pub ready_kept : ((p : ℕ) → p < length x.trail.literals → get_or x.trail.reasons p None ≡ None → PropagatesNothing (take p x.trail.literals) a.clause) → HasSeen s x.trail → AreImplied s x.trail → SearchFits t (record x { store = s })
+  ready_kept stays_quiet seen implied = record {
     right = r.right;
     derives = derives_with t x.log step x.store s r.derives a clash.in_log;
     known = subst (All (All (λ (m : Lit). m.term.0 < x.trail.vars))) (sym a.clauses) (All-push (All (λ (m : Lit). m.term.0 < x.trail.vars)) x.store.clauses a.clause r.known known_of);
     seen = seen;
     implied = implied;
-    decided = record {
-      quiet = λ p lt none. absurd (undecided leveled level p lt none);
-      of_atoms = λ p lt none. absurd (undecided leveled level p lt none);
-    };
+    decided = subst (λ (cs : List (List Lit)). AreDecided x.atoms.items cs x.trail) (sym a.clauses) (decided_wider x.atoms.items x.store.clauses a.clause x.trail stays_quiet r.decided);
     atoms_are = r.atoms_are;
     variables = r.variables;
     covered = subst (AreCovered x.atoms.items) (sym a.clauses) covers;

@@ -1,5 +1,5 @@
 -- What is before the decision of a level, and what does not.
-use Rattle.std.proofs.Common.{◌≡◌, ℕ, ◌-◌, ◌<◌, ◌≤◌, List, length, get_or, take, Contains, inl, inr, sym, ap, ◌∙◌, subst, arith}
+use Rattle.std.proofs.Common.{◌≡◌, ◌≢◌, ℕ, ◌-◌, ◌<◌, ◌≤◌, List, length, get_or, take, Contains, inl, inr, sym, ap, ◌∙◌, subst, arith}
 use Rattle.std.specs.Prelude.{Option, None}
 use Rattle.std.proofs.lemmas.Bool.{cases_lt}
 use Rattle.std.proofs.lemmas.List.{get_or_default, take-take, get_or-take, length-take-le}
@@ -21,6 +21,10 @@ module _ (v : TrailView) (once : VariablesAreApart v.literals) (leveled : IsLeve
   decision_of n above le =
       let d = leveled.begun (n - 1) (omega (arith, above, le)) in
       (d.0, d.1, d.2, omega (arith, d.3, above))
+
+  -- at level 0 nothing is decided
+  pub undecided : v.level ≡ 0 → (p : ℕ) → p < length v.literals → get_or v.reasons p None ≡ None → ⊥
+  undecided level p lt none = omega (arith, leveled.topped p lt, leveled.decided p lt none, level)
 
   -- the level to go back to is below the trail's
   pub level_below : (clause : List Lit) (n level : ℕ) → HasOneAt v clause n level → 0 < n → level < v.level
@@ -66,6 +70,20 @@ module _ (v : TrailView) (once : VariablesAreApart v.literals) (leveled : IsLeve
     -- one that is so since a lower level is false there
     pub false_before : (m : Lit) (n : ℕ) → IsFalseAt v m n → n < get_or v.levels p 0 → Contains (take p v.literals) (lit_complement m)
     false_before m n f lt = in_front v.literals f.place p (lit_complement m) (lower_before f.place f.within (omega (arith, lt, f.level))) f.within (omega (arith, within)) f.there
+
+    -- from a clause with a literal that is not false, and another that is so since the trail's level, nothing follows there
+    pub late_before : (clause : List Lit) (l m : Lit) → Contains clause l → Contains clause m → m ≢ l → (Contains v.literals (lit_complement l) → ⊥) → IsFalseAt v m v.level → PropagatesNothing (take p v.literals) clause
+    late_before clause l m has_l has_m differ not_false f = inr (record {
+      one = l;
+      other = m;
+      has_one = has_l;
+      has_other = has_m;
+      differ = λ e. differ (sym e);
+      one_open = λ i.
+          let e = early_place v.literals p (lit_complement l) (omega (arith, within)) i in
+          not_false (e.0, e.2, sym (get_or_default v.literals e.0 no_lit (lit_complement l) e.2) ∙ e.3);
+      other_open = open_before m v.level f (leveled.topped p within);
+    })
 
     -- from a clause with one literal of a level nothing follows before each decision of the levels below, up to that of the others
     pub leveled_before : (clause : List Lit) (n level : ℕ) → HasOneAt v clause n level → get_or v.levels p 0 ≤ level → PropagatesNothing (take p v.literals) clause

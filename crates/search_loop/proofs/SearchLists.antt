@@ -1,10 +1,12 @@
 -- Literals of prefixes, and lists of literals over a table.
-use Rattle.std.proofs.Common.{◌≡◌, ℕ, ◌<◌, ◌≤◌, List, [], ◌∷◌, length, get_or, take, map, Contains, refl, sym, ap, ◌∙◌, arith, suc}
+use Rattle.std.proofs.Common.{◌≡◌, ℕ, ◌<◌, ◌≤◌, List, [], ◌∷◌, length, get_or, take, map, Contains, refl, sym, ap, ◌∙◌, subst, arith, suc}
 use Rattle.std.specs.Prelude.{drop}
 use Rattle.std.proofs.lemmas.List.{get_or-take, length-take-le, get_or_default}
-use Rattle.spec_sorts.specs.Literals.{Clause, Literal}
+use Rattle.std.proofs.lemmas.List.Elements.{All-contains}
+use Rattle.spec_text.proofs.Members.{to_image, from_image}
+use Rattle.spec_sorts.specs.Literals.{Clause, Literal, literals_of}
 use Rattle.term_core.specs.declared.ids.Lit.{Lit}
-use Rattle.term_core.specs.Tables.{TableView, AreDifferent, Extends, literal_at}
+use Rattle.term_core.specs.Tables.{TableView, IsIn, AreDifferent, Extends, literal_at}
 use Rattle.term_core.proofs.TermsExtend.{IsIn-kept, literal_at-kept}
 use Rattle.clause_literals.specs.Literals.{AreLiteralsIn, LiteralsMean}
 use Rattle.clause_literals.proofs.TableLiterals.{literals_apart}
@@ -29,6 +31,22 @@ module _ (t : TableView) (differ : AreDifferent t.terms) where
   -- so are two that mean one clause
   pub means_one : (a b : List Lit) (c : Clause) → LiteralsMean t a c → LiteralsMean t b c → a ≡ b
   means_one a b c m n = images_one a b m.there n.there (m.same ∙ sym n.same)
+
+-- the literals of a list that means a clause
+module _ (t : TableView) (c : List Lit) (clause : Clause) (means : LiteralsMean t c clause) where
+  -- are of the table
+  pub in_table : (m : Lit) → Contains c m → IsIn t m.term
+  in_table m i = All-contains (λ (k : Lit). IsIn t k.term) c m means.there i
+
+  -- mean one of the clause
+  pub meant : (m : Lit) → Contains c m → Contains (literals_of clause) (literal_at t m)
+  meant m i = subst (λ (ls : List Literal). Contains ls (literal_at t m)) means.same (to_image (literal_at t) c m i)
+
+  -- and no other does
+  pub only_meant : AreDifferent t.terms → (m : Lit) → IsIn t m.term → Contains (literals_of clause) (literal_at t m) → Contains c m
+  only_meant differ m there i =
+      let j = from_image (literal_at t) c (literal_at t m) (subst (λ (ls : List Literal). Contains ls (literal_at t m)) (sym means.same) i) in
+      subst (Contains c) (literals_apart t differ j.0 m (in_table j.0 j.1) there j.2) j.1
 
 -- over a table that has all that another had
 module _ (t u : TableView) (g : Extends t u) where

@@ -1,20 +1,17 @@
 -- Clashes and reasons of the store are those of the log.
 use Rattle.std.proofs.Common.{◌≡◌, ℕ, ◌<◌, List, [], length, get_or, take, Contains, sym, ap, subst}
 use Rattle.std.specs.Prelude.{Option, Some, None}
-use Rattle.std.proofs.lemmas.List.Elements.{All-contains}
-use Rattle.spec_text.proofs.Members.{to_image, from_image}
-use Rattle.spec_sorts.specs.Literals.{Literal}
 use Rattle.term_core.specs.declared.ids.Lit.{Lit}
-use Rattle.term_core.specs.Tables.{TableView, IsIn, AreDifferent, literal_at}
-use Rattle.clause_literals.proofs.TableLiterals.{literals_apart}
+use Rattle.term_core.specs.Tables.{TableView, AreDifferent, clause_at}
 use Rattle.proof_log.specs.declared.premises.StepId.{StepId}
-use Rattle.proof_log.specs.Logs.{Logged}
+use Rattle.proof_log.specs.Logs.{Logged, named, logged_at}
 use Rattle.sat_trail.specs.Trails.{TrailView, no_lit}
 use Rattle.clause_store.specs.Stores.{StoreView, no_step}
 use Rattle.clause_store.specs.Propagating.{IsClash as StoreClash, AreImplied}
 use Rattle.proof_log.specs.Clashes.{HasLit, IsClash}
 use Rattle.conflict_learn.specs.Conflicts.{IsTrailReason, AreTrailReasons, step_of}
 use Rattle.search_loop.specs.Search.{DerivesClauses}
+use Rattle.search_loop.proofs.SearchLists.{in_table, meant, only_meant}
 
 -- the number that an option has
 abbrev number_in : Option ℕ → ℕ
@@ -29,16 +26,13 @@ module _ (t : TableView) (differ : AreDifferent t.terms) (log : List Logged) (s 
   -- a literal of the clause is one of its step's
   pub lit_there : (l : Lit) → Contains (get_or s.clauses n []) l → HasLit t log (get_or s.steps n no_step) l
   lit_there l i = record {
-    in_table = All-contains (λ (k : Lit). IsIn t k.term) (get_or s.clauses n []) l (h.same n lt).there i;
-    there = subst (λ (ls : List Literal). Contains ls (literal_at t l)) (h.same n lt).same (to_image (literal_at t) (get_or s.clauses n []) l i);
+    in_table = in_table t (get_or s.clauses n []) (clause_at t (named (logged_at log (get_or s.steps n no_step)))) (h.same n lt) l i;
+    there = meant t (get_or s.clauses n []) (clause_at t (named (logged_at log (get_or s.steps n no_step)))) (h.same n lt) l i;
   }
 
   -- and no other is
   pub lit_back : (m : Lit) → HasLit t log (get_or s.steps n no_step) m → Contains (get_or s.clauses n []) m
-  lit_back m x =
-      let j = from_image (literal_at t) (get_or s.clauses n []) (literal_at t m) (subst (λ (ls : List Literal). Contains ls (literal_at t m)) (sym (h.same n lt).same) x.there) in
-      let same = literals_apart t differ j.0 m (All-contains (λ (k : Lit). IsIn t k.term) (get_or s.clauses n []) j.0 (h.same n lt).there j.1) x.in_table j.2 in
-      subst (λ (k : Lit). Contains (get_or s.clauses n []) k) same j.1
+  lit_back m x = only_meant t (get_or s.clauses n []) (clause_at t (named (logged_at log (get_or s.steps n no_step)))) (h.same n lt) differ m x.in_table x.there
 
 module _ (t : TableView) (differ : AreDifferent t.terms) (log : List Logged) (s : StoreView) (h : DerivesClauses t log s) where
   pub clash_is : (held : List Lit) (step : StepId) → StoreClash s held step → IsClash t log held step

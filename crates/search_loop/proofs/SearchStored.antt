@@ -70,10 +70,10 @@ module _ (t : TableView) (log : List Logged) (id : StepId) (a b : StoreView) (h 
   clause : (k : ℕ) → k < length a.clauses → get_or a.clauses k [] ≡ get_or b.clauses k []
   clause k early = sym (get_or_append_left a.clauses (y.clause ∷ []) [] k early) ∙ ap (λ (cs : List (List Lit)). get_or cs k []) (sym y.clauses)
 
-  last_step : (k : ℕ) → k ≡ length a.clauses → id ≡ get_or b.steps k no_step
+  pub last_step : (k : ℕ) → k ≡ length a.clauses → id ≡ get_or b.steps k no_step
   last_step k e = sym (get_or-append_seam a.steps id [] no_step) ∙ (λ i. get_or (sym y.steps i) (sym (e ∙ sym h.paired) i) no_step)
 
-  last_clause : (k : ℕ) → k ≡ length a.clauses → y.clause ≡ get_or b.clauses k []
+  pub last_clause : (k : ℕ) → k ≡ length a.clauses → y.clause ≡ get_or b.clauses k []
   last_clause k e = sym (get_or-append_seam a.clauses y.clause [] []) ∙ (λ i. get_or (sym y.clauses i) (sym e i) [])
 
   pub derives_with : DerivesClauses t log b

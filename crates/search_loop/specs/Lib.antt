@@ -5,6 +5,7 @@ pub mod Search
 pub mod Stops
 pub mod Rounds
 pub mod Asking
+pub mod Implying
 pub mod Growing
 pub mod Paying
 pub mod Loops

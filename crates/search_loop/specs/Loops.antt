@@ -1,6 +1,7 @@
 -- What each call of the loop does to a search and its theory. Source: Nieuwenhuis, Oliveras and Tinelli, Solving SAT and
 -- SAT modulo theories, JACM 2006.
-use Rattle.std.specs.Prelude.{◌≡◌, ◌+◌, ◌<◌, ℕ, List, ◌++◌, length, take, Result, Option, IfOk, OnOk, IfErr, IfSome}
+use Rattle.std.specs.Prelude.{◌≡◌, ◌+◌, ◌<◌, ℕ, List, ◌++◌, length, take, Bool, Result, Option}
+use Rattle.std.specs.Prelude.{IfOk, OnOk, IfErr, IfSome, MatchBool}
 use Rattle.spec_sorts.specs.Terms.{Term}
 use Rattle.spec_sorts.specs.Subsets.{AreAmong}
 use Rattle.term_core.specs.declared.ids.TermId.{TermId}
@@ -12,14 +13,13 @@ use Rattle.sat_budget.specs.Budgets.{StopsBy}
 use Rattle.proof_log.specs.declared.premises.StepId.{StepId}
 use Rattle.proof_log.specs.declared.theory.Verdict.{Verdict}
 use Rattle.proof_log.specs.Logs.{IsLogOf}
-use Rattle.proof_log.specs.Clashes.{IsClash}
-use Rattle.proof_log.specs.Theories.{TheoryView, terms_watched, literals_held, CameTo, paid_after}
+use Rattle.proof_log.specs.Theories.{terms_watched, literals_held, CameTo, paid_after}
 use Rattle.proof_log.specs.Meanings.{Meaning, KeepsRuns}
 use Rattle.sat_trail.specs.Trails.{TrailView}
 use Rattle.search_loop.specs.declared.search.Search.{Search}
 use Rattle.search_loop.specs.declared.cdcl.End.{End}
 use Rattle.search_loop.specs.Search.{SearchFits, conflict_of}
-use Rattle.search_loop.specs.Rounds.{IsStep, KeepsLimit, HasLearned}
+use Rattle.search_loop.specs.Rounds.{IsStep, KeepsLimit, HasLearned, Continues}
 use Rattle.search_loop.specs.Asking.{IsAsked, KeepsUp, SearchState, state, LookFinds, HasSaturated, HasStopped, OnStop}
 use Rattle.search_loop.specs.Asking.{ResolvesConflict, EndsSearch}
 use Rattle.search_loop.specs.Paying.{counted_among, counted_held, atoms_of, paid_by, paid_at, IsPaid, Looked}
@@ -141,6 +141,32 @@ pub record RunsLoop (old new : LoopState) (result : Result End Stop) : Type 0 wh
   pub stopped : IfErr result (OnStop (new.theory.goes_with new.table
       × HasStopped (search_of old) (search_of new) new.theory.view))
 
+-- Lemmas of a theory came into the log, and the loop can go on with the literals that they imply.
+pub record HasTaken (old new : LoopState) (implied : Bool) : Type 0 where
+  -- it can go on
+  pub goes_on : CanLoop new
+  -- the search is for the same terms
+  pub continues : Continues old.table new.table old.search new.search
+  -- nothing is learned, and no exchange made
+  pub budget : new.search.budget ≡ old.search.budget
+  -- the theory holds and watches the same
+  pub same : new.theory.view ≡ old.theory.view
+  -- it came by the same runs
+  pub came : (ts : List Term) (n : ℕ) → CameInLoop old ts n → CameInLoop new ts n
+  -- and agrees to what it did
+  pub agrees : HasAgreed old → HasAgreed new
+  -- more literals hold, or the log alone is changed
+  pub holds : MatchBool implied (length old.search.trail.literals < length new.search.trail.literals)
+      (new.search ≡ record old.search { log = new.search.log })
+
+-- What it came to that a theory may imply literals.
+pub record TakesImplied (old new : LoopState) (result : Result Bool NoMemory) : Type 0 where
+  -- terms may have come, and no symbols
+  pub grown : Extends old.table new.table
+  pub declared : declared_in new.table ≡ declared_in old.table
+  -- what was taken in
+  pub takes : IfOk result (HasTaken old new)
+
 -- A theory holds the literals of a trail.
 pub record FeedsTheory (ls : List Lit) (old new : Meaning) : Type 0 where
   -- what it holds
@@ -169,8 +195,11 @@ pub record WatchesAll (t : TableView) (ids : List TermId) (old new : Meaning)
   -- the theory goes with the table
   pub with : new.goes_with t
   -- what it watches
-  pub watches : OnOk result (new.view ≡ record { held = old.view.held; watched = old.view.watched ++ ids;
-      marks = old.view.marks })
+  pub watches : OnOk result (new.view ≡ record {
+    held = old.view.held;
+    watched = old.view.watched ++ ids;
+    marks = old.view.marks;
+  })
   -- it came by one run more for each atom of linear arithmetic that came
   pub came : (ts : List Term) (n : ℕ) (es : List (ℕ × ℕ)) → AreAmong (clause_at t ids) ts
       → old.running.came_by t ts n es → CameTo result

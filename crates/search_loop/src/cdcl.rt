@@ -35,8 +35,9 @@ pub enum End {
 impl Search {
     /// Searches until the theory and the clauses agree to values of all atoms, or cannot, or the budget is spent.
     ///
-    /// Each round assigns an atom more, or learns a clause and takes one from the budget. The theory is asked wherever propagation is
-    /// quiet. A conflict that it finds is a step of the log, as one of the clauses is; its clause is not kept.
+    /// Each round assigns atoms more, or learns a clause and takes one from the budget. The theory is asked wherever propagation is
+    /// quiet. A conflict that it finds is a step of the log, as one of the clauses is; its clause is not kept. Where it finds nothing
+    /// wrong, it may add lemmas. Of these the clauses are kept that imply literals, and before something is decided, these hold.
     ///
     /// `Memory` comes where memory ran out, here or in the theory, and `Strained` from the theory's check.
     pub fn run<T: Theory>(&mut self, table: &mut TermTable, theory: &mut T) -> Result<End, Stop>
@@ -50,6 +51,10 @@ impl Search {
         'rounds: loop {
             match self.look(table, theory)? {
                 Verdict::Fine => {
+                    if self.take_implied(table, theory)? {
+                        self.trail.is_sound();
+                        continue;
+                    }
                     let Some(l) = self.decider.next(&self.trail) else {
                         return Ok(End::Saturated);
                     };

@@ -1,6 +1,6 @@
 //! The order of decisions: which variables wait, how active they are, and the signs that they had last.
 
-ghost use Rattle.std.specs.Prelude.{◌≡◌, ◌<◌, ◌≤◌, [], ◌∷◌, ◌++◌, false, length, List, All, IfSome, OnOk, OnErr};
+ghost use Rattle.std.specs.Prelude.{◌≡◌, ◌<◌, ◌≤◌, [], ◌∷◌, ◌++◌, false, length, get_or, List, All, IfSome, OnOk, OnErr};
 ghost use Rattle.term_core.specs.declared.ids.TermId.{TermId as Number};
 ghost use Rattle.term_core.specs.declared.ids.Lit.{Lit as Literal};
 ghost use Rattle.proof_log.specs.Logs.{IsLogOf};
@@ -79,6 +79,14 @@ impl Decider {
         }
         insert_all(&mut self.order, atoms);
         Ok(())
+    }
+
+    /// Tells whether a variable waits to be decided. It takes no memory.
+    pub(crate) fn waits(&self, v: TermId) -> bool
+        requires { v.0 < length self.now }
+        ensures { result ≡ get_or self.now v.0 false }
+    {
+        self.order.has(v)
     }
 
     /// Gives variables the sign that affirms them, and makes the first of them more active: so the search tries soon that its equality

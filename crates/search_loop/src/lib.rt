@@ -13,6 +13,7 @@ mod decider;
 mod decision;
 mod feeding;
 mod growing;
+mod implying;
 mod lemmas;
 mod looking;
 mod restarts;

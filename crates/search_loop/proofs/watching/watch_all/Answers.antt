@@ -3,11 +3,9 @@ use Rattle.std.proofs.Common.{rules, ◌≡◌, ◌+◌, ◌<◌, ◌∙◌, ◌
 use Rattle.std.proofs.lemmas.List.{append-nil, take_all, take_more}
 use Rattle.std.proofs.lemmas.List.Elements.{Contains-get_or}
 use Rattle.spec_text.proofs.Members.{to_image}
-use Rattle.spec_sorts.specs.Terms.{Term}
 use Rattle.term_core.specs.declared.ids.TermId.{TermId}
 use Rattle.term_core.specs.Tables.{term_at, clause_at}
 use Rattle.sat_budget.specs.declared.limits.Stop.{Stop}
-use Rattle.sat_budget.specs.declared.limits.Strain.{Strain}
 use Rattle.sat_budget.specs.Budgets.{StopsBy}
 use Rattle.proof_log.specs.Theories.{TheoryView, with_watched}
 use Rattle.spec_causes.specs.Counts.{counted}
@@ -88,8 +86,8 @@ returns-in_err-watch_term g c =
           let came : ℕ → Type 0 = λ m. after.came_by t ts m es in
           let stopped : ℕ → Type 0 = λ m. after.stopped_by t ts m es in
           came_handed_on (λ _. came (counted (term_at t id) (n + here))) (λ _. came (n + all)) (stopped (n + here)) (IsPaid stopped (n + all))
-              c.from_residual.result stop c.from_residual.ensures.1 (λ s. (n + here, omega (arith, among_first t k ids), s))
-              (c.in_err-watch_term.ensures.came ts (n + here) es (among (term_at t id) (to_image (term_at t) ids id (Contains-get_or ids k no_id c.terms-test.true))) (c.terms.invariant.came ts n es among h));
+          c.from_residual.result stop c.from_residual.ensures.1 (λ s. (n + here, omega (arith, among_first t k ids), s))
+          (c.in_err-watch_term.ensures.came ts (n + here) es (among (term_at t id) (to_image (term_at t) ids id (Contains-get_or ids k no_id c.terms-test.true))) (c.terms.invariant.came ts n es among h));
       stops = handed_on (λ stop. (n : ℕ) × (n < length ids) × ((g.T.Theory.meaning c.watch_term.new.self).view.watched ≡ v.watched ++ take n ids) × shown (v.watched ++ take (n + 1) ids) stop)
           c.from_residual.result stop c.from_residual.ensures.1
           (k, c.terms-test.true, before, subst (λ watched. shown watched stop) up_to c.in_err-watch_term.ensures.stops);

@@ -1,24 +1,25 @@
 -- That the rounds end in an answer with its evidence.
-use Rattle.std.proofs.Common.{rules, ◌≡◌, ◌<◌, ◌≤◌, ◌-◌, ◌∙◌, ◌∷◌, [], ℕ, List, length, ap, ◌+◌, refl, sym, subst, arith}
-use Rattle.std.specs.Prelude.{None, Some, Vec, Contains}
-use Rattle.std.specs.declared.alloc.Global.{Global}
+use Rattle.std.proofs.Common.{rules, ◌≡◌, ◌<◌, ◌≤◌, ◌-◌, ◌∙◌, ◌∷◌, ◌++◌, [], ℕ, List, length, ap, ◌+◌, refl, sym, subst, arith}
+use Rattle.std.specs.Prelude.{None, Some}
 use Rattle.std.proofs.lemmas.List.{length-append}
 use Rattle.sat_budget.specs.declared.limits.Strain.{Strain}
 use Rattle.sat_budget.specs.Budgets.{BudgetView, StopsBy}
-use Rattle.term_core.specs.declared.ids.TermId.{TermId}
 use Rattle.term_core.specs.declared.ids.Lit.{Lit}
 use Rattle.proof_log.specs.Theories.{TheoryView, terms_watched, paid_after}
+use Rattle.search_loop.specs.declared.search.Search.{Search}
 use Rattle.search_loop.specs.declared.cdcl.End.{End}
+use Rattle.search_loop.specs.Rounds.{Continues}
 use Rattle.search_loop.specs.Asking.{KeepsUp, HasStopped, OnStop, state, ResolvesConflict}
 use Rattle.search_loop.specs.Paying.{counted_held, atoms_of, paid_by, paid_at, IsPaid}
-use Rattle.search_loop.proofs.SearchPays.{paid_begun, paid_more, paid_learned, paid_quiet, paid_clash, paid_where, atoms_stay, held_stay, held_among}
+use Rattle.search_loop.proofs.SearchPays.{paid_begun, paid_more, paid_learned, paid_quiet, paid_clash, paid_where, atoms_stay}
 use Rattle.search_loop.proofs.SearchSpends.{handed_on, came_on_stop, on_stop_weaker}
 use Rattle.search_loop.proofs.SearchLooks.{stopped_on}
 use Rattle.search_loop.proofs.SearchReady.{ready_waiting, ready_decided}
 use Rattle.term_core.proofs.TermsExtend.{Extends-trans}
-use Rattle.search_loop.proofs.SearchRounds.{continues_same, continues_on, ends_on, less_learned, less_assigned}
+use Rattle.search_loop.proofs.SearchRounds.{continues_same, continues_on, ends_on, less_learned}
 use Rattle.search_loop.proofs.SearchTheories.{keeps_decided}
 use Rattle.search_loop.proofs.SearchWaiting.{satisfied_by}
+use Rattle.search_loop.proofs.SearchTaken.{quiet_still, all_held, held_since, less_by}
 use Rattle.search_loop.proofs.search.Search.run.Goals as goal
 
 pub rounds-init : goal.rounds-init
@@ -32,59 +33,119 @@ rounds-init g c = record {
   continues = continues_same c.args.table.now c.args.self.now c.args.self.now refl refl refl refl refl;
 }
 
+-- the theory may imply literals
+pub take_implied-requires-clause-going : goal.take_implied-requires-clause-going
+take_implied-requires-clause-going g c =
+    let l = (rw c.in-Fine.is at c.in_ok-look.ensures.looks).0 in
+    record { ready = l.ready; asked = l.asked; with = c.in_ok-look.ensures.with }
+
+pub take_implied-requires-clause-held : goal.take_implied-requires-clause-held
+take_implied-requires-clause-held g c = (rw c.in-Fine.is at c.in_ok-look.ensures.looks).2
+
 pub rounds-preserved-in-Fine : goal.rounds-preserved-in-Fine
 rounds-preserved-in-Fine g c =
+    let t = c.args.table.now in
+    let x = c.rounds.self in
     let u = c.look.new.table in
     let y = c.look.new.self in
+    let q = c.take_implied.new.table in
+    let s = c.take_implied.new.self in
     let looks = rw c.in-Fine.is at c.in_ok-look.ensures.looks in
     let l = looks.0 in
+    let k = c.in_ok-take_implied-in-Fine.ensures.takes in
+    let is = rw c.if-branch.false at k.holds in
+    let r = k.goes_on.ready in
     let d = c.in-Some.l in
     let ws = c.next.new.self in
     let w = c.decide.new.self in
     let pushed = c.decide.ensures in
-    let chosen = rw c.in-Some.is at c.next.ensures.choice y.atoms.items l.ready.waiting in
-    let n = y.trail.level + 1 in
-    let z = record y { trail = w; decider = ws } in
+    let chosen = rw c.in-Some.is at c.next.ensures.choice s.atoms.items r.waiting in
+    let n = s.trail.level + 1 in
+    let z = record s { trail = w; decider = ws } in
+    let v = (g.T.Theory.meaning c.look.new.theory).view in
+    let after = (g.T.Theory.meaning c.take_implied.new.theory).view in
+    let marked = (g.T.Theory.meaning c.mark.new.self).view in
+    let on : Continues c.rounds.table q x s = continues_on c.rounds.table u q x y s l.continues k.continues in
     record {
-      ready = ready_decided u y w ws d n l.ready pushed
-          (c.what_is_marked_was_seen.ensures.pushed y.store y.trail w d None n c.is_sound.ensures.propagated l.ready.seen pushed)
-          (c.reasons_stay_right.ensures.decided y.store y.trail w d n l.ready.implied pushed) looks.1 chosen.0 chosen.1 c.next.ensures.size;
+      ready = ready_decided q s w ws d n r pushed
+          (c.what_is_marked_was_seen.ensures.pushed s.store s.trail w d None n c.is_sound-in-Fine.ensures.propagated r.seen pushed)
+          (c.reasons_stay_right.ensures.decided s.store s.trail w d n r.implied pushed) (quiet_still y s is looks.1) chosen.0 chosen.1 c.next.ensures.size;
       asked = record {
-        keeps = subst (λ (v : TheoryView). KeepsUp v w) (sym c.in_ok-mark-in-Fine.ensures.marks) (keeps_decided (g.T.Theory.meaning c.look.new.theory).view y.trail w d c.is_sound.ensures.leveled pushed l.asked.keeps looks.2);
-        terms = ap (λ (v : TheoryView). v.watched) c.in_ok-mark-in-Fine.ensures.marks ∙ l.asked.terms;
-        fed = l.asked.fed ∙ ap (λ (v : TheoryView). length v.held) (sym c.in_ok-mark-in-Fine.ensures.marks);
+        keeps = subst (λ (v : TheoryView). KeepsUp v w) (sym c.in_ok-mark-in-Fine.ensures.marks) (keeps_decided after s.trail w d c.is_sound-in-Fine.ensures.leveled pushed k.goes_on.asked.keeps (all_held y s is v after k.same looks.2));
+        terms = ap (λ (v : TheoryView). v.watched) c.in_ok-mark-in-Fine.ensures.marks ∙ k.goes_on.asked.terms;
+        fed = k.goes_on.asked.fed ∙ ap (λ (v : TheoryView). length v.held) (sym c.in_ok-mark-in-Fine.ensures.marks);
       };
-      with = c.mark.ensures.keeps.with u c.in_ok-look.ensures.with;
+      with = c.mark.ensures.keeps.with q k.goes_on.with;
       came = λ ts r h.
           let n = c.rounds.invariant.came ts r h in
           let m = rw c.in-Fine.is at (c.in_ok-look.ensures.came ts n.0 n.2) in
-          let k = m.3 in
-          let v = (g.T.Theory.meaning c.look.new.theory).view in
-          let held : counted_held u (g.T.Theory.meaning c.mark.new.self).view.held ≡ counted_held c.rounds.table v.held =
-          ap (λ (v : TheoryView). counted_held u v.held) c.in_ok-mark-in-Fine.ensures.marks
-          ∙ held_stay c.rounds.table c.rounds.self c.rounds.invariant.ready u l.continues.table v.held (λ d i.
-          subst (λ (ids : Vec TermId Global). Contains ids.items d.term) l.continues.terms (held_among u y l.ready v l.asked d i)) in (
-            k.0,
-            paid_more (atoms_of c.args.table.now c.args.self.now) (length c.rounds.self.budget.learned) (length y.budget.learned) r
-                (counted_held c.rounds.table (g.T.Theory.meaning c.rounds.theory).view.held) (counted_held c.rounds.table v.held) (counted_held u (g.T.Theory.meaning c.mark.new.self).view.held)
-                n.0 m.0 k.0 n.1 m.1 k.1 (ap length c.look.ensures.learned) held,
-            c.mark.ensures.keeps.came u ts k.0 y.budget.exchanges k.2,
+          let p = m.3 in
+          let same : marked.held ≡ v.held = ap (λ (v : TheoryView). v.held) c.in_ok-mark-in-Fine.ensures.marks ∙ ap (λ (v : TheoryView). v.held) k.same in (
+            p.0,
+            paid_more (atoms_of t c.args.self.now) (length x.budget.learned) (length s.budget.learned) r
+                (counted_held c.rounds.table (g.T.Theory.meaning c.rounds.theory).view.held) (counted_held c.rounds.table v.held) (counted_held q marked.held)
+                n.0 m.0 p.0 n.1 m.1 p.1 (ap (λ (b : BudgetView). length b.learned) k.budget ∙ ap length c.look.ensures.learned)
+                (held_since c.rounds.table q x c.rounds.invariant.ready on.table u y l.ready v l.asked l.continues.terms marked.held same),
+            c.mark.ensures.keeps.came q ts p.0 s.budget.exchanges (k.came ts p.0 p.2),
           );
-      continues = continues_on c.args.table.now u u c.args.self.now y z (continues_on c.args.table.now c.rounds.table u c.args.self.now c.rounds.self y c.rounds.invariant.continues l.continues)
-          (continues_same u y z refl refl refl pushed.vars refl);
+      continues = continues_on t q q c.args.self.now s z (continues_on t c.rounds.table q c.args.self.now x s c.rounds.invariant.continues on) (continues_same q s z refl refl refl pushed.vars refl);
     }
+
+pub rounds-preserved-then-branch : goal.rounds-preserved-then-branch
+rounds-preserved-then-branch g c =
+    let t = c.args.table.now in
+    let x = c.rounds.self in
+    let u = c.look.new.table in
+    let y = c.look.new.self in
+    let q = c.take_implied.new.table in
+    let s = c.take_implied.new.self in
+    let l = (rw c.in-Fine.is at c.in_ok-look.ensures.looks).0 in
+    let k = c.in_ok-take_implied-in-Fine.ensures.takes in
+    let v = (g.T.Theory.meaning c.look.new.theory).view in
+    let after = (g.T.Theory.meaning c.take_implied.new.theory).view in
+    let on : Continues c.rounds.table q x s = continues_on c.rounds.table u q x y s l.continues k.continues in
+    record {
+      ready = k.goes_on.ready;
+      asked = k.goes_on.asked;
+      with = k.goes_on.with;
+      came = λ ts r h.
+          let n = c.rounds.invariant.came ts r h in
+          let m = rw c.in-Fine.is at (c.in_ok-look.ensures.came ts n.0 n.2) in
+          let p = m.3 in (
+            p.0,
+            paid_more (atoms_of t c.args.self.now) (length x.budget.learned) (length s.budget.learned) r
+                (counted_held c.rounds.table (g.T.Theory.meaning c.rounds.theory).view.held) (counted_held c.rounds.table v.held) (counted_held q after.held)
+                n.0 m.0 p.0 n.1 m.1 p.1 (ap (λ (b : BudgetView). length b.learned) k.budget ∙ ap length c.look.ensures.learned)
+                (held_since c.rounds.table q x c.rounds.invariant.ready on.table u y l.ready v l.asked l.continues.terms after.held (ap (λ (v : TheoryView). v.held) k.same)),
+            k.came ts p.0 p.2,
+          );
+      continues = continues_on t c.rounds.table q c.args.self.now x s c.rounds.invariant.continues on;
+    }
+
+pub rounds-smaller-then-branch : goal.rounds-smaller-then-branch
+rounds-smaller-then-branch g c =
+    let x = c.rounds.self in
+    let s = c.take_implied.new.self in
+    let l = (rw c.in-Fine.is at c.in_ok-look.ensures.looks).0 in
+    let k = c.in_ok-take_implied-in-Fine.ensures.takes in
+    let holds = rw c.if-branch.true at k.holds in
+    less_by x.budget s.budget (x.budget.exchanges ++ l.budget.0) x.trail.vars s.trail.vars (length x.trail.literals) (length s.trail.literals) (k.budget ∙ l.budget.1)
+    (k.continues.vars ∙ l.continues.vars) (omega (arith, l.literals, holds)) c.is_sound.ensures.within
 
 pub rounds-smaller-in-Fine : goal.rounds-smaller-in-Fine
 rounds-smaller-in-Fine g c =
     let x = c.rounds.self in
     let y = c.look.new.self in
-    let looks = rw c.in-Fine.is at c.in_ok-look.ensures.looks in
-    let l = looks.0 in
-    let pushed = c.decide.ensures in
+    let s = c.take_implied.new.self in
     let w = c.decide.new.self in
-    let b = l.budget.1 in
-    let more : length x.trail.literals < length w.literals = omega (arith, l.literals, ap length pushed.literals, length-append y.trail.literals (c.in-Some.l ∷ [])) in
-    rw b (less_assigned (x.budget.limit - length x.budget.learned) x.trail.vars w.vars (length x.trail.literals) (length w.literals) (pushed.vars ∙ l.continues.vars) more c.is_sound-in-Fine.ensures.within)
+    let l = (rw c.in-Fine.is at c.in_ok-look.ensures.looks).0 in
+    let k = c.in_ok-take_implied-in-Fine.ensures.takes in
+    let is = rw c.if-branch.false at k.holds in
+    let pushed = c.decide.ensures in
+    let same : length s.trail.literals ≡ length y.trail.literals = ap (λ (z : Search). length z.trail.literals) is in
+    let more : length x.trail.literals < length w.literals = omega (arith, same, l.literals, ap length pushed.literals, length-append s.trail.literals (c.in-Some.l ∷ [])) in
+    less_by x.budget s.budget (x.budget.exchanges ++ l.budget.0) x.trail.vars w.vars (length x.trail.literals) (length w.literals) (k.budget ∙ l.budget.1)
+    (pushed.vars ∙ k.continues.vars ∙ l.continues.vars) more c.is_sound-in-Fine-2.ensures.within
 
 pub rounds-preserved : goal.rounds-preserved
 rounds-preserved g c =
@@ -130,42 +191,48 @@ returns-in_default g c =
     let x = c.args.self.now in
     let u = c.rounds.table in
     let y = c.rounds.self in
-    let s = c.look.new.table in
-    let z = c.look.new.self in
+    let a = c.look.new.table in
+    let b = c.look.new.self in
+    let q = c.take_implied.new.table in
+    let s = c.take_implied.new.self in
     let v = (g.T.Theory.meaning c.rounds.theory).view in
     let w = (g.T.Theory.meaning c.look.new.theory).view in
+    let after = (g.T.Theory.meaning c.take_implied.new.theory).view in
     let looks = rw c.in-Fine.is at c.in_ok-look.ensures.looks in
     let l = looks.0 in
-    let chosen = rw c.in_default.is at c.next.ensures.choice z.atoms.items l.ready.waiting in
-    let end = record z { decider = c.next.new.self } in
-    let on = continues_on t u s x y z c.rounds.invariant.continues l.continues in
+    let k = c.in_ok-take_implied-in-Fine.ensures.takes in
+    let is = rw c.if-branch.false at k.holds in
+    let r = k.goes_on.ready in
+    let chosen = rw c.in_default.is at c.next.ensures.choice s.atoms.items r.waiting in
+    let end = record s { decider = c.next.new.self } in
+    let on = continues_on t u q x y s c.rounds.invariant.continues (continues_on u a q y b s l.continues k.continues) in
     record {
       grown = on.table;
       declared = on.declared;
-      right = l.ready.right;
+      right = r.right;
       limit = on.limit;
       terms = on.terms;
-      with = c.in_ok-look.ensures.with;
+      with = k.goes_on.with;
       ends = (
         record {
-          ready = ready_waiting s z c.next.new.self l.ready chosen.1 c.next.ensures.size;
-          held = looks.2;
-          asked = record { keeps = l.asked.keeps; terms = l.asked.terms; fed = l.asked.fed };
+          ready = ready_waiting q s c.next.new.self r chosen.1 c.next.ensures.size;
+          held = all_held b s is w after k.same looks.2;
+          asked = record { keeps = k.goes_on.asked.keeps; terms = k.goes_on.asked.terms; fed = k.goes_on.asked.fed };
           assigned = chosen.0;
-          satisfied = satisfied_by z.atoms.items z.store.clauses z.trail.literals l.ready.covered looks.1 chosen.0;
-          agrees = looks.3;
+          satisfied = satisfied_by s.atoms.items s.store.clauses s.trail.literals r.covered (quiet_still b s is looks.1) chosen.0;
+          agrees = k.agrees looks.3;
         },
-        continues_on t s s x z end on (continues_same s z end refl refl refl refl refl),
+        continues_on t q q x s end on (continues_same q s end refl refl refl refl refl),
       );
       came = λ ts r h.
           let n = c.rounds.invariant.came ts r h in
           let m = rw c.in-Fine.is at (c.in_ok-look.ensures.came ts n.0 n.2) in
-          let k = m.3 in (
-            k.0,
-            paid_quiet (atoms_of t x) (atoms_of s z) (length y.budget.learned) (length z.budget.learned) r (counted_held u v.held) (counted_held u w.held) n.0 m.0 k.0 n.1 m.1
-                (subst (λ a. counted_held u w.held ≤ a) (atoms_stay t x c.requires.ready u c.rounds.invariant.continues.table y c.rounds.invariant.continues.terms) m.2) k.1
-                (ap length c.look.ensures.learned) (atoms_stay t x c.requires.ready s on.table z on.terms),
-            k.2,
+          let p = m.3 in (
+            p.0,
+            paid_quiet (atoms_of t x) (atoms_of q s) (length y.budget.learned) (length s.budget.learned) r (counted_held u v.held) (counted_held u w.held) n.0 m.0 p.0 n.1 m.1
+                (subst (λ a. counted_held u w.held ≤ a) (atoms_stay t x c.requires.ready u c.rounds.invariant.continues.table y c.rounds.invariant.continues.terms) m.2) p.1
+                (ap (λ (b : BudgetView). length b.learned) k.budget ∙ ap length c.look.ensures.learned) (atoms_stay t x c.requires.ready q on.table s on.terms),
+            k.came ts p.0 p.2,
           );
       stops = tt;
       stopped = tt;
@@ -260,12 +327,32 @@ returns-in_err-look g c =
           (on_stop_weaker shown (after.goes_with s × HasStopped (state t x) (state s z) w) (λ h. (h.0, stopped_on t u s x y z w c.rounds.invariant.continues h.1)) stop c.in_err-look.ensures.stopped);
     }
 
+pub returns-in_err-take_implied-in-Fine : goal.returns-in_err-take_implied-in-Fine
+returns-in_err-take_implied-in-Fine g c =
+    let t = c.args.table.now in
+    let u = c.look.new.table in
+    let q = c.take_implied.new.table in
+    record {
+      grown = Extends-trans t u q (Extends-trans t c.rounds.table u c.rounds.invariant.continues.table c.look.ensures.grown) c.take_implied.ensures.grown;
+      declared = c.take_implied.ensures.declared ∙ c.look.ensures.declared ∙ c.rounds.invariant.continues.declared;
+      right = search rules;
+      limit = search rules;
+      terms = search rules;
+      with = search rules;
+      ends = search rules;
+      came = search rules;
+      stops = search rules;
+      stopped = search rules;
+    }
+
 pub returns-in_err-mark-in-Fine : goal.returns-in_err-mark-in-Fine
 returns-in_err-mark-in-Fine g c =
     let t = c.args.table.now in
+    let u = c.look.new.table in
+    let q = c.take_implied.new.table in
     record {
-      grown = Extends-trans t c.rounds.table c.look.new.table c.rounds.invariant.continues.table c.look.ensures.grown;
-      declared = c.look.ensures.declared ∙ c.rounds.invariant.continues.declared;
+      grown = Extends-trans t u q (Extends-trans t c.rounds.table u c.rounds.invariant.continues.table c.look.ensures.grown) c.take_implied.ensures.grown;
+      declared = c.take_implied.ensures.declared ∙ c.look.ensures.declared ∙ c.rounds.invariant.continues.declared;
       right = search rules;
       limit = search rules;
       terms = search rules;
