@@ -24,6 +24,7 @@ pub mod SearchRounds
 pub mod SearchSpends
 pub mod SearchLooks
 pub mod SearchPays
+pub mod SearchTries
 pub mod SearchChosen
 pub mod SearchKept
 pub mod SearchImplied

@@ -1,6 +1,6 @@
--- What each call of the loop does to a search and its theory. Source: Nieuwenhuis, Oliveras and Tinelli, Solving SAT and
--- SAT modulo theories, JACM 2006.
-use Rattle.std.specs.Prelude.{◌≡◌, ◌+◌, ◌<◌, ℕ, List, ◌++◌, length, take, Bool, Result, Option}
+-- What each call of the loop does to a search and its theory. Source: Nieuwenhuis, Oliveras and Tinelli, Solving SAT
+-- and SAT modulo theories, JACM 2006.
+use Rattle.std.specs.Prelude.{◌≡◌, ◌+◌, ◌<◌, ℕ, List, ◌++◌, length, take, Bool, Result, Option, None, Some}
 use Rattle.std.specs.Prelude.{IfOk, OnOk, IfErr, IfSome, MatchBool}
 use Rattle.spec_sorts.specs.Terms.{Term}
 use Rattle.spec_sorts.specs.Subsets.{AreAmong}
@@ -78,7 +78,8 @@ pub record Looks (old new : LoopState) (result : Result Verdict Stop) : Type 0 w
       → Looked (search_of old) old.theory.view.held new.theory.view.held n
       (λ m. CameTo result (λ verdict. IsPaid (CameInLoop new ts) (paid_after verdict m)) (StoppedInLoop new ts m))
   -- a stop is shown
-  pub stops : IfErr result (StopsBy (new.theory.running.may_overflow new.table (terms_watched new.table new.theory.view)))
+  pub stops : IfErr result
+      (StopsBy (new.theory.running.may_overflow new.table (terms_watched new.table new.theory.view)))
   -- and leaves the search as one for the same terms
   pub stopped : IfErr result (OnStop (new.theory.goes_with new.table
       × HasStopped (search_of old) (search_of new) new.theory.view))
@@ -136,7 +137,8 @@ pub record RunsLoop (old new : LoopState) (result : Result End Stop) : Type 0 wh
       → CameTo result (λ end. IsPaid (CameInLoop new ts) (paid_at new.table new.search r end))
       (IsPaid (StoppedInLoop new ts) (paid_by new.table new.search r (atoms_of new.table new.search)))
   -- a stop is shown
-  pub stops : IfErr result (StopsBy (new.theory.running.may_overflow new.table (terms_watched new.table new.theory.view)))
+  pub stops : IfErr result
+      (StopsBy (new.theory.running.may_overflow new.table (terms_watched new.table new.theory.view)))
   -- and leaves the search as one for the same terms
   pub stopped : IfErr result (OnStop (new.theory.goes_with new.table
       × HasStopped (search_of old) (search_of new) new.theory.view))
@@ -209,3 +211,40 @@ pub record WatchesAll (t : TableView) (ids : List TermId) (old new : Meaning)
   pub stops : IfErr result (λ stop. (k : ℕ) × (k < length ids)
       × (new.view.watched ≡ old.view.watched ++ take k ids)
       × StopsBy (new.running.may_overflow t (clause_at t (old.view.watched ++ take (k + 1) ids))) stop)
+
+-- what trying literals comes to: the search can go on from level 0; or how it ends is shown, which is not saturated
+abbrev pub TriesTo : (old new : LoopState) → Option End → Type 0
+TriesTo old new None = CanLoop new × Continues old.table new.table old.search new.search
+    × (new.search.trail.level ≡ 0)
+TriesTo old new (Some end) = EndsSearch (search_of old) (search_of new) ⊥ end
+
+-- and what is paid then
+abbrev pub paid_tried : TableView → Search → (r : ℕ) → Option End → ℕ
+paid_tried t x r None = paid_by t x r 0
+paid_tried t x r (Some end) = paid_at t x r end
+
+-- What trying so many literals came to, each of which is paid like one growth, where h of the held atoms were paid for.
+pub record TriesAll (tries h : ℕ) (old new : LoopState) (result : Result (Option End) Stop) : Type 0 where
+  -- terms may have come, and no symbols
+  pub grown : Extends old.table new.table
+  pub declared : declared_in new.table ≡ declared_in old.table
+  -- each step of the log is right
+  pub right : IfOk result (λ _. IsLogOf new.table new.search.log)
+  -- the budget has its limit
+  pub limit : IfOk result (λ _. KeepsLimit old.search.budget new.search.budget)
+  -- the search speaks of the same terms
+  pub terms : IfOk result (λ _. new.search.terms ≡ old.search.terms)
+  -- the theory goes with the table
+  pub with : IfOk result (λ _. new.theory.goes_with new.table)
+  -- it can go on, or how it ends is shown
+  pub goes : IfOk result (TriesTo old new)
+  -- runs are paid
+  pub came : (ts : List Term) (r : ℕ) → IsPaid (CameInLoop old ts) (paid_by old.table old.search r h)
+      → CameTo result (λ end. IsPaid (CameInLoop new ts) (paid_tried new.table new.search (r + tries) end))
+      (IsPaid (StoppedInLoop new ts) (paid_by new.table new.search (r + tries) (atoms_of new.table new.search)))
+  -- a stop is shown
+  pub stops : IfErr result
+      (StopsBy (new.theory.running.may_overflow new.table (terms_watched new.table new.theory.view)))
+  -- and leaves the search as one for the same terms
+  pub stopped : IfErr result (OnStop (new.theory.goes_with new.table
+      × HasStopped (search_of old) (search_of new) new.theory.view))

@@ -1,5 +1,5 @@
 -- How a search pays for runs of exchanges: one for each atom of linear arithmetic that is watched, one for each that is
--- held, for each learned clause one more than there are atoms, and as many as these where it grows.
+-- held, for each learned clause one more than there are atoms, and as many as these where it grows or tries a literal.
 use Rattle.std.specs.Prelude.{◌≡◌, ◌+◌, ◌*◌, ◌≤◌, ℕ, List, length, map}
 use Rattle.spec_causes.specs.Counts.{arithmetic_in}
 use Rattle.term_core.specs.declared.ids.TermId.{TermId}
@@ -22,7 +22,8 @@ counted_held t ls = length (arithmetic_in (map (λ (l : Lit). term_at t l.term) 
 abbrev pub atoms_of : TableView → Search → ℕ
 atoms_of t x = counted_among t x.terms.items
 
--- what is paid over a atoms where l clauses are learned, the search grew r times, and h of the atoms are held
+-- what is paid over a atoms where l clauses are learned, the search grew or tried literals r times, and h of the atoms
+-- are held
 abbrev pub paid : (a l r h : ℕ) → ℕ
 paid a l r h = a + l * (1 + a) + r * a + h
 

@@ -14,7 +14,8 @@ use sat_trail::SatTrail;
 pub(crate) fn feed<T: Theory>(theory: &mut T, trail: &SatTrail, from: u64)
     requires from { from ≤ length trail.now.literals }
     requires front { (T.meaning theory.old).view.held ≡ take from trail.now.literals }
-    requires watched { (l : Literal) → Contains trail.now.literals l → Contains (T.meaning theory.old).view.watched l.term }
+    requires watched { (l : Literal) → Contains trail.now.literals l
+        → Contains (T.meaning theory.old).view.watched l.term }
     ensures { FeedsTheory trail.now.literals (T.meaning theory.old) (T.meaning theory.new) }
 {
     trail.is_sound();

@@ -19,6 +19,7 @@ mod looking;
 mod restarts;
 mod resting;
 mod search;
+mod trying;
 mod waiting;
 mod watching;
 
