@@ -15,6 +15,7 @@ pub mod SearchAsked
 pub mod SearchWatching
 pub mod Missing
 pub mod SearchRests
+pub mod SearchTried
 pub mod SearchGoing
 pub mod SearchSpeaking
 pub mod SearchOutcome

@@ -40,7 +40,7 @@ pub record IsSearching (ts : List Term) (shared : List TermId) (s : SearchState)
   pub simplex : Suits v.simplex s.table
   -- it is asked of the terms
   pub terms : IsAskedFor ts shared s
-  -- it grew so many times, no more than it has atoms, and pays for as much
+  -- it grew or tried a literal so many times, no more than it has atoms, and pays for as much
   pub grown : ℕ
   pub few : grown ≤ atoms_of s.table s.search
   pub paid : HasCome s v.simplex (paid_by s.table s.search grown held)

@@ -18,6 +18,7 @@ ghost use Rattle.solve_core.specs.GoingOn.{CanGoOn};
 
 use crate::agreeing::{AgreementFound, agreement};
 use crate::bounding::relate_bounds;
+use crate::choosing::denied_orders;
 use crate::modelling::{TheoryAssignment, model, zeros};
 use crate::propositional::{answer_propositional, are_propositional};
 use crate::sharing::{is_number, shared_terms};
@@ -183,7 +184,38 @@ fn begin_with(
         return Err(stop);
     }
     theory.parts_hold_the_same();
-    search_with(search, table, theory, shared)
+    try_and_search(search, table, theory, shared)
+}
+
+/// Tries the orders of choices between numbers, and searches with both theories.
+///
+/// The search has not grown yet: so what the tries cost is paid. `Memory` comes where memory ran out, here or in a theory, and `Strained`
+/// from linear arithmetic.
+fn try_and_search(
+    search: &mut Search,
+    table: &mut TermTable,
+    theory: &mut Combined,
+    shared: &[TermId],
+) -> Result<Answer, Stop>
+    ghost asked: { List Term }
+    requires ready { (h : CanGoOn asked shared.now (state table.old search.old) theory.old) × (h.grown ≡ 0) }
+    requires level { search.old.trail.level ≡ 0 }
+    ensures grown { Extends table.old table.new }
+    ensures declared { declared_in table.new ≡ declared_in table.old }
+    ensures answers { MatchResult result (IsAnswered asked search.old.budget.limit (state table.new search.new))
+        (IsStoppedBy asked search.old.budget.limit (state table.new search.new)) }
+{
+    table.ids_are_unique();
+    let orders = denied_orders(search.alloc, table, &search.terms)?;
+    let tried = search.try_all(table, theory, &orders)?;
+    let Some(end) = tried else {
+        return search_with(search, table, theory, shared);
+    };
+    match end {
+        End::Refuted(step) => Ok(Answer::Unsat(step)),
+        End::Stopped(reason) => Ok(Answer::Unknown(reason)),
+        End::Saturated => unreachable!(),
+    }
 }
 
 /// Searches with both theories. Where it rests and they do not agree on pairs of shared terms, the equalities of these come in, and it

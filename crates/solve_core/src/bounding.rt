@@ -14,8 +14,7 @@ use crate::marking::{is_marked, marked};
 use bound_lemmas::{BoundPair, excluding, neighbours_of};
 use no_memory::NoMemory;
 use search_loop::Search;
-use std::alloc::Global;
-use term_core::{TermId, TermTable};
+use term_core::TermTable;
 
 /// Gives a search the clause that the two literals of a pair do not both hold, where the rule `la_generic` takes it.
 ///

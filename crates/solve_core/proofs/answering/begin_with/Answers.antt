@@ -46,8 +46,8 @@ returns-in-Err-clause-answers g c =
     (stop_shown t c.ids_are_unique.ensures x b.ready p b.search.listed.only 0 (omega arith) _ t theory.simplex (length x.budget.learned) (0 + counted_among t ids) es (clause_at t (watched ++ take (h.0 + 1) ids)) among (omega (arith, count)) stop
     (rw c.in-Err.is at (c.watch_all.ensures.came (whole_terms p) 0 es spoken before)) h.3)
 
-pub search_with-requires : goal.search_with-requires
-search_with-requires g c =
+pub try_and_search-requires : goal.try_and_search-requires
+try_and_search-requires g c =
     let t = c.args.table.now in
     let x = c.args.search.now in
     let b = c.requires.0 in
@@ -56,25 +56,30 @@ search_with-requires g c =
     let es = x.budget.exchanges in
     let all = c.deref.ensures.value in
     let watches = c.in_default.ensures.watches in
-    let empty = c.requires.1.1.0 in
-    record {
-      ready = b.ready;
-      asked = asked_begun t p x (theory_of theory.congruence) b (ap (λ (v : TheoryView). v.held) (watches) ∙ ap (λ (v : TheoryView). v.held) empty)
-          (ap (λ (v : TheoryView). v.watched) watches ∙ ap (λ (v : TheoryView). v.watched ++ c.deref.result.now) empty ∙ all) (ap (λ (v : TheoryView). v.marks) watches ∙ ap (λ (v : TheoryView). v.marks) empty);
-      congruence = c.watch_all.ensures.with.0;
-      simplex = c.watch_all.ensures.with.1;
-      terms = record {
-        interface = [];
-        asked = record {
-          asked = b.search;
-          shared = subst (λ (us : List Term). AreSharedOf t (subterms_of us) c.args.shared.now) (sym (append-nil g.asked)) c.requires.1.0;
-          interface = All-nil (IsSharedEquality (subterms_in p));
-        };
-      };
-      grown = 0;
-      few = omega arith;
-      paid = λ ts among.
-          let before = subst (λ made. CameBy t ts 0 made c.args.theory.now.simplex) (sym b.unspent) (c.requires.1.1.1.1.1 ts) in
-          let came = c.in_default.ensures.came ts 0 es (λ u i. among u (subst (λ (is : List TermId). Contains (clause_at t is) u) all i)) before in
-          (0 + counted_among t c.deref.result.now, omega (arith, ap (counted_among t) all), came);
-    }
+    let empty = c.requires.1.1.0 in (
+      (
+        record {
+          ready = b.ready;
+          asked = asked_begun t p x (theory_of theory.congruence) b (ap (λ (v : TheoryView). v.held) (watches) ∙ ap (λ (v : TheoryView). v.held) empty)
+              (ap (λ (v : TheoryView). v.watched) watches ∙ ap (λ (v : TheoryView). v.watched ++ c.deref.result.now) empty ∙ all) (ap (λ (v : TheoryView). v.marks) watches ∙ ap (λ (v : TheoryView). v.marks) empty);
+          congruence = c.watch_all.ensures.with.0;
+          simplex = c.watch_all.ensures.with.1;
+          terms = record {
+            interface = [];
+            asked = record {
+              asked = b.search;
+              shared = subst (λ (us : List Term). AreSharedOf t (subterms_of us) c.args.shared.now) (sym (append-nil g.asked)) c.requires.1.0;
+              interface = All-nil (IsSharedEquality (subterms_in p));
+            };
+          };
+          grown = 0;
+          few = omega arith;
+          paid = λ ts among.
+              let before = subst (λ made. CameBy t ts 0 made c.args.theory.now.simplex) (sym b.unspent) (c.requires.1.1.1.1.1 ts) in
+              let came = c.in_default.ensures.came ts 0 es (λ u i. among u (subst (λ (is : List TermId). Contains (clause_at t is) u) all i)) before in
+              (0 + counted_among t c.deref.result.now, omega (arith, ap (counted_among t) all), came);
+        },
+        refl,
+      ),
+      b.level,
+    )

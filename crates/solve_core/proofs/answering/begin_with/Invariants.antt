@@ -1,5 +1,5 @@
 -- The same terms are asked about.
 use Rattle.solve_core.proofs.answering.begin_with.Given as goal
 
-abbrev pub ghost-search_with : goal.ghost-search_with
-ghost-search_with g a = g.asked
+abbrev pub ghost-try_and_search : goal.ghost-try_and_search
+ghost-try_and_search g a = g.asked
