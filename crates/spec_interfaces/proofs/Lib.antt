@@ -1,0 +1,2 @@
+-- Lemmas on interface equalities.
+pub mod Apart
