@@ -17,3 +17,4 @@ pub mod Backward
 pub mod Starting
 pub mod Imaged
 pub mod Chosen
+pub mod Whole

@@ -1,10 +1,13 @@
 -- Which literals a last clause keeps.
 use Rattle.std.specs.Prelude.{◌≡◌, ℕ, ◌<◌, List, map, length, get_or, Contains}
-use Rattle.spec_sorts.specs.Literals.{complement}
+use Rattle.spec_sorts.specs.Literals.{literals_of, complement}
 use Rattle.spec_derivations.specs.ExactChains.{IsExactResolvent}
 use Rattle.spec_proofs.specs.Resolution.{IsWithin}
+use Rattle.term_core.specs.declared.ids.TermId.{TermId}
 use Rattle.term_core.specs.declared.ids.Lit.{Lit}
+use Rattle.term_core.specs.Tables.{TableView, clause_at}
 use Rattle.proof_log.specs.declared.premises.StepId.{StepId}
+use Rattle.proof_log.specs.Logs.{Logged, clauses_in}
 use Rattle.proof_log.specs.Clashes.{literals_in}
 use Rattle.proof_log.specs.Theories.{Derived}
 use Rattle.congruence_explain.specs.declared.claims.SignedClaim.{SignedClaim}
@@ -41,3 +44,9 @@ pub record HasPutSome (start : Start) (now : Derived) (clause : List SignedClaim
   pub there : id.0 < length now.log
   -- is that of the clause
   pub literals : literals_in now.table now.log id ≡ map (claim_as_literal start.table) kept
+
+-- the clause is what a chain of resolutions over the clauses of steps gives, and no more
+abbrev pub ComesFrom : TableView → List Logged → List StepId → List TermId → Type 0
+ComesFrom t log steps clause =
+    IsExactResolvent complement (Contains (map literals_of (map (clause_at t) (clauses_in log steps))))
+    (literals_of (clause_at t clause))

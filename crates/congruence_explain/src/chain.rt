@@ -94,16 +94,16 @@ fn find(waiting: &[Vec<Lit>], held: &Assignment) -> Option<Found>
     None
 }
 
-/// Goes on from the literals that hold to a clause that is false.
+/// Goes on from the literals that hold to a clause that is false; `None` where none comes to be.
 fn propagate(
     table: &TermTable,
     premises: Vec<Vec<Lit>>,
     held: &mut Assignment,
     implied: Vec<Implied>,
-) -> Result<Trace, NoMemory>
+) -> Result<Option<Trace>, NoMemory>
     requires none { implied.items ≡ [] }
-    requires refuted { IsRefuted table.now (lists premises.items) held.old }
-    ensures { IfOk result (λ r. LeadsTo (lists premises.items) held.old r.implied.items r.last.items) }
+    ensures { IfOk result (λ found. MatchOption found (IsRefuted table.now (lists premises.items) held.old → ⊥)
+        (λ r. LeadsTo (lists premises.items) held.old r.implied.items r.last.items)) }
 {
     table.ids_are_unique();
     let mut waiting = premises;
@@ -111,10 +111,10 @@ fn propagate(
     'steps: while let Some(found) = find(&waiting, held) {
         let clause = waiting.remove(found.at);
         let Some(l) = found.open else {
-            return Ok(Trace {
+            return Ok(Some(Trace {
                 implied,
                 last: clause,
-            });
+            }));
         };
         if held.contains(l) {
             continue;
@@ -122,7 +122,7 @@ fn propagate(
         held.add(l)?;
         implied.push(Implied { literal: l, clause })?;
     }
-    unreachable!()
+    Ok(None)
 }
 
 /// Adds the literals of a clause.
@@ -164,11 +164,32 @@ fn complements(alloc: Global, clause: &[Lit]) -> Result<Assignment, NoMemory>
     Ok(held)
 }
 
-/// Gives literals, of which those that a clause has are what a chain of resolutions over premises gives.
+/// Gives literals, of which those that a clause has are what a chain of resolutions over premises gives; `None` where no premise comes to
+/// be false.
 ///
 /// From the complements of the clause's literals, unit propagation comes to a premise that is false. The way back from there resolves on
 /// what was implied, newest first, so that no pivot comes back. Source: Zhang, Madigan, Moskewicz and Malik, ICCAD 2001; that it goes on
 /// until nothing implied is left is own.
+pub(crate) fn needed_if_refuted(
+    alloc: Global,
+    table: &TermTable,
+    premises: Vec<Vec<Lit>>,
+    clause: &[Lit],
+) -> Result<Option<Assignment>, NoMemory>
+    ensures { IfOk result (λ found. MatchOption found
+        (IsRefuted table.now (lists premises.items) (map lit_complement clause.now) → ⊥)
+        (λ needed. IsExactResolvent lit_complement (Contains (lists premises.items))
+        (standing (map lit_complement clause.now) needed))) }
+{
+    let mut held = complements(alloc, clause)?;
+    let Some(trace) = propagate(table, premises, &mut held, Vec::new(alloc))? else {
+        return Ok(None);
+    };
+    let needed = walk_back(alloc, &trace)?;
+    Ok(Some(needed))
+}
+
+/// Gives these literals where a premise comes to be false.
 pub(crate) fn needed_of(
     alloc: Global,
     table: &TermTable,
@@ -179,7 +200,8 @@ pub(crate) fn needed_of(
     ensures { IfOk result (λ needed. IsExactResolvent lit_complement (Contains (lists premises.items))
         (standing (map lit_complement clause.now) needed)) }
 {
-    let mut held = complements(alloc, clause)?;
-    let trace = propagate(table, premises, &mut held, Vec::new(alloc))?;
-    walk_back(alloc, &trace)
+    let Some(needed) = needed_if_refuted(alloc, table, premises, clause)? else {
+        unreachable!()
+    };
+    Ok(needed)
 }

@@ -42,7 +42,7 @@ fn steps_from(alloc: Global, log: &ProofLog, from: u64) -> Result<Vec<StepId>, N
 }
 
 /// Gives the literals of each step.
-fn clauses_of(
+pub(crate) fn clauses_of(
     alloc: Global,
     table: &TermTable,
     log: &ProofLog,

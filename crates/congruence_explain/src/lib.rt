@@ -8,12 +8,14 @@ mod choosing;
 mod claims;
 mod collecting;
 mod edges;
+mod exactness;
 mod explaining;
 mod paths;
 mod putting;
 mod rules;
 
 pub use congruence_relation::{Conflict, Truths};
+pub use exactness::is_exact;
 pub use explain_forest::Forest;
 pub use explaining::explain;
 pub use proof_log::StepId;

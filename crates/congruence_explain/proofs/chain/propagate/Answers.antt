@@ -23,5 +23,5 @@ steps-preserved c =
     traced_more (lists c.args.premises.items) c.args.held.now c.steps.held c.steps.implied.items c.steps.waiting.items c.steps.invariant c.in-Some.found.at c.remove-clause.result found.0 c.remove-clause.ensures.value c.remove-clause.new.self.items c.remove-clause.ensures.items c.in-Some-open.l (rw c.in-Some-open.is at found.1)
     c.add.new.self c.in_ok-add.ensures c.if-contains.ensures (record { literal = c.in-Some-open.l; clause = c.remove-clause.result }) refl refl c.push.new.self.items c.in_ok-push.ensures.items
 
-pub unreachable-requires : goal.unreachable-requires
-unreachable-requires c = traced_all (lists c.args.premises.items) c.args.held.now c.steps.held c.steps.implied.items c.steps.waiting.items c.steps.invariant c.args.table.now c.ids_are_unique.ensures c.requires.refuted (rw c.deref.ensures.value at c.in_default.ensures)
+pub returns : goal.returns
+returns c = λ refuted. traced_all (lists c.args.premises.items) c.args.held.now c.steps.held c.steps.implied.items c.steps.waiting.items c.steps.invariant c.args.table.now c.ids_are_unique.ensures refuted (rw c.deref.ensures.value at c.in_default.ensures)
