@@ -1,0 +1,5 @@
+-- Lemmas of this crate.
+mod Asserted
+mod MarkedLeads
+pub mod Batches
+pub mod Leading
