@@ -9,6 +9,7 @@ pub mod SearchStored
 pub mod SearchDecisions
 pub mod SearchReady
 pub mod SearchNew
+pub mod SearchApart
 pub mod SearchMore
 pub mod SearchLogs
 pub mod SearchAtoms

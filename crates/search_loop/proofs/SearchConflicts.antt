@@ -1,32 +1,35 @@
 -- What is learned from a conflict is new and over atoms.
-use Rattle.std.proofs.Common.{◌≡◌, ◌≢◌, ℕ, ◌<◌, ◌≤◌, Bool, true, false, List, ◌++◌, length, get_or, take, map, Contains, inl, inr, refl, sym, ◌∙◌, subst, arith}
+use Rattle.std.proofs.Common.{◌≡◌, ◌≢◌, ℕ, ◌<◌, ◌≤◌, Bool, true, false, List, [], ◌++◌, length, get_or, take, map, Contains, inl, inr, refl, sym, ◌∙◌, subst, arith}
 use Rattle.std.specs.Prelude.{None}
 use Rattle.std.proofs.lemmas.List.{get_or_default}
 use Rattle.std.proofs.lemmas.List.Elements.{Contains-append_cases}
-use Rattle.spec_text.proofs.Members.{from_image}
-use Rattle.spec_sorts.specs.Literals.{Clause, Literal, literals_of}
+use Rattle.spec_text.proofs.Members.{from_image, none as no_element}
+use Rattle.spec_sorts.specs.Literals.{Clause, Literal, complement, literals_of}
 use Rattle.spec_derivations.specs.Problems.{Problem}
 use Rattle.spec_derivations.specs.Derivations.{Derivation}
 use Rattle.spec_derivations.specs.Orders.{whole_terms, whole_clauses, first_clauses}
 use Rattle.spec_derivations.specs.Learned.{IsNew}
 use Rattle.spec_derivations.specs.Spent.{IsAtomOf}
 use Rattle.spec_derivations.proofs.Grown.{first_whole}
+use Rattle.spec_derivations.proofs.Learned.{decide_literals}
+use Rattle.spec_derivations.proofs.Quiet.{derived_holds}
 use Rattle.term_core.specs.declared.ids.TermId.{TermId}
 use Rattle.term_core.specs.declared.ids.Lit.{Lit}
 use Rattle.term_core.specs.Tables.{TableView, IsIn, AreDifferent, term_at, literal_at}
 use Rattle.clause_literals.specs.Literals.{lit_complement, IsConsistent}
 use Rattle.sat_trail.specs.Trails.{no_lit, VariablesAreApart, IsLeveled}
+use Rattle.clause_store.specs.Propagating.{IsPropagated}
 use Rattle.proof_log.specs.declared.premises.StepId.{StepId}
 use Rattle.conflict_learn.specs.Conflicts.{IsFalseAt, IsConflictLevel}
 use Rattle.conflict_learn.specs.Learned.{HasOneAt}
 use Rattle.conflict_learn.proofs.Places.{early_place}
 use Rattle.search_loop.specs.declared.search.Search.{Search}
 use Rattle.search_loop.specs.Search.{images, SearchFits, conflict_of}
-use Rattle.search_loop.specs.Rounds.{HasDerived, HasWholeClauses}
+use Rattle.search_loop.specs.Rounds.{HasDerived, HasWholeClauses, IsFact}
 use Rattle.search_loop.proofs.SearchValues.{one_of_two}
 use Rattle.search_loop.proofs.SearchLevels.{decision_of, open_before, not_before, false_before}
 use Rattle.search_loop.proofs.SearchReady.{atom_at, atom_in, clauses_in, held_in}
-use Rattle.search_loop.proofs.SearchNew.{new_at}
+use Rattle.search_loop.proofs.SearchNew.{image_back, quiet_images, consistent_images, new_at}
 use Rattle.search_loop.proofs.SearchAtoms.{is_atom}
 
 module _ (t : TableView) (differ : AreDifferent t.terms) (x : Search) (r : SearchFits t x) (once : VariablesAreApart x.trail.literals) (leveled : IsLeveled x.trail) (consistent : IsConsistent x.trail.literals)
@@ -65,17 +68,45 @@ module _ (t : TableView) (differ : AreDifferent t.terms) (x : Search) (r : Searc
     topped : n ≤ x.trail.level
     topped = let le = leveled.topped f.place f.within in omega (arith, le, f.level)
 
-    -- the term is an atom
-    pub atom_of : ((id : TermId) → Contains x.atoms.items id → Contains (whole_terms problem) (term_at t id)) → 0 < n → IsAtomOf problem (term_at t m.term)
-    atom_of spoken above =
-        let p = decision_of x.trail once leveled n above topped in
-        let open_one : Contains (take p.0 x.trail.literals) (lit_complement m) → ⊥ = open_before x.trail once leveled p.0 p.1 p.2 m n f (omega (arith, p.3)) in
-        let open_other : Contains (take p.0 x.trail.literals) m → ⊥ = not_before x.trail once leveled p.0 p.1 p.2 consistent m n f in
-        let neither : (s : Bool) → Contains (take p.0 x.trail.literals) (record { term = m.term; positive = s }) → ⊥
-        = λ s i. elim (one_of_two m s (λ (k : Lit). Contains (take p.0 x.trail.literals) k) i) [ inl a ↦ open_other a | inr b ↦ open_one b ] in
-        let own = atom_in t x r m.term of_atom in
-        is_atom t differ problem x.store.clauses (clauses_in t x r) from_search (take p.0 x.trail.literals) (λ l i j. consistent l (in_all p.0 p.1 p.2 l i) (in_all p.0 p.1 p.2 (lit_complement l) j))
-        (r.decided.quiet p.0 p.1 p.2) (record { term = m.term; positive = true }) false_in refl (neither true) (neither false) (spoken m.term of_atom) own.0.1.sort own.1
+    -- of a level above 0
+    module _ (above : 0 < n) where
+      -- before the level's decision
+      decision : (p : ℕ) × (p < length x.trail.literals) × (get_or x.trail.reasons p None ≡ None) × (get_or x.trail.levels p 0 ≡ n)
+      decision = decision_of x.trail once leveled n above topped
+
+      abbrev front : List Lit
+      front = take decision.0 x.trail.literals
+
+      consistent_then : IsConsistent front
+      consistent_then l i j = consistent l (in_all decision.0 decision.1 decision.2 l i) (in_all decision.0 decision.1 decision.2 (lit_complement l) j)
+
+      quiet_then : IsPropagated x.store.clauses front
+      quiet_then = r.decided.quiet decision.0 decision.1 decision.2
+
+      -- its term has no value
+      neither : (s : Bool) → Contains front (record { term = m.term; positive = s }) → ⊥
+      neither s i = elim (one_of_two m s (λ (k : Lit). Contains front k) i) [
+        | inl a ↦ not_before x.trail once leveled decision.0 decision.1 decision.2 consistent m n f a
+        | inr b ↦ open_before x.trail once leveled decision.0 decision.1 decision.2 m n f (omega (arith, decision.3)) b
+      ]
+
+      -- the term is an atom
+      pub atom_of : ((id : TermId) → Contains x.atoms.items id → Contains (whole_terms problem) (term_at t id)) → IsAtomOf problem (term_at t m.term)
+      atom_of spoken =
+          let own = atom_in t x r m.term of_atom in
+          is_atom t differ problem x.store.clauses (clauses_in t x r) from_search front consistent_then quiet_then
+          (record { term = m.term; positive = true }) false_in refl (neither true) (neither false) (spoken m.term of_atom) own.0.1.sort own.1
+
+      -- and no fact, as all facts held there
+      pub no_fact : IsFact (images t x.store.clauses) (term_at t m.term) → ⊥
+      no_fact fact =
+          let there : (l : Lit) → Contains front l → IsIn t l.term = λ l i. held_in t x r l (in_all decision.0 decision.1 decision.2 l i) in
+          let one : Lit = record { term = m.term; positive = true } in
+          let holds : Contains (map (literal_at t) front) (literal_at t one) =
+          derived_holds complement decide_literals (images t x.store.clauses) [] (map (literal_at t) front)
+          (quiet_images t differ front there x.store.clauses (clauses_in t x r) quiet_then (images t x.store.clauses) from_store)
+          (consistent_images t differ front there consistent_then) (λ l i. absurd (no_element l i)) (literal_at t one) fact in
+          neither true (image_back t differ front there one false_in holds)
 
   -- a clause with one literal of a level above 0 and others of levels below is new
   pub one_is_new : (clause : List Lit) (n level : ℕ) → HasOneAt x.trail clause n level → 0 < n → IsNew (map literals_of (first_clauses problem) ++ learned) (map (literal_at t) clause)

@@ -1,5 +1,5 @@
 -- That a search stays one for the same terms where the table grows and lemmas come into the log.
-use Rattle.std.proofs.Common.{◌≡◌, ℕ, List, [], ◌++◌, length, get_or, map, All, refl, sym, ap, ◌∙◌, subst, arith}
+use Rattle.std.proofs.Common.{◌≡◌, ℕ, List, [], ◌++◌, length, get_or, map, All, Contains, refl, sym, ap, ◌∙◌, subst, arith}
 use Rattle.std.proofs.lemmas.List.{append-nil, length-map, map-append}
 use Rattle.std.proofs.lemmas.List.Elements.{All-map, All-contains, Contains-get_or}
 use Rattle.spec_sorts.specs.Terms.{Symbol, Term}
@@ -28,6 +28,7 @@ use Rattle.search_loop.proofs.SearchLists.{of_kept, images_kept}
 use Rattle.search_loop.proofs.SearchLogs.{derived_lemmas, whole_on}
 use Rattle.search_loop.proofs.SearchReady.{clauses_in}
 use Rattle.search_loop.proofs.SearchStored.{derives_on}
+use Rattle.search_loop.proofs.SearchApart.{apart_on}
 
 -- the terms of a search are those that it speaks of
 pub spoken : (t : TableView) (x : Search) (problem : Problem) → IsSearch t problem x → AreAmong (clause_at t x.terms.items) (whole_terms problem)
@@ -139,7 +140,17 @@ module _ (t u : TableView) (g : Extends t u) (declared : declared_in u ≡ decla
           }
 
     pub continues_grown : All (λ (l : Logged). IsLemma (clause_at t x.terms.items) (derivation_in u log) (length x.log) (inference_of u l)) more → Continues t u x (record x { log = log; fed = n })
-    continues_grown lemmas = record { table = g; declared = declared; limit = refl; more = []; learned = sym (append-nil x.budget.learned); vars = refl; terms = refl; search = search_grown lemmas }
+    continues_grown lemmas = record {
+      table = g;
+      declared = declared;
+      limit = refl;
+      more = [];
+      learned = sym (append-nil x.budget.learned);
+      vars = refl;
+      terms = refl;
+      search = search_grown lemmas;
+      apart = λ problem s a. apart_on t u x (record x { log = log; fed = n }) (λ c i. subst (λ (cs : List (List Literal)). Contains cs c) (sym (images_kept t u g x.store.clauses stored_in)) i) problem a (images_kept t u g x.budget.learned r.learned);
+    }
 
   -- with terms alone
   module _ (x : Search) (right : IsLogOf u x.log) (same : derivation_in u x.log ≡ derivation_in t x.log) (r : SearchFits t x) where

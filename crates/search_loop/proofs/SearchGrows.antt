@@ -10,7 +10,7 @@ use Rattle.spec_text.proofs.Members.{to_image, from_image, in_flat, from_flat}
 use Rattle.spec_sorts.specs.Terms.{Term}
 use Rattle.spec_sorts.specs.Subsets.{IsClosed}
 use Rattle.spec_sorts.specs.Literals.{Clause, Literal, complement, literals_of}
-use Rattle.spec_derivations.specs.Problems.{Problem, terms_of_problem}
+use Rattle.spec_derivations.specs.Problems.{Problem, terms_of_problem, subterms_in}
 use Rattle.spec_derivations.specs.Derivations.{Derivation, no_inference, conclusion, conclusion_at, AssumesAmong}
 use Rattle.spec_derivations.specs.Orders.{whole_terms, whole_clauses_of, whole_clauses}
 use Rattle.spec_derivations.specs.Inputs.{IsInput}
@@ -18,6 +18,8 @@ use Rattle.spec_derivations.specs.Spent.{IsLearnedFrom}
 use Rattle.spec_derivations.proofs.Exact.{resolvents_more}
 use Rattle.spec_derivations.proofs.Onward.{learned_onward, has_lemma_onward, input_onward}
 use Rattle.spec_derivations.proofs.OrderedTerms.{whole_over, whole_closed}
+use Rattle.spec_causes.specs.Shared.{IsSharedEquality}
+use Rattle.spec_interfaces.specs.Interfaces.{speaking_of}
 use Rattle.term_core.specs.declared.ids.TermId.{TermId}
 use Rattle.term_core.specs.declared.ids.Lit.{Lit}
 use Rattle.term_core.specs.Tables.{TableView, IsIn, AreDifferent, term_at, literal_at, clause_at}
@@ -43,10 +45,11 @@ use Rattle.conflict_learn.proofs.Meanings.{bare_in}
 use Rattle.search_loop.specs.declared.search.Search.{Search}
 use Rattle.search_loop.specs.Waiting.{AreWaiting}
 use Rattle.search_loop.specs.Search.{images, AreAllOf, DerivesClauses, AreAtomsAmong, AreAtomsOf, AreCovered, AreDecided, SearchFits, Reaches}
-use Rattle.search_loop.specs.Rounds.{AreSteps, stating, ComesFrom, HasDerived, HasWholeClauses, IsSearch}
+use Rattle.search_loop.specs.Rounds.{AreSteps, stating, ComesFrom, HasDerived, HasWholeClauses, IsSearch, HoldsApart}
 use Rattle.search_loop.specs.Growing.{StoresAll}
 use Rattle.search_loop.proofs.SearchLists.{of_kept, images_kept}
 use Rattle.search_loop.proofs.SearchStored.{derives_on}
+use Rattle.search_loop.proofs.SearchApart.{apart_grown}
 use Rattle.search_loop.proofs.SearchGrown.{term_kept, atoms_kept}
 use Rattle.search_loop.proofs.SearchParts.{IsHad, IsPart, among_whole, among_roots}
 
@@ -274,6 +277,11 @@ module _ (t u : TableView) (x y : Search) (roots interface : List TermId) (h : C
 
   learned_are : images u y.budget.learned ≡ images t x.budget.learned
   learned_are = ap (images u) h.learned ∙ images_kept t u h.grows.table x.budget.learned h.ready.learned
+
+  -- and equalities of shared numbers leave facts as they are
+  pub apart_wider : (q : Problem) → HoldsApart t q x → (more : List Term) → All (IsSharedEquality (subterms_in q)) more → HoldsApart u (speaking_of q more) y
+  apart_wider q holds more shared = apart_grown t u x y
+      (λ c i. subst (λ (cs : List (List Literal)). Contains cs c) (sym images_are) (Contains-append_left (images t x.store.clauses) (images u clauses) c i)) q holds more shared learned_are
 
   module _ (p : Problem) (part : IsPart t x roots interface p) where
     abbrev d : Derivation

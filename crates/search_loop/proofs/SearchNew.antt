@@ -15,7 +15,7 @@ use Rattle.clause_store.specs.Propagating.{IsPropagated as LitQuiet}
 
 -- what follows from some clauses follows from more
 module _ {L : Type 0} (negation : L → L) (ps qs : List (List L)) (within : (c : List L) → Contains ps c → Contains qs c) (start : List L) where
-  derives_more : (l : L) → Derives negation ps start l → Derives negation qs start l
+  pub derives_more : (l : L) → Derives negation ps start l → Derives negation qs start l
   derives_more _ (given l i) = given l i
   derives_more _ (unit c l c_in l_in others) = unit c l (within c c_in) l_in (λ m i d. derives_more (negation m) (others m i d))
 

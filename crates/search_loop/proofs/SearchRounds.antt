@@ -1,5 +1,5 @@
 -- One round of a search after another, and that the rounds end.
-use Rattle.std.proofs.Common.{◌≡◌, ℕ, ◌+◌, ◌-◌, ◌*◌, ◌<◌, ◌≤◌, Bool, List, [], ◌++◌, refl, sym, ap, ◌∙◌, subst, arith, append_assoc}
+use Rattle.std.proofs.Common.{◌≡◌, ℕ, ◌+◌, ◌-◌, ◌*◌, ◌<◌, ◌≤◌, Bool, List, [], ◌++◌, Contains, refl, sym, ap, ◌∙◌, subst, arith, append_assoc}
 use Rattle.std.proofs.lemmas.List.{append-nil}
 use Rattle.std.specs.Prelude.{Option, Some}
 use Rattle.term_core.specs.declared.ids.Lit.{Lit}
@@ -21,6 +21,7 @@ use Rattle.proof_log.specs.Theories.{TheoryView}
 use Rattle.search_loop.specs.Search.{images}
 use Rattle.search_loop.specs.Rounds.{HasDerived, HasWholeClauses, Continues, ShowsAnswer}
 use Rattle.search_loop.proofs.SearchReady.{Ids}
+use Rattle.search_loop.proofs.SearchApart.{apart_on}
 
 -- the log, the clauses and what was learned are the same
 pub continues_same : (t : TableView) (x y : Search) → y.log ≡ x.log → y.store.clauses ≡ x.store.clauses → y.budget ≡ x.budget → y.trail.vars ≡ x.trail.vars → y.terms ≡ x.terms → Continues t t x y
@@ -46,6 +47,7 @@ continues_same t x y log clauses budget vars terms = record {
     whole = subst (λ (l : List Logged). HasWholeClauses problem (derivation_in t l) (images t y.store.clauses)) (sym log)
         (subst (λ (cs : List (List Lit)). HasWholeClauses problem (derivation_in t x.log) (images t cs)) (sym clauses) s.whole);
   };
+  apart = λ problem s a. apart_on t t x y (λ c i. subst (λ (cs : List (List Lit)). Contains (images t cs) c) (sym clauses) i) problem a (ap (λ (b : BudgetView). images t b.learned) budget);
 }
 
 -- one after the other
@@ -59,6 +61,7 @@ continues_on s t u a b c h k = record {
   vars = k.vars ∙ h.vars;
   terms = k.terms ∙ h.terms;
   search = λ problem x. k.search problem (h.search problem x);
+  apart = λ problem x e. k.apart problem (h.search problem x) (h.apart problem x e);
 }
 
 -- propagation went on, and it was looked for a decision
@@ -74,7 +77,7 @@ module _ (t u : TableView) (a x : Search) (s : StoreView) (v : TrailView) (h : C
 
 -- what an answer shows later on, it shows of the beginning
 pub shows_on : (s t u : TableView) (a b c : Search) (x : Answer) → Continues s t a b → ShowsAnswer t u b c x → ShowsAnswer s u a c x
-shows_on s t u a b c x h shows problem z = shows problem (h.search problem z)
+shows_on s t u a b c x h shows problem z e = shows problem (h.search problem z) (h.apart problem z e)
 
 -- so it is with what comes of a conflict that ends the search
 pub ends_on : (s t u : TableView) (a b c : Search) (v : TheoryView) (search_saturated : Type 0) (end : End) → Continues s t a b → ResolvesConflict (state t b) (state u c) v (Some end) → EndsSearch (state s a) (state u c) search_saturated end

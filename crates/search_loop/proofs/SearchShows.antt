@@ -1,7 +1,7 @@
 -- That answers show what they should of the problem that the search is asked.
 use Rattle.std.proofs.Common.{◌≡◌, ℕ, List, [], ◌∷◌, ◌++◌, length, get_or, map, All, Contains, inr, refl, sym, ap, ◌∙◌, subst, arith}
 use Rattle.std.proofs.lemmas.List.{length-map, map-append}
-use Rattle.std.proofs.lemmas.List.Elements.{All-map, Contains-get_or}
+use Rattle.std.proofs.lemmas.List.Elements.{All-map, Contains-append_left, Contains-get_or}
 use Rattle.spec_text.specs.Trees.{none as no_texts}
 use Rattle.spec_text.proofs.Members.{to_image}
 use Rattle.spec_sorts.specs.Literals.{Clause, Literal, complement, literals_of}
@@ -12,6 +12,8 @@ use Rattle.spec_derivations.specs.Orders.{whole_terms, whole_clauses, first_clau
 use Rattle.spec_derivations.specs.ExactChains.{IsExactFrom, AreExactResolvents}
 use Rattle.spec_derivations.specs.Inputs.{IsInput}
 use Rattle.spec_derivations.specs.Learned.{IsNew}
+use Rattle.spec_interfaces.specs.Interfaces.{numbers_alone, StandsApart}
+use Rattle.spec_interfaces.proofs.Apart.{atom_apart}
 use Rattle.spec_derivations.specs.Spent.{CanLearnMore, IsAtomOf, IsOverAtoms, IsLearnedFrom, AreLearned}
 use Rattle.term_core.specs.declared.ids.TermId.{TermId}
 use Rattle.term_core.specs.declared.ids.Lit.{Lit}
@@ -31,31 +33,37 @@ use Rattle.search_loop.specs.declared.search.Search.{Search}
 use Rattle.search_loop.specs.declared.cdcl.Answer.{Answer}
 use Rattle.search_loop.specs.declared.cdcl.Answer.TheVariants.{Unsat, Unknown}
 use Rattle.search_loop.specs.Search.{images, SearchFits, conflict_of}
-use Rattle.search_loop.specs.Rounds.{HasDerived, HasWholeClauses, HasSteps, IsSearch, HasEvidence, HasLogged, IsLearning, IsNoted, ShowsAnswer}
+use Rattle.search_loop.specs.Rounds.{HasDerived, HasWholeClauses, HasSteps, IsSearch, HoldsApart, HasEvidence, HasLogged, IsLearning, IsNoted, ShowsAnswer}
 use Rattle.search_loop.proofs.SearchLists.{lits_kept, images_kept}
 use Rattle.search_loop.proofs.SearchReady.{Ids, atom_in, clauses_in, false_at, atom_of, clause_is}
 use Rattle.search_loop.proofs.SearchLogs.{all_back, stated_on, whole_on, steps_more, among_more, last_derived, last_concludes, derived_kept, exact_kept, exact_given, derived_more}
-use Rattle.search_loop.proofs.SearchConflicts.{atom_of as atom_there, one_is_new}
+use Rattle.search_loop.proofs.SearchConflicts.{atom_of as atom_there, no_fact, one_is_new}
+use Rattle.search_loop.proofs.SearchApart.{apart_with}
 use Rattle.search_loop.proofs.SearchGrown.{listed_kept, continues_wider}
 
 -- what is derived may be learned
-pub derived_shows : (t : TableView) (problem : Problem) (log : List Logged) (cs : List (List Literal)) (learned : List (List Lit)) (a : Answer) → IsLogOf t log → HasDerived problem (derivation_in t log) cs (images t learned) → HasLogged problem (derivation_in t log) a (images t learned) → IsLearning t problem log a learned
-derived_shows t problem log cs learned a right h logged = record {
+pub derived_shows : (t : TableView) (problem : Problem) (log : List Logged) (cs : List (List Literal)) (learned : List (List Lit)) (a : Answer) → IsLogOf t log → HasDerived problem (derivation_in t log) cs (images t learned) → All (StandsApart problem) (images t learned) → HasLogged problem (derivation_in t log) a (images t learned) → IsLearning t problem log a learned
+derived_shows t problem log cs learned a right h apart logged = record {
   assumes = all_back (inference_of t) (AssumesAmong (terms_of_problem problem)) log h.assumes;
   learns = record { right = right.right; derived = h.derived; atoms = h.atoms; new = h.new; exact = h.exact };
+  apart = apart;
   logged = logged;
 }
 
 -- what was learned may be learned, where the log stays as it is
-pub learning_shows : (t : TableView) (problem : Problem) (x : Search) (a : Answer) → (HasSteps problem (derivation_in t x.log) (images t x.budget.learned) → HasLogged problem (derivation_in t x.log) a (images t x.budget.learned)) → IsLogOf t x.log → IsSearch t problem x → IsLearning t problem x.log a x.budget.learned
-learning_shows t problem x a steps right s =
-    derived_shows t problem x.log (images t x.store.clauses) x.budget.learned a right s.derived (steps (record { each = s.whole.stated; steps = s.derived.steps }))
+pub learning_shows : (t : TableView) (problem : Problem) (x : Search) (a : Answer) → (HasSteps problem (derivation_in t x.log) (images t x.budget.learned) → HasLogged problem (derivation_in t x.log) a (images t x.budget.learned)) → IsLogOf t x.log → IsSearch t problem x → HoldsApart t problem x → IsLearning t problem x.log a x.budget.learned
+learning_shows t problem x a steps right s apart =
+    derived_shows t problem x.log (images t x.store.clauses) x.budget.learned a right s.derived apart.apart (steps (record { each = s.whole.stated; steps = s.derived.steps }))
+
+-- one clause more could be learned, which stands apart
+abbrev CanLearnApart : Problem → Derivation → List (List Literal) → Type 0
+CanLearnApart problem d learned = (more : CanLearnMore problem d learned) × StandsApart problem more.clause
 
 -- where the budget is spent at a further conflict, the answer shows it
-pub unknown_shows : (t : TableView) (problem : Problem) (x : Search) (n : ℕ) → IsLogOf t x.log → IsSearch t problem x → length x.budget.learned ≡ x.budget.limit → n ≡ x.budget.limit → CanLearnMore problem (derivation_in t x.log) (images t x.budget.learned)
+pub unknown_shows : (t : TableView) (problem : Problem) (x : Search) (n : ℕ) → IsLogOf t x.log → IsSearch t problem x → HoldsApart t problem x → length x.budget.learned ≡ x.budget.limit → n ≡ x.budget.limit → CanLearnApart problem (derivation_in t x.log) (images t x.budget.learned)
     → HasEvidence t problem x.log x.budget (Unknown (Conflicts n)) × IsLearning t problem x.log (Unknown (Conflicts n)) x.budget.learned
-unknown_shows t problem x n right s full carries conflict =
-    let learning = learning_shows t problem x (Unknown (Conflicts n)) (λ h. h) right s in
+unknown_shows t problem x n right s apart full carries conflict =
+    let learning = learning_shows t problem x (Unknown (Conflicts n)) (λ h. h) right s apart in
     ((record { full = rw length-map full; carries = carries; learns = learning.learns }, conflict), learning)
 
 -- a clause of no literals has no terms
@@ -70,7 +78,7 @@ module _ (t u : TableView) (log new : List Logged) (same : derivation_in u log �
 
 -- where the clause has no literals, it refutes the terms
 pub unsat_shows : (t : TableView) (x y : Search) (clash id : StepId) → y.budget ≡ x.budget → IsLogged (conflict_of t x clash) t y.log [] id → ShowsAnswer t t x y (Unsat id)
-unsat_shows t x y clash id budget l problem s =
+unsat_shows t x y clash id budget l problem s apart =
     let c : Clause = clause_at t l.terms in
     let ps = numbers_of l.premises in
     let d = derivation_in t x.log in
@@ -95,6 +103,7 @@ unsat_shows t x y clash id budget l problem s =
           new = h.new;
           exact = subst (λ e. AreExactResolvents complement (IsInput problem e) ls) (sym is) (exact_kept problem d cs ls h ps c right);
         });
+        apart = subst (All (StandsApart problem)) (sym learned) apart.apart;
         logged = subst (λ k. HasSteps problem (derivation_in t y.log) (k ++ [] ∷ [])) (sym learned)
             (subst (λ e. HasSteps problem e (ls ++ [] ∷ [])) (sym is)
             (subst (λ (k : List Literal). HasSteps problem (d ++ by_rule Resolution ps no_texts c ∷ []) (ls ++ k ∷ [])) (ap literals_of empty) (record {
@@ -134,7 +143,7 @@ module _ (t u : TableView) (g : Extends t u) (differ : AreDifferent t.terms) (de
     atoms : All (λ (z : Literal). IsAtomOf problem z.atom) (map (literal_at t) d.clause)
     atoms = All-map (λ (z : Literal). IsAtomOf problem z.atom) (literal_at t) d.clause (λ k e lt.
         let f = false_at t u x r clash log d l (get_or d.clause k e) (Contains-get_or d.clause k e lt) in
-        atom_there t differ x r once leveled consistent problem (derivation_in t x.log) (images t x.budget.learned) h s.whole (get_or d.clause k e) f.0 f.1 spoken f.2)
+        atom_there t differ x r once leveled consistent problem (derivation_in t x.log) (images t x.budget.learned) h s.whole (get_or d.clause k e) f.0 f.1 f.2 spoken)
 
     right : IsDerivation (derivation_in t x.log ++ inference ∷ [])
     right = subst IsDerivation is l.logged.right.right
@@ -146,6 +155,16 @@ module _ (t u : TableView) (g : Extends t u) (differ : AreDifferent t.terms) (de
     over_atoms : IsOverAtoms problem (literals_of clause)
     over_atoms = subst (IsOverAtoms problem) (sym literals_are) atoms
 
+    -- and over no equality of elements that came beside the terms, as those are facts
+    pub stands_apart : HoldsApart t problem x → StandsApart problem (literals_of clause)
+    stands_apart apart = subst (StandsApart problem) (sym literals_are)
+        (All-map (λ (z : Literal). IsAtomOf (numbers_alone problem) z.atom) (literal_at t) d.clause (λ k e lt.
+        let m = get_or d.clause k e in
+        let f = false_at t u x r clash log d l m (Contains-get_or d.clause k e lt) in
+        atom_apart problem apart.equalities (term_at t m.term)
+        (atom_there t differ x r once leveled consistent problem (derivation_in t x.log) (images t x.budget.learned) h s.whole m f.0 f.1 f.2 spoken)
+        (λ element i. no_fact t differ x r once leveled consistent problem (derivation_in t x.log) (images t x.budget.learned) h s.whole m f.0 f.1 f.2 (apart.facts (term_at t m.term) i element))))
+
     -- what it is from, is the same in the table that grew
     exact : IsExactFrom (derivation_in t x.log) inference
     exact = subst (λ (e : Derivation). IsExactFrom e inference) same l.exact
@@ -154,13 +173,13 @@ module _ (t u : TableView) (g : Extends t u) (differ : AreDifferent t.terms) (de
     more = derived_more problem (derivation_in t x.log) (images t x.store.clauses) (images t x.budget.learned) h (numbers_of l.logged.premises) clause right is_new over_atoms exact
 
     -- so one clause more could be learned
-    pub is_conflict : CanLearnMore problem (derivation_in t x.log) (images t x.budget.learned)
-    is_conflict =
+    pub is_conflict : HoldsApart t problem x → CanLearnApart problem (derivation_in t x.log) (images t x.budget.learned)
+    is_conflict apart =
         let ps = numbers_of l.logged.premises in
         let d = derivation_in t x.log in
         let cs = images t x.store.clauses in
         let ls = images t x.budget.learned in
-        record {
+        let could : CanLearnMore problem d ls = record {
           clause = literals_of clause;
           more = inference ∷ [];
           right = right;
@@ -168,15 +187,16 @@ module _ (t u : TableView) (g : Extends t u) (differ : AreDifferent t.terms) (de
           atoms = over_atoms;
           new = is_new;
           exact = exact_given problem d cs ls h ps clause right exact;
-        }
+        } in
+        (could, stands_apart apart)
 
   -- which shows that the budget is spent at a further conflict
   pub forgone_shows : IsLogOf u x.log → (n : ℕ) → length x.budget.learned ≡ x.budget.limit → n ≡ x.budget.limit → ShowsAnswer t u x x (Unknown (Conflicts n))
-  forgone_shows kept n full carries problem s =
-      let on = (continues_wider t u g declared x kept same r).search problem s in
-      unknown_shows u problem x n kept on full carries
-      (subst (λ (e : Derivation). CanLearnMore problem e (images u x.budget.learned)) (sym same)
-      (subst (CanLearnMore problem (derivation_in t x.log)) (sym (images_kept t u g x.budget.learned r.learned)) (is_conflict problem s)))
+  forgone_shows kept n full carries problem s apart =
+      let on = continues_wider t u g declared x kept same r in
+      unknown_shows u problem x n kept (on.search problem s) (on.apart problem s apart) full carries
+      (subst (λ (e : Derivation). CanLearnApart problem e (images u x.budget.learned)) (sym same)
+      (subst (CanLearnApart problem (derivation_in t x.log)) (sym (images_kept t u g x.budget.learned r.learned)) (is_conflict problem s apart)))
 
 -- where it came into the store, what is in hand is still that of a search for the terms
 module _ (t u : TableView) (g : Extends t u) (differ : AreDifferent t.terms) (differ_then : AreDifferent u.terms) (declared : declared_in u ≡ declared_in t)
@@ -212,3 +232,13 @@ module _ (t u : TableView) (g : Extends t u) (differ : AreDifferent t.terms) (di
             (subst (HasWholeClauses problem e) (sym (last_image x.store.clauses y.store.clauses stored_in (a.clauses ∙ ap (λ (c : List Lit). x.store.clauses ++ c ∷ []) (clause_is t u g differ_then x y r clash d l noted a))))
             (whole_on problem (derivation_in t x.log) (by_rule Resolution (numbers_of l.logged.premises) no_texts learned_clause ∷ []) (images t x.store.clauses) (literals_of learned_clause ∷ []) s.whole));
       }
+
+  -- its facts stay
+  pub apart_learned : (problem : Problem) → IsSearch t problem x → HoldsApart t problem x → HoldsApart u problem y
+  apart_learned problem s h =
+      let stored = last_image x.store.clauses y.store.clauses stored_in (a.clauses ∙ ap (λ (c : List Lit). x.store.clauses ++ c ∷ []) (clause_is t u g differ_then x y r clash d l noted a)) in
+      apart_with t u x y
+      (λ c i. subst (λ (cs : List (List Literal)). Contains cs c) (sym stored) (Contains-append_left (images t x.store.clauses) (literals_of learned_clause ∷ []) c i))
+      problem h (literals_of learned_clause)
+      (last_image x.budget.learned y.budget.learned r.learned (ap (λ b. b.learned) noted))
+      (stands_apart t u g differ declared x r once leveled consistent same clash y.log d l problem s h)

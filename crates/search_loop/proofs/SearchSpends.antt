@@ -14,6 +14,7 @@ use Rattle.proof_log.specs.Theories.{CameTo}
 use Rattle.search_loop.specs.declared.search.Search.{Search}
 use Rattle.search_loop.specs.Search.{images, AreAllOf, SearchFits}
 use Rattle.search_loop.specs.Rounds.{HasDerived, Continues}
+use Rattle.search_loop.proofs.SearchApart.{apart_on}
 
 -- where none were made
 pub spends_nothing : (b : BudgetView) → Spends b b
@@ -59,6 +60,7 @@ module _ (t : TableView) (x : Search) (b : BudgetView) (spends : Spends x.budget
           (sym (ap (λ (y : BudgetView). y.learned) spends.1)) s.derived;
       whole = s.whole;
     };
+    apart = λ problem s a. apart_on t t x (record x { budget = b }) (λ c i. i) problem a (ap (λ (y : BudgetView). images t y.learned) spends.1);
   }
 
 -- what is shown of a stop is shown of a result that hands it on

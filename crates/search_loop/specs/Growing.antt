@@ -1,6 +1,8 @@
 -- How a search grows: terms come in of which it did not speak, with their clauses.
-use Rattle.std.specs.Prelude.{◌≡◌, List, [], ◌++◌, length}
-use Rattle.spec_derivations.specs.Problems.{Problem}
+use Rattle.std.specs.Prelude.{◌≡◌, List, [], ◌++◌, length, All}
+use Rattle.spec_derivations.specs.Problems.{Problem, subterms_in}
+use Rattle.spec_causes.specs.Shared.{IsSharedEquality}
+use Rattle.spec_interfaces.specs.Interfaces.{speaking_of}
 use Rattle.term_core.specs.declared.ids.TermId.{TermId}
 use Rattle.term_core.specs.declared.ids.Lit.{Lit}
 use Rattle.term_core.specs.Tables.{TableView, declared_in, clause_at, Extends}
@@ -13,7 +15,7 @@ use Rattle.clause_store.specs.Stores.{StoreView, HasSeen}
 use Rattle.clause_store.specs.Propagating.{AreImplied}
 use Rattle.search_loop.specs.declared.search.Search.{Search}
 use Rattle.search_loop.specs.Search.{SearchFits, DerivesClauses}
-use Rattle.search_loop.specs.Rounds.{IsSearch, HasLimit}
+use Rattle.search_loop.specs.Rounds.{IsSearch, HoldsApart, HasLimit}
 use Rattle.search_loop.specs.Asking.{SearchState}
 
 -- A search speaks of nothing yet.
@@ -61,7 +63,7 @@ pub data GrowsTo (t : TableView) (x : Search) (roots interface : List TermId) (p
   begins : IsBlank x → p ≡ problem_in t roots interface → GrowsTo t x roots interface p
   -- it was asked a problem, and grows by interface equalities alone
   goes_on : (q : Problem) → IsSearch t q x → roots ≡ []
-      → p ≡ record { asserted = q.asserted; assumed = q.assumed; interface = q.interface ++ clause_at t interface }
+      → p ≡ speaking_of q (clause_at t interface)
       → GrowsTo t x roots interface p
 
 -- Terms came into a search, and their clauses; what was learned stays, and so do the literals.
@@ -77,11 +79,18 @@ pub record HasGrown (old new : SearchState) (roots interface : List TermId) : Ty
   pub fed : new.search.fed ≡ old.search.fed
   -- nothing was spent
   pub budget : new.search.budget ≡ old.search.budget
+  -- what was logged stays
+  pub logged : List Logged
+  pub log : new.search.log ≡ old.search.log ++ logged
   -- the new terms come last
   pub more : List TermId
   pub terms : new.search.terms.items ≡ old.search.terms.items ++ more
   -- it is asked the problem that it grew to
   pub search : (p : Problem) → GrowsTo old.table old.search roots interface p → IsSearch new.table p new.search
+  -- where only equalities of shared numbers came, its facts stay
+  pub apart : (q : Problem) → IsSearch old.table q old.search → HoldsApart old.table q old.search → roots ≡ []
+      → All (IsSharedEquality (subterms_in q)) (clause_at old.table interface)
+      → HoldsApart new.table (speaking_of q (clause_at old.table interface)) new.search
 
 -- The clauses of steps came into a store, last, in their order.
 pub record StoresAll (t : TableView) (log : List Logged) (steps : List StepId) (old new : StoreView) : Type 0 where

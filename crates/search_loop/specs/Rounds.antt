@@ -1,9 +1,10 @@
 -- What the rounds of a search keep, and what its answers show.
-use Rattle.std.specs.Prelude.{◌≡◌, ◌⊎◌, ◌+◌, List, [], ◌∷◌, ◌++◌, length, map, All, Contains}
+use Rattle.std.specs.Prelude.{◌≡◌, ◌⊎◌, ◌+◌, true, List, [], ◌∷◌, ◌++◌, length, map, All, Contains}
+use Rattle.spec_sorts.specs.Terms.{Term}
 use Rattle.spec_sorts.specs.Literals.{Clause, Literal, complement, literals_of}
-use Rattle.spec_proofs.specs.Resolution.{IsWithin}
+use Rattle.spec_proofs.specs.Resolution.{Derives, IsWithin}
 use Rattle.spec_proofs.specs.declared.Rule.TheVariants.{Resolution}
-use Rattle.spec_derivations.specs.Problems.{Problem, terms_of_problem, known_terms}
+use Rattle.spec_derivations.specs.Problems.{Problem, terms_of_problem, subterms_in, known_terms}
 use Rattle.search_loop.specs.Answered.{AreAnswered}
 use Rattle.spec_derivations.specs.Derivations.{Inference, «assumption», by_rule, Derivation, conclusion}
 use Rattle.spec_derivations.specs.Derivations.{AssumesAmong, IsDerivedFrom}
@@ -13,6 +14,7 @@ use Rattle.spec_derivations.specs.Inputs.{IsInput}
 use Rattle.spec_derivations.specs.ExactChains.{IsExactFrom, AreExactResolvents}
 use Rattle.spec_derivations.specs.Learned.{AreNew}
 use Rattle.spec_derivations.specs.Spent.{IsLearnedFrom, IsOverAtoms, AreLearned, IsConflictBudgetSpent, CanLearnMore}
+use Rattle.spec_interfaces.specs.Interfaces.{IsElementEquality, AreInterfaceEqualities, StandsApart}
 use Rattle.term_core.specs.declared.ids.TermId.{TermId}
 use Rattle.term_core.specs.declared.ids.Lit.{Lit}
 use Rattle.term_core.specs.Tables.{TableView, declared_in, literal_at, Extends}
@@ -114,6 +116,20 @@ pub record IsSearch (t : TableView) (p : Problem) (x : Search) : Type 0 where
   -- and all with which it begins
   pub whole : HasWholeClauses p (derivation_in t x.log) (images t x.store.clauses)
 
+-- the term follows from clauses by unit propagation alone
+abbrev pub IsFact : List (List Literal) → Term → Type 0
+IsFact clauses t = Derives complement clauses [] (record { atom = t; positive = true })
+
+-- Of the interface equalities of a search's problem those of elements are facts, of which no learned clause speaks.
+pub record HoldsApart (t : TableView) (p : Problem) (x : Search) : Type 0 where
+  -- each is an equality of shared numbers, or of elements
+  pub equalities : AreInterfaceEqualities p
+  -- the latter follow from the clauses
+  pub facts : (e : Term) → Contains p.interface e → IsElementEquality (subterms_in p) e
+      → IsFact (images t x.store.clauses) e
+  -- and what was learned is over other atoms
+  pub apart : All (StandsApart p) (images t x.budget.learned)
+
 -- the budget has the limit of a search on conflicts
 abbrev pub HasLimit : Limits → BudgetView → Type 0
 HasLimit l b = b.limit ≡ l.conflicts
@@ -139,7 +155,8 @@ HasEvidence t p log budget (Unsat step) = (stated t log step ≡ [])
 HasEvidence t p log budget (Unknown (Overflow s)) = IsOverflowed p (length budget.learned) budget.exchanges s
 HasEvidence t p log budget (Unknown (Conflicts n)) =
     IsConflictBudgetSpent p (derivation_in t log) budget.limit n (map (map (literal_at t)) budget.learned)
-    × CanLearnMore p (derivation_in t log) (map (map (literal_at t)) budget.learned)
+    × ((more : CanLearnMore p (derivation_in t log) (map (map (literal_at t)) budget.learned))
+    × StandsApart p more.clause)
 
 -- where an answer is no overflow, whose evidence names them, the exchanges of the budget were made, in few runs
 abbrev pub HasMade : Problem → BudgetView → Answer → Type 0
@@ -160,6 +177,8 @@ pub record IsLearning (t : TableView) (p : Problem) (log : List Logged) (a : Ans
   pub assumes : All (λ l. AssumesAmong (terms_of_problem p) (inference_of t l)) log
   -- the clauses may be learned
   pub learns : AreLearned p (derivation_in t log) (map (map (literal_at t)) learned)
+  -- and speak of no equality of elements that is beside the terms
+  pub apart : All (StandsApart p) (map (map (literal_at t)) learned)
   -- they are what came into the log beside first clauses and lemmas, but for the answer's own
   pub logged : HasLogged p (derivation_in t log) a (map (map (literal_at t)) learned)
 
@@ -191,6 +210,8 @@ pub record Continues (t u : TableView) (old new : Search) : Type 0 where
   pub terms : new.terms ≡ old.terms
   -- it is asked the same
   pub search : (p : Problem) → IsSearch t p old → IsSearch u p new
+  -- and its facts stay
+  pub apart : (p : Problem) → IsSearch t p old → HoldsApart t p old → HoldsApart u p new
 
 -- the clause of a step of the log came into the store, and all else is as it was
 abbrev pub HasKept : TableView → StepId → Search → Search → Type 0
@@ -207,5 +228,5 @@ pub record HasLearned (t u : TableView) (old new : Search) : Type 0 where
 
 -- the answer shows what it should of the problem that the search is asked
 abbrev pub ShowsAnswer : TableView → TableView → Search → Search → Answer → Type 0
-ShowsAnswer t u old new a = (p : Problem) → IsSearch t p old
+ShowsAnswer t u old new a = (p : Problem) → IsSearch t p old → HoldsApart t p old
     → HasEvidence u p new.log new.budget a × IsLearning u p new.log a new.budget.learned

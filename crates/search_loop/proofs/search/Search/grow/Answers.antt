@@ -2,6 +2,7 @@
 use Rattle.std.proofs.Common.{◌≡◌, ◌∙◌, ◌++◌, List, Bool, length, refl, sym, ap, subst}
 use Rattle.spec_derivations.specs.Problems.{Problem}
 use Rattle.term_core.specs.declared.ids.TermId.{TermId}
+use Rattle.term_core.specs.Tables.{clause_at}
 use Rattle.proof_log.specs.declared.premises.StepId.{StepId}
 use Rattle.term_clauses.specs.SpokenTerms.{problem_in}
 use Rattle.clausify.specs.Overflows.{IsOrderOverflow}
@@ -12,7 +13,7 @@ use Rattle.search_loop.specs.declared.search.Search.{Search}
 use Rattle.search_loop.specs.Waiting.{AreWaiting}
 use Rattle.search_loop.specs.Search.{AreAtomsAmong}
 use Rattle.search_loop.specs.Growing.{GrowsTo, StoresAll}
-use Rattle.search_loop.proofs.SearchGrows.{Came, fits_grown, search_grown}
+use Rattle.search_loop.proofs.SearchGrows.{Came, fits_grown, apart_wider, search_grown}
 use Rattle.search_loop.proofs.SearchParts.{part_of, wide_of}
 use Rattle.search_loop.proofs.search.Search.grow.Goals as goal
 
@@ -74,7 +75,10 @@ returns-clause-grows c =
       trail = c.in_ok-reach.ensures.same;
       fed = refl;
       budget = refl;
+      logged = made.grown.more;
+      log = made.grown.log;
       more = terms;
       terms = terms_are;
       search = λ p grows. search_grown t u x y roots interface came p (part_of t x roots interface c.requires.roots c.requires.interface c.requires.answered c.requires.answered_interface p grows);
+      apart = λ q s holds none shared. apart_wider t u x y roots interface came q holds (clause_at t interface) shared;
     }

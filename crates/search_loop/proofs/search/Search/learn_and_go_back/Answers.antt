@@ -13,7 +13,7 @@ use Rattle.search_loop.proofs.SearchReasons.{reasons_are}
 use Rattle.search_loop.proofs.SearchLevels.{level_below}
 use Rattle.search_loop.proofs.SearchReady.{all_of_atoms, ready_learned}
 use Rattle.search_loop.proofs.SearchGrown.{atoms_kept}
-use Rattle.search_loop.proofs.SearchShows.{search_learned}
+use Rattle.search_loop.proofs.SearchShows.{search_learned, apart_learned}
 use Rattle.search_loop.proofs.search.Search.learn_and_go_back.Goals as goal
 
 pub learn-requires-clause-reasons : goal.learn-requires-clause-reasons
@@ -88,6 +88,8 @@ returns-clause-learns g c =
           vars = cut.vars;
           terms = refl;
           search = search_learned t u c.learn.ensures.grown c.ids_are_unique.ensures c.ids_are_unique-2.ensures c.learn.ensures.declared x y r once leveled c.is_sound.ensures.consistent
+              (c.logs_hold_in_grown_tables.ensures.same t u x.log r.right c.learn.ensures.grown) c.args.clash d l noted added refl;
+          apart = apart_learned t u c.learn.ensures.grown c.ids_are_unique.ensures c.ids_are_unique-2.ensures c.learn.ensures.declared x y r once leveled c.is_sound.ensures.consistent
               (c.logs_hold_in_grown_tables.ensures.same t u x.log r.right c.learn.ensures.grown) c.args.clash d l noted added refl;
         };
         learned = ap (λ (b : BudgetView). length b.learned) noted ∙ length-append x.budget.learned (d.clause ∷ []);

@@ -2,6 +2,7 @@
 use Rattle.std.proofs.Common.{rules, sym, subst, ap, refl, arith}
 use Rattle.sat_budget.specs.Budgets.{BudgetView}
 use Rattle.term_core.proofs.TermsExtend.{Extends-self}
+use Rattle.search_loop.specs.declared.search.Search.{Search}
 use Rattle.search_loop.proofs.search.Search.resolve_conflict.Goals as goal
 
 pub refuted-requires-clause-of_zero : goal.refuted-requires-clause-of_zero
@@ -30,6 +31,26 @@ returns-then-conflict_level-eq0 g c = record {
   ended = (c.refuted.ensures.terms, c.refuted.ensures.budget);
   resolves_conflict = c.in_ok-step.ensures.shows;
 }
+
+-- the budget is spent
+pub returns-in-Some : goal.returns-in-Some
+returns-in-Some g c =
+    let t = c.args.table.now in
+    let u = c.forgo.new.table in
+    let grown = c.forgo.ensures.grown in
+    let forgone = c.in_ok-forgo.ensures in
+    let lawful = g.met.T.Theory.lawful c.args.theory.now in
+    record {
+      grown = grown;
+      declared = c.forgo.ensures.declared;
+      with = lawful.grown t u grown c.requires.going.with;
+      came = λ ts n h. subst (λ (s : Search). (g.T.Theory.meaning c.args.theory.now).running.came_by u ts n s.budget.exchanges) (sym forgone.same)
+          (lawful.came_grown t u grown c.requires.going.with ts n c.args.self.now.budget.exchanges h);
+      right = forgone.right;
+      limit = ap (λ (s : Search). s.budget.limit) forgone.same;
+      ended = (ap (λ (s : Search). s.terms) forgone.same, ap (λ (s : Search). s.budget) forgone.same);
+      resolves_conflict = forgone.shows c.in-Some.n c.in-Some.ensures.0 c.in-Some.ensures.1;
+    }
 
 pub returns : goal.returns
 returns g c =
