@@ -12,6 +12,7 @@ pub mod SearchOverflowed
 pub mod SharedTerms
 pub mod SearchAgreed
 pub mod SearchAsked
+pub mod SearchCases
 pub mod SearchWatching
 pub mod Missing
 pub mod SearchRests

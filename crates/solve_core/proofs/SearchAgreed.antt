@@ -21,7 +21,9 @@ use Rattle.spec_derivations.specs.Problems.{Problem, terms_of_problem, known_ter
 use Rattle.spec_derivations.specs.Orders.{whole_terms}
 use Rattle.spec_derivations.proofs.SearchTerms.{subterms_spoken}
 use Rattle.spec_derivations.proofs.OrderedTerms.{searched_whole}
-use Rattle.spec_causes.specs.Shared.{IsSharedAmong, argument, value, IsSharedEquality}
+use Rattle.spec_causes.specs.Shared.{IsSharedAmong, argument, value}
+use Rattle.spec_interfaces.specs.Interfaces.{IsInterfaceEquality, AreInterfaceEqualities}
+use Rattle.spec_interfaces.proofs.Apart.{shared_number}
 use Rattle.spec_causes.proofs.Wider.{shared_among_more}
 use Rattle.spec_valuations.specs.Classes.{class_in, AreShared, IsEqualityAmong}
 use Rattle.spec_valuations.specs.Saturation.{TheoryValues, IsSaturatedWithNumbers}
@@ -43,26 +45,24 @@ use Rattle.solve_core.specs.Sharing.{IsAskedOf, IsOpen}
 use Rattle.solve_core.specs.Agreeing.{IsTheoryValueAt, AreTheoryValuesBelow, AreTheoryValues}
 use Rattle.solve_core.proofs.SearchModelled.{related, given, saturated_apart}
 
--- each shared term is a subterm, of sort Real
+-- each shared term is a subterm
 pub shared_subterm : (p : Problem) (u : Term) → IsSharedAmong (subterms_in p) u → Contains (subterms_in p) u
 shared_subterm p _ (argument s us there u i real) = (least_of (terms_of_problem p)).closed (app (Apply s) us) there u i
 shared_subterm p _ (value s us there some real) = there
 
-pub shared_real : (ts : List Term) (u : Term) → IsSharedAmong ts u → sort_of u ≡ Number
-shared_real ts _ (argument s us there u i real) = real
-shared_real ts _ (value s us there some real) = real
+-- interface equalities are equalities of subterms
+equality_among : (p : Problem) (e : Term) → IsInterfaceEquality (subterms_in p) e → IsEqualityAmong (subterms_in p) e
+equality_among p e (inl h) = record {
+  left = h.left;
+  left_in = shared_subterm p h.left h.left_shared;
+  right = h.right;
+  right_in = shared_subterm p h.right h.right_shared;
+  is = h.is;
+}
+equality_among p e (inr h) = record { left = h.left; left_in = h.left_in; right = h.right; right_in = h.right_in; is = h.is }
 
--- equalities of shared terms are equalities of subterms
-pub equalities_among : (p : Problem) → All (IsSharedEquality (subterms_in p)) p.interface → (e : Term) → Contains p.interface e → IsEqualityAmong (subterms_in p) e
-equalities_among p each e i =
-    let h = All-contains (IsSharedEquality (subterms_in p)) p.interface e each i in
-    record {
-      left = h.left;
-      left_in = shared_subterm p h.left h.left_shared;
-      right = h.right;
-      right_in = shared_subterm p h.right h.right_shared;
-      is = h.is;
-    }
+pub equalities_among : (p : Problem) → AreInterfaceEqualities p → (e : Term) → Contains p.interface e → IsEqualityAmong (subterms_in p) e
+equalities_among p each e i = equality_among p e (All-contains (IsInterfaceEquality (subterms_in p)) p.interface e each i)
 
 -- numbers differ where their values do
 same_base : (p q : Fraction) → delta_number p ≡ delta_number q → p ≡ q
@@ -234,7 +234,7 @@ module _ (t : TableView) (differ : AreDifferent t.terms) (x : Search) (v : Theor
       let here = All-contains (IsTermIn t) own n.0 h.ready.atoms_are.there n.1 in
       record {
         term = subst (λ w. IsWellSorted t.symbols [] w) n.2 here.1;
-        sort = shared_real (subterms_in p) u (a.shared.only u i);
+        sort = shared_number (subterms_in p) u (a.shared.only u i);
         linear = linear p a.asked.answered u (a.asked.listed.only u (shared_listed u i));
       }
 
@@ -246,7 +246,7 @@ module _ (t : TableView) (differ : AreDifferent t.terms) (x : Search) (v : Theor
   pub all_shared : ((q : Problem) → ((e : Term) → Contains q.interface e → IsEqualityAmong (subterms_in q) e) → (f : Symbol) (us : Terms) → Contains (whole_terms q) (app (Apply f) us) → Contains (subterms_in q) (app (Apply f) us))
       → AreShared terms (clause_at t ids)
   all_shared nothing_more =
-      let applied = nothing_more p (equalities_among p a.interface) in
+      let applied = nothing_more p (equalities_among p a.apart.equalities) in
       record {
         values = λ s ts i some real. a.shared.each (app (Apply s) ts) (value s ts (applied s ts (a.asked.listed.only (app (Apply s) ts) i)) some real);
         arguments = λ s ts u i j real. a.shared.each u (argument s ts (applied s ts (a.asked.listed.only (app (Apply s) ts) i)) u j real);
@@ -286,7 +286,7 @@ module _ (t : TableView) (differ : AreDifferent t.terms) (x : Search) (v : Theor
     spoken_together law u w i j spoken =
         let saturated_here = saturated_apart t differ x v agreed h consistent fine classes tell p a.asked place linear_in number reduced kept in
         let both = law t.symbols p terms (map (literal_at t) x.trail.literals) (given t differ x v agreed h consistent fine classes tell p a.asked place linear_in number reduced kept) saturated_here u w
-        (a.asked.listed.each (pair Equal u w) spoken) (shared_real (subterms_in p) u (a.shared.only u i)) in
+        (a.asked.listed.each (pair Equal u w) spoken) (shared_number (subterms_in p) u (a.shared.only u i)) in
         let other = by_classes u w (shared_listed u i) (shared_listed w j) in (
           λ e. other.0 (both.1 (sym (heads u i) ∙ e ∙ heads w j)),
           λ q. heads u i ∙ both.0 (other.1 q) ∙ sym (heads w j),

@@ -1,8 +1,8 @@
 -- What a search is asked with equalities of shared terms, and that these are formulas that it answers for.
 use Rattle.std.proofs.Common.{◌≡◌, List, [], ◌++◌, get_or, map, All, Contains, inl, inr, refl, sym, ◌∙◌, subst}
-use Rattle.std.proofs.lemmas.List.Elements.{All-append, All-contains, All-map, Contains-append_left, Contains-append_right, Contains-append_cases}
+use Rattle.std.proofs.lemmas.List.Elements.{All-contains, All-map, Contains-append_left, Contains-append_right, Contains-append_cases}
 use Rattle.spec_text.proofs.Members.{to_image, from_image}
-use Rattle.spec_sorts.specs.Terms.{Number, Term, sort_of}
+use Rattle.spec_sorts.specs.Terms.{Number, Equal, Term, pair, sort_of}
 use Rattle.spec_sorts.specs.Subsets.{AreAmong}
 use Rattle.spec_sorts.specs.WellSorted.{IsWellSorted}
 use Rattle.spec_sorts.proofs.LeastSubterms.{least_of}
@@ -15,6 +15,8 @@ use Rattle.spec_derivations.proofs.Below.{subterms_have}
 use Rattle.spec_derivations.proofs.SearchTerms.{known_spoken, subterms_known, subterms_spoken}
 use Rattle.spec_derivations.proofs.OrderedTerms.{searched_whole}
 use Rattle.spec_causes.specs.Shared.{IsSharedAmong, IsSharedEquality}
+use Rattle.spec_interfaces.specs.Interfaces.{IsInterfaceEquality}
+use Rattle.spec_interfaces.proofs.Apart.{shared_number}
 use Rattle.term_core.specs.declared.ids.TermId.{TermId}
 use Rattle.term_core.specs.Tables.{TableView, Extends, IsIn, term_at}
 use Rattle.term_core.proofs.TermsExtend.{clause_at-kept, AreIn-kept}
@@ -22,11 +24,11 @@ use Rattle.proof_log.specs.Theories.{IsTermIn}
 use Rattle.search_loop.specs.Answered.{AreAnswered}
 use Rattle.search_loop.specs.declared.search.Search.{Search}
 use Rattle.search_loop.specs.Asking.{state}
-use Rattle.search_loop.specs.Rounds.{IsSearch}
+use Rattle.search_loop.specs.Rounds.{IsSearch, HoldsApart, Continues}
 use Rattle.solve_core.specs.Sharing.{AreSharedOf, IsAskedOf, IsOpen, AreOpen}
 use Rattle.solve_core.specs.Unspoken.{IsComparable, equality_in}
 use Rattle.solve_core.specs.GoingOn.{IsAskedFor}
-use Rattle.solve_core.proofs.SearchAgreed.{shared_subterm, shared_real}
+use Rattle.solve_core.proofs.SearchAgreed.{shared_subterm}
 
 -- shared terms over a table that has more
 pub shared_kept : (t u : TableView) → Extends t u → (ts : List Term) (ids : List TermId) → AreSharedOf t ts ids → AreSharedOf u ts ids
@@ -39,8 +41,8 @@ shared_kept t u grows ts ids h =
     }
 
 -- so a search that went on is asked of them still
-pub asked_on : (t u : TableView) → Extends t u → (ids : List TermId) (p : Problem) (x y : Search) → (IsSearch t p x → IsSearch u p y) → IsAskedOf t ids p x → IsAskedOf u ids p y
-asked_on t u grows ids p x y on h = record { asked = on h.asked; shared = shared_kept t u grows (subterms_in p) ids h.shared; interface = h.interface }
+pub asked_on : (t u : TableView) (ids : List TermId) (p : Problem) (x y : Search) → Continues t u x y → IsAskedOf t ids p x → IsAskedOf u ids p y
+asked_on t u ids p x y on h = record { asked = on.search p h.asked; shared = shared_kept t u on.table (subterms_in p) ids h.shared; apart = on.apart p h.asked h.apart }
 
 module _ (t : TableView) (x : Search) (p : Problem) (s : IsSearch t p x) where
   -- subterms are over the table's symbols
@@ -53,11 +55,14 @@ module _ (t : TableView) (x : Search) (p : Problem) (s : IsSearch t p x) where
   subterm_linear : (u : Term) → Contains (subterms_in p) u → IsLinear u
   subterm_linear u i = subterms_have IsLinear argument_linear (known_terms p) s.answered u (subterms_known p u i)
 
-  -- so equalities of shared terms are, too
-  pub equality_linear : (e : Term) → IsSharedEquality (subterms_in p) e → IsLinear e
+  -- so equalities of them are, too
+  sides_linear : (l r : Term) → Contains (subterms_in p) l → Contains (subterms_in p) r → IsLinear (pair Equal l r)
   unfolding IsLinear AreLinear
-  equality_linear e h =
-      subst IsLinear (sym h.is) (tt, (subterm_linear h.left (shared_subterm p h.left h.left_shared), (subterm_linear h.right (shared_subterm p h.right h.right_shared), tt)))
+  sides_linear l r l_in r_in = (tt, (subterm_linear l l_in, (subterm_linear r r_in, tt)))
+
+  pub equality_linear : (e : Term) → IsInterfaceEquality (subterms_in p) e → IsLinear e
+  equality_linear e (inl h) = subst IsLinear (sym h.is) (sides_linear h.left h.right (shared_subterm p h.left h.left_shared) (shared_subterm p h.right h.right_shared))
+  equality_linear e (inr h) = subst IsLinear (sym h.is) (sides_linear h.left h.right h.left_in h.right_in)
 
   -- terms that it knows are spoken of
   pub known_whole : (u : Term) → Contains (known_terms p) u → Contains (whole_terms p) u
@@ -71,7 +76,7 @@ module _ (t : TableView) (x : Search) (p : Problem) (s : IsSearch t p x) where
     shared_in id i = (All-contains (IsIn t) ids id shared.there i, subterm_sorted (term_at t id) (shared_subterm p (term_at t id) (shared_at id i)))
 
     pub number_of : (id : TermId) → Contains ids id → sort_of (term_at t id) ≡ Number
-    number_of id i = shared_real (subterms_in p) (term_at t id) (shared_at id i)
+    number_of id i = shared_number (subterms_in p) (term_at t id) (shared_at id i)
 
     -- pairs that are open have one sort
     pub open_comparable : (y : TermId × TermId) → IsOpen t ids p y → IsComparable t y
@@ -93,7 +98,7 @@ module _ (t : TableView) (x : Search) (p : Problem) (s : IsSearch t p x) where
     open_equalities ys o = All-map (IsSharedEquality (subterms_in p)) (equality_in t) ys (λ k d lt. open_equality (get_or ys k d) (o.0 k d lt))
 
     pub open_linear : (ys : List (TermId × TermId)) → AreOpen t ids p ys → AreAnswered (map (equality_in t) ys)
-    open_linear ys o = All-map IsLinear (equality_in t) ys (λ k d lt. equality_linear (equality_in t (get_or ys k d)) (open_equality (get_or ys k d) (o.0 k d lt)))
+    open_linear ys o = All-map IsLinear (equality_in t) ys (λ k d lt. equality_linear (equality_in t (get_or ys k d)) (inl (open_equality (get_or ys k d) (o.0 k d lt))))
 
 -- with more interface equalities, more terms are known
 pub known_more : (ts interface more : List Term) → AreAmong (known_terms (speaking ts interface)) (known_terms (speaking ts (interface ++ more)))
@@ -103,17 +108,17 @@ known_more ts interface more u i = elim (Contains-append_cases interface (ts ++ 
 ]
 
 -- a search goes on for the same terms
-pub asked_for_on : (ts : List Term) (ids : List TermId) (t u : TableView) (x y : Search) → Extends t u → ((p : Problem) → IsSearch t p x → IsSearch u p y) → IsAskedFor ts ids (state t x) → IsAskedFor ts ids (state u y)
-asked_for_on ts ids t u x y grows on a = record { interface = a.interface; asked = asked_on t u grows ids (speaking ts a.interface) x y (on (speaking ts a.interface)) a.asked }
+pub asked_for_on : (ts : List Term) (ids : List TermId) (t u : TableView) (x y : Search) → Continues t u x y → IsAskedFor ts ids (state t x) → IsAskedFor ts ids (state u y)
+asked_for_on ts ids t u x y on a = record { interface = a.interface; asked = asked_on t u ids (speaking ts a.interface) x y on a.asked }
 
 -- and it is asked of them with more equalities
-pub asked_for_more : (ts : List Term) (ids : List TermId) (t u : TableView) (x y : Search) → Extends t u → (a : IsAskedFor ts ids (state t x)) (more : List Term) → All (IsSharedEquality (subterms_in (speaking ts a.interface))) more
-    → IsSearch u (speaking ts (a.interface ++ more)) y → IsAskedFor ts ids (state u y)
-asked_for_more ts ids t u x y grows a more equalities search = record {
+pub asked_for_more : (ts : List Term) (ids : List TermId) (t u : TableView) (x y : Search) → Extends t u → (a : IsAskedFor ts ids (state t x)) (more : List Term)
+    → IsSearch u (speaking ts (a.interface ++ more)) y → HoldsApart u (speaking ts (a.interface ++ more)) y → IsAskedFor ts ids (state u y)
+asked_for_more ts ids t u x y grows a more search apart = record {
   interface = a.interface ++ more;
   asked = record {
     asked = search;
     shared = shared_kept t u grows (subterms_in (speaking ts a.interface)) ids a.asked.shared;
-    interface = All-append (IsSharedEquality (subterms_in (speaking ts a.interface))) a.interface more a.asked.interface equalities;
+    apart = apart;
   };
 }

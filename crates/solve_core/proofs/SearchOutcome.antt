@@ -6,13 +6,14 @@ use Rattle.spec_sorts.specs.Terms.{Term}
 use Rattle.spec_derivations.specs.Problems.{subterms_in}
 use Rattle.spec_derivations.specs.Orders.{whole_terms}
 use Rattle.spec_derivations.specs.Examples.{asserting, speaking}
-use Rattle.spec_causes.specs.Shared.{IsSharedEquality}
+use Rattle.spec_interfaces.specs.Interfaces.{IsInterfaceEquality}
 use Rattle.spec_causes.specs.Checks.{IsOverflowAmong}
 use Rattle.ratio128.specs.declared.wide.Wide.{Wide}
 use Rattle.ratio128.specs.Meant.{overflow}
 use Rattle.term_core.specs.declared.ids.TermId.{TermId}
 use Rattle.term_core.specs.Tables.{TableView, IsIn, AreIn, clause_at}
-use Rattle.term_core.proofs.TermsExtend.{AreIn-kept, clause_at-kept}
+use Rattle.term_core.proofs.TermsExtend.{clause_at-kept}
+use Rattle.term_clauses.proofs.Speaking.{formulas_kept}
 use Rattle.sat_budget.specs.declared.limits.Limits.{Limits}
 use Rattle.sat_budget.specs.Budgets.{BudgetView}
 use Rattle.proof_log.specs.Logs.{IsFormulaIn, AreFormulasIn, IsLogOf}
@@ -42,13 +43,13 @@ module _ (t : TableView) (roots : List TermId) (limits : Limits) (x : Search) (e
   pub decided_overflow : IsLogOf t [] → (w : Wide) (d : Outcome) → IsOverflowedBy limits w d → FindsOverflow t (asserting asked) None → IsOverflowAmong (whole_terms (asserting asked)) (overflow w) → HasDecision t asked limits d
   decided_overflow empty w d by forms order = record {
     interface = [];
-    equalities = All-nil (IsSharedEquality (subterms_in (asserting asked)));
+    equalities = All-nil (IsInterfaceEquality (subterms_in (asserting asked)));
     justified = overflowed_justified t (asserting asked) limits empty w d by (inr (forms, order));
   }
 
   module _ (formulas : AreFormulasIn t roots) (w : TableView) (y : Search) (grown : HasGrown (state t x) (state w y) roots []) where
-    pub roots_in : AreIn w roots
-    roots_in = AreIn-kept t w grown.table roots (formulas_in t roots formulas)
+    pub roots_in : AreFormulasIn w roots
+    roots_in = formulas_kept t w (record { terms = grown.table; declared = grown.declared }) roots formulas
 
     pub same_asked : clause_at w roots ≡ asked
     same_asked = clause_at-kept t w grown.table roots (formulas_in t roots formulas)

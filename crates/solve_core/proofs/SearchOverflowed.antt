@@ -7,6 +7,7 @@ use Rattle.spec_derivations.specs.Orders.{whole_terms}
 use Rattle.spec_derivations.specs.Derivations.{AssumesAmong}
 use Rattle.spec_derivations.specs.Spent.{IsLearnedFrom, IsOverAtoms}
 use Rattle.spec_causes.specs.Causes.{OverflowsForm}
+use Rattle.spec_interfaces.specs.Interfaces.{StandsApart}
 use Rattle.spec_causes.specs.Checks.{IsOverflowAmong}
 use Rattle.ratio128.specs.declared.wide.Wide.{Wide}
 use Rattle.ratio128.specs.Meant.{overflow}
@@ -37,6 +38,7 @@ module _ (t : TableView) (p : Problem) (limits : Limits) (empty : IsLogOf t []) 
       new = tt;
       exact = tt;
     };
+    apart = All-nil (StandsApart p);
     logged = nothing;
   }
 

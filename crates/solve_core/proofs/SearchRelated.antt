@@ -1,10 +1,12 @@
 -- That a search goes on where clauses between bounds came into its store, and begins still.
-use Rattle.std.proofs.Common.{Result, Ok, Err, ◌≡◌, [], ◌∷◌, List, Contains, inl, inr, refl, sym, ap, ◌∙◌, subst}
+use Rattle.std.proofs.Common.{Result, Ok, Err, ◌≡◌, [], ◌∷◌, List, All, Contains, inl, inr, refl, sym, ap, ◌∙◌, subst}
 use Rattle.std.specs.Prelude.{MatchResult, OnOk}
-use Rattle.std.proofs.lemmas.List.Elements.{All-contains, Contains-push_cases}
-use Rattle.spec_text.proofs.Members.{only, to_image}
+use Rattle.std.proofs.lemmas.List.Elements.{All-nil, All-contains, Contains-push_cases}
+use Rattle.spec_text.proofs.Members.{none, only, to_image}
 use Rattle.spec_sorts.specs.Terms.{Term}
-use Rattle.spec_derivations.specs.Problems.{Problem}
+use Rattle.spec_derivations.specs.Problems.{Problem, subterms_in}
+use Rattle.spec_derivations.specs.Examples.{speaking}
+use Rattle.spec_interfaces.specs.Interfaces.{IsInterfaceEquality, StandsApart}
 use Rattle.no_memory.specs.declared.NoMemory.{NoMemory}
 use Rattle.term_core.specs.declared.ids.Lit.{Lit}
 use Rattle.term_core.specs.Tables.{TableView, Extends, declared_in, term_at, clause_at}
@@ -13,7 +15,8 @@ use Rattle.proof_log.specs.Logs.{Logged, IsLogOf, derivation_in}
 use Rattle.proof_log.specs.Theories.{IsAtomIn, DerivesLemmas}
 use Rattle.search_loop.specs.declared.search.Search.{Search}
 use Rattle.search_loop.specs.Waiting.{AreOfAtoms}
-use Rattle.search_loop.specs.Search.{SearchFits}
+use Rattle.search_loop.specs.Search.{images, SearchFits}
+use Rattle.search_loop.specs.Asking.{state}
 use Rattle.search_loop.specs.Rounds.{Continues, HasKept}
 use Rattle.search_loop.specs.Growing.{IsBegun}
 use Rattle.search_loop.proofs.SearchReady.{Ids}
@@ -22,6 +25,7 @@ use Rattle.search_loop.proofs.SearchGrown.{ready_wider, ready_derived, continues
 use Rattle.bound_lemmas.specs.declared.pair.BoundPair.{BoundPair}
 use Rattle.bound_lemmas.specs.Literals.{IsAtomOf}
 use Rattle.bound_lemmas.specs.Pairs.{IsPairOf}
+use Rattle.solve_core.specs.Beginning.{IsBegunFor}
 use Rattle.solve_core.specs.Relating.{HasRelated}
 
 -- nothing came
@@ -94,3 +98,29 @@ begun_wider t u g declared p x right same b = record {
   unlearned = b.unlearned;
   unspent = b.unspent;
 }
+
+-- both with the facts that it begins with
+pub begun_for_related : (ts : List Term) (t u : TableView) (x y : Search) → HasRelated t u x y → IsBegunFor ts (state t x) → IsBegunFor ts (state u y)
+begun_for_related ts t u x y h b =
+    let p = speaking ts b.interface in
+    record { interface = b.interface; begun = begun_related t u p x y h b.begun; apart = h.continues.apart p b.begun.search b.apart }
+
+pub begun_for_wider : (ts : List Term) (t u : TableView) → Extends t u → declared_in u ≡ declared_in t → (x : Search) → IsLogOf u x.log → derivation_in u x.log ≡ derivation_in t x.log → IsBegunFor ts (state t x) → IsBegunFor ts (state u x)
+begun_for_wider ts t u g declared x right same b =
+    let p = speaking ts b.interface in
+    let on = continues_wider t u g declared x right same b.begun.ready in
+    record { interface = b.interface; begun = begun_wider t u g declared p x right same b.begun; apart = on.apart p b.begun.search b.apart }
+
+-- a search without interface equalities begins with no facts
+pub begun_for_none : (ts : List Term) (t : TableView) (x : Search) → IsBegun t (speaking ts []) x → IsBegunFor ts (state t x)
+begun_for_none ts t x b =
+    let p = speaking ts [] in
+    record {
+      interface = [];
+      begun = b;
+      apart = record {
+        equalities = All-nil (IsInterfaceEquality (subterms_in p));
+        facts = λ e i h. absurd (none e i);
+        apart = subst (λ (cs : List (List Lit)). All (StandsApart p) (images t cs)) (sym b.unlearned) (All-nil (StandsApart p));
+      };
+    }

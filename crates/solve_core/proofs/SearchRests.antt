@@ -58,7 +58,7 @@ module _ (ts : List Term) (ids : List TermId) (t w : TableView) (x y : Search) (
     asked = asked;
     congruence = congruence;
     simplex = simplex;
-    terms = asked_for_on ts ids t w x y on.table on.search h.terms;
+    terms = asked_for_on ts ids t w x y on h.terms;
     grown = h.grown;
     few = omega (arith, h.few, atoms_same);
     paid = λ us among. came us h.grown (paid_for us among);
@@ -73,7 +73,7 @@ module _ (ts : List Term) (ids : List TermId) (t w : TableView) (x y : Search) (
     asked = asked;
     congruence = congruence;
     simplex = simplex;
-    terms = asked_for_on ts ids t w x y on.table on.search h.terms;
+    terms = asked_for_on ts ids t w x y on h.terms;
     grown = r;
     few = omega (arith, few, atoms_same ts ids t w x y v z h on);
     paid = λ us among. came us (subst (λ vs. AreAmong vs us) (terms_same ts ids t w x y v z h on) among);
@@ -90,7 +90,7 @@ ended_in ts ids t w x y v z h grows terms differ limit limit_is right end a show
     let atoms : atoms_of w y ≡ atoms_of t x = ap (λ us. length (arithmetic_in us)) (same_terms t w grows x y h.ready terms) in
     let n = came (whole_terms p) s.listed.only in
     let few : n.0 ≤ 1 + paid (atoms_of t x) l r (atoms_of t x) = subst (λ a. n.0 ≤ 1 + paid a l r a) atoms (omega (arith, n.1, paid_ended w y r end)) in
-    answered_by ts limit t w x y h.terms.interface h.terms.asked.interface s right limit_is a shows
+    answered_by ts limit t w x y h.terms.interface s h.terms.asked.apart right limit_is a shows
     (made p y.budget a (exchanged t differ x h.ready (whole_terms p) s.listed.only r grew w z.simplex l y.budget.exchanges (n.0, few, n.2)))
 
 -- so after a run
@@ -120,7 +120,7 @@ stopped_in ts ids t w x y v z h differ limit limit_is P Q (stops.Strained e) sto
     let l = length y.budget.learned in
     let m = paid_by w y r (atoms_of w y) in
     let few : m ≤ 1 + paid (atoms_of t x) l r (atoms_of t x) = subst (λ a. m ≤ 1 + paid a l r a) atoms (omega arith) in
-    strained_by ts limit w y h.terms.interface h.terms.asked.interface (images w y.store.clauses) (on.search p s).derived stopped.1.right (on.limit ∙ limit_is) (stops.Strained e)
+    strained_by ts limit w y h.terms.interface h.terms.asked.apart.equalities (images w y.store.clauses) (on.search p s).derived (on.apart p s h.terms.asked.apart).apart stopped.1.right (on.limit ∙ limit_is) (stops.Strained e)
     (stop_shown t differ x h.ready p s.listed.only r grew (Q (whole_terms p)) w z.simplex l m y.budget.exchanges (terms_watched w (theory_of z.congruence)) among few (stops.Strained e)
     (came (whole_terms p) s.listed.only) strain)
 stopped_in ts ids t w x y v z h differ limit limit_is P Q stops.Memory stopped strain r grew came = tt
@@ -144,7 +144,7 @@ numbers_stopped ts ids t x v h differ right limit limit_is same (stops.Strained 
     let m = paid_by t x h.grown (atoms_of t x) in
     let watched = ap (λ (z : TheoryView). clause_at t z.watched) (sym same) ∙ ap (clause_at t) h.asked.terms in
     let among = subst (λ us. AreAmong us (whole_terms p)) (sym watched) s.listed.only in
-    strained_by ts limit t x h.terms.interface h.terms.asked.interface (images t x.store.clauses) s.derived right limit_is (stops.Strained e)
+    strained_by ts limit t x h.terms.interface h.terms.asked.apart.equalities (images t x.store.clauses) s.derived h.terms.asked.apart.apart right limit_is (stops.Strained e)
     (stop_shown t differ x h.ready p s.listed.only h.grown h.few (λ (_ : Unit {0}). Unit {0}) t v.simplex l m es (terms_watched t v.simplex.theory) among (omega arith) (stops.Strained e)
     (stopped_there t (whole_terms p) m es v.simplex (h.paid (whole_terms p) s.listed.only)) strain)
 numbers_stopped ts ids t x v h differ right limit limit_is same stops.Memory strain = tt

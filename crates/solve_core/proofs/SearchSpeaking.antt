@@ -2,16 +2,18 @@
 use Rattle.std.specs.Prelude.{Result, Err, Vec}
 use Rattle.std.specs.List.{AllPairs}
 use Rattle.std.specs.declared.alloc.Global.{Global}
-use Rattle.std.proofs.Common.{◌≡◌, ◌≢◌, ◌+◌, ◌-◌, ◌≤◌, ℕ, length, List, [], ◌∷◌, ◌++◌, take, drop, get_or, map, All, refl, sym, ap, ◌∙◌, subst, arith}
+use Rattle.std.proofs.Common.{◌≡◌, ◌≢◌, ◌+◌, ◌-◌, ◌≤◌, ℕ, length, List, [], ◌∷◌, ◌++◌, take, drop, get_or, map, All, inl, refl, sym, ap, ◌∙◌, subst, arith}
 use Rattle.std.proofs.lemmas.List.{take_all, length-append}
-use Rattle.std.proofs.lemmas.List.Elements.{All-append}
+use Rattle.std.proofs.lemmas.List.Elements.{All-append, All-weaker}
 use Rattle.spec_sorts.specs.Terms.{Term}
 use Rattle.spec_sorts.specs.Subsets.{AreAmong}
 use Rattle.spec_derivations.specs.Problems.{Problem, subterms_in}
 use Rattle.spec_derivations.specs.Orders.{whole_terms}
-use Rattle.spec_derivations.specs.Examples.{asserting, speaking}
+use Rattle.spec_derivations.specs.Examples.{speaking}
 use Rattle.spec_derivations.proofs.Grown.{whole}
 use Rattle.spec_causes.specs.Shared.{IsSharedEquality}
+use Rattle.spec_interfaces.specs.Interfaces.{IsInterfaceEquality, AreInterfaceEqualities, StandsApart}
+use Rattle.spec_interfaces.proofs.Apart.{apart_more}
 use Rattle.spec_causes.specs.Checks.{IsOverflowAmong}
 use Rattle.ratio128.specs.declared.wide.Wide.{Wide}
 use Rattle.ratio128.specs.Meant.{overflow}
@@ -39,7 +41,7 @@ use Rattle.search_loop.specs.Search.{SearchFits, images}
 use Rattle.search_loop.specs.Asking.{IsAsked, state}
 use Rattle.search_loop.specs.Paying.{counted_among, atoms_of, paid_by, IsPaid}
 use Rattle.search_loop.specs.Growing.{GrowsTo, HasGrown, goes_on as by_interface}
-use Rattle.search_loop.specs.Rounds.{IsSearch, Continues}
+use Rattle.search_loop.specs.Rounds.{IsSearch, HoldsApart, Continues}
 use Rattle.search_loop.proofs.SearchGrown.{continues_wider}
 use Rattle.search_loop.proofs.SearchMore.{derived_of_more}
 use Rattle.search_loop.proofs.SearchPays.{paid_begun}
@@ -75,6 +77,9 @@ module _ (ts : List Term) (ids : List TermId) (t : TableView) (x : Search) (v : 
   pub asked : IsSearch t before x
   asked = h.searching.terms.asked.asked
 
+  pub facts : HoldsApart t before x
+  facts = h.searching.terms.asked.apart
+
   pub comparable : All (IsComparable t) pairs
   comparable k d lt = open_comparable t x before asked ids h.searching.terms.asked.shared (get_or pairs k d) (h.are_open.0 k d lt)
 
@@ -87,17 +92,18 @@ module _ (ts : List Term) (ids : List TermId) (t : TableView) (x : Search) (v : 
     pub linear : AreAnswered new
     linear = subst AreAnswered (sym are) (open_linear t x before asked ids h.searching.terms.asked.shared pairs h.are_open)
 
-    shared : All (IsSharedEquality (subterms_in before)) new
+    pub shared : All (IsSharedEquality (subterms_in before)) new
     shared = subst (All (IsSharedEquality (subterms_in before))) (sym are) (open_equalities t x before asked ids h.searching.terms.asked.shared pairs h.are_open)
 
-    all_shared : All (IsSharedEquality (subterms_in (asserting ts))) (interface ++ new)
-    all_shared = All-append (IsSharedEquality (subterms_in before)) interface new h.searching.terms.asked.interface shared
+    all_equalities : AreInterfaceEqualities after
+    all_equalities = All-append (IsInterfaceEquality (subterms_in before)) interface new facts.equalities
+        (All-weaker (IsSharedEquality (subterms_in before)) (IsInterfaceEquality (subterms_in before)) (λ e s. inl s) new shared)
 
     spoken : AreAmong (clause_at t x.terms.items) (whole_terms after)
     spoken u i = whole before after (known_more ts interface new) u (asked.listed.only u i)
 
     -- it stops where an order of an equality leaves the bound
-    module _ (differ : AreDifferent t.terms) (u : TableView) (y : Search) (on : IsSearch u before y) (right : IsLogOf u y.log) (budget : y.budget ≡ x.budget) (limit : ℕ) (limit_is : y.budget.limit ≡ limit)
+    module _ (differ : AreDifferent t.terms) (u : TableView) (y : Search) (on : IsSearch u before y) (on_facts : HoldsApart u before y) (right : IsLogOf u y.log) (budget : y.budget ≡ x.budget) (limit : ℕ) (limit_is : y.budget.limit ≡ limit)
         (z : SimplexView) (came : (us : List Term) (n : ℕ) → CameBy t us n x.budget.exchanges v.simplex → CameBy t us n x.budget.exchanges z) where
       paid : IsPaid (λ n. CameBy t (whole_terms after) n x.budget.exchanges z) (1 + paid_by t x h.searching.grown (atoms_of t x))
       paid = let p = h.searching.paid (whole_terms after) spoken in (p.0, omega (arith, p.1), came (whole_terms after) p.0 p.2)
@@ -118,13 +124,13 @@ module _ (ts : List Term) (ids : List TermId) (t : TableView) (x : Search) (v : 
 
       pub order_stops : (w : Wide) → IsOverflowAmong (whole_terms after) (overflow w) → (stop : Stop) → StopsBy (λ s. (s.wide ≡ w) × IsBasisOf z.assignment s.basis) stop → IsStoppedBy ts limit (state u y) stop
       order_stops w order stop by =
-          strained_by ts limit u y (interface ++ new) all_shared (images u y.store.clauses)
+          strained_by ts limit u y (interface ++ new) all_equalities (images u y.store.clauses)
           (derived_of_more before after refl refl (known_more ts interface new) (derivation_in u y.log) (images u y.store.clauses) (images u y.budget.learned) on.derived)
-          right limit_is stop
+          (All-weaker (StandsApart before) (StandsApart after) (apart_more before new) (images u y.budget.learned) on_facts.apart) right limit_is stop
           (subst (λ (b : BudgetView). StopsBy (IsOverflowed after (length b.learned) b.exchanges) stop) (sym budget) (overflowed w order stop by))
 
     -- where it grew
-    module _ (u : TableView) (grows : Extends t u) (y : Search) (more : List TermId) (terms : y.terms.items ≡ x.terms.items ++ more) (on : IsSearch u after y) (budget : y.budget ≡ x.budget) (ready : SearchFits u y) where
+    module _ (u : TableView) (grows : Extends t u) (y : Search) (more : List TermId) (terms : y.terms.items ≡ x.terms.items ++ more) (on : IsSearch u after y) (on_facts : HoldsApart u after y) (budget : y.budget ≡ x.budget) (ready : SearchFits u y) where
       there : AreIn t x.terms.items
       there = λ k d lt. (h.searching.ready.atoms_are.there k d lt).0
 
@@ -143,7 +149,7 @@ module _ (ts : List Term) (ids : List TermId) (t : TableView) (x : Search) (v : 
           asked = keeps;
           congruence = facts;
           simplex = suits;
-          terms = asked_for_more ts ids t u x y grows h.searching.terms new shared on;
+          terms = asked_for_more ts ids t u x y grows h.searching.terms new on on_facts;
           grown = grown;
           few = few;
           paid = come_more ts ids t x h.searching.terms there u grows y more terms pairs h.are_open new are on h.searching.grown budget v.simplex z.simplex h.searching.paid watches;
@@ -161,7 +167,7 @@ module _ (ts : List Term) (ids : List TermId) (t : TableView) (x : Search) (v : 
           let l = length y.budget.learned in
           let front : AreAmong (clause_at u (watched ++ take k more)) us = λ w i.
           on.listed.only w (subst (λ (ns : List TermId). AreAmong (clause_at u (watched ++ take k more)) (clause_at u ns)) (sym terms) (front_among u x.terms.items more watched k is) w i) in
-          strained_by ts limit u y (interface ++ new) all_shared (images u y.store.clauses) on.derived ready.right limit_is stop
+          strained_by ts limit u y (interface ++ new) all_equalities (images u y.store.clauses) on.derived on_facts.apart ready.right limit_is stop
           (stop_shown u differ y ready after on.listed.only grown few (λ (e : Unit {0}). Unit {0}) u z l (paid_by u y grown 0) y.budget.exchanges (clause_at u (watched ++ take k more)) front
           (let le : paid_by u y grown 0 ≤ paid_by u y grown (atoms_of u y) = paid_begun (atoms_of u y) l grown (atoms_of u y) (paid_by u y grown 0) (omega arith) in omega (arith, le)) stop
           (stopped_more ts ids t x h.searching.terms there u grows y more terms pairs h.are_open new are on h.searching.grown budget v.simplex z h.searching.paid P stop us on.listed.only watches) at)
@@ -169,8 +175,17 @@ module _ (ts : List Term) (ids : List TermId) (t : TableView) (x : Search) (v : 
 -- equalities came into the table, the search went back to level 0, it grew by them, and bounds were related
 module _ (ts : List Term) (ids : List TermId) (t : TableView) (x : Search) (v : CombinedView) (pairs : List (TermId × TermId)) (h : HasRested ts ids (state t x) v pairs) (u : TableView) (wider : Widens t u) (right : IsLogOf u x.log) (same : derivation_in u x.log ≡ derivation_in t x.log)
     (at : Search) (back : Continues u u x at) (unspent : at.budget ≡ x.budget) (new : List TermId) (are : clause_at u new ≡ map (equality_in t) pairs) where
+  on_wider : Continues t u x x
+  on_wider = continues_wider t u wider.terms wider.declared x right same h.searching.ready
+
   pub resting : IsSearch u (before ts ids t x v pairs h) at
-  resting = back.search (before ts ids t x v pairs h) ((continues_wider t u wider.terms wider.declared x right same h.searching.ready).search (before ts ids t x v pairs h) (asked ts ids t x v pairs h))
+  resting = back.search (before ts ids t x v pairs h) (on_wider.search (before ts ids t x v pairs h) (asked ts ids t x v pairs h))
+
+  pub resting_facts : HoldsApart u (before ts ids t x v pairs h) at
+  resting_facts =
+      let p = before ts ids t x v pairs h in
+      let own = asked ts ids t x v pairs h in
+      back.apart p (on_wider.search p own) (on_wider.apart p own (facts ts ids t x v pairs h))
 
   -- it grows to the problem with these equalities
   pub grows_to : GrowsTo u at [] new (after ts ids t x v pairs h (clause_at u new) are)
@@ -182,6 +197,11 @@ module _ (ts : List Term) (ids : List TermId) (t : TableView) (x : Search) (v : 
 
     pub grown_search : IsSearch r (after ts ids t x v pairs h (clause_at u new) are) y
     grown_search = related.continues.search (after ts ids t x v pairs h (clause_at u new) are) (grown_by.search (after ts ids t x v pairs h (clause_at u new) are) grows_to)
+
+    pub grown_facts : HoldsApart r (after ts ids t x v pairs h (clause_at u new) are) y
+    grown_facts =
+        let p = after ts ids t x v pairs h (clause_at u new) are in
+        related.continues.apart p (grown_by.search p grows_to) (grown_by.apart (before ts ids t x v pairs h) resting resting_facts refl (shared ts ids t x v pairs h (clause_at u new) are))
 
     pub grown_budget : y.budget ≡ x.budget
     grown_budget = ap (λ (s : Search). s.budget) related.same ∙ grown_by.budget ∙ unspent

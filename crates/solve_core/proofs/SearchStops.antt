@@ -6,10 +6,10 @@ use Rattle.spec_text.proofs.Members.{first, later, cases, none, to_image, from_i
 use Rattle.spec_sorts.specs.Terms.{Term}
 use Rattle.spec_sorts.specs.Subsets.{AreAmong}
 use Rattle.spec_sorts.specs.Literals.{Literal}
-use Rattle.spec_derivations.specs.Problems.{Problem, subterms_in}
+use Rattle.spec_derivations.specs.Problems.{Problem}
 use Rattle.spec_derivations.specs.Orders.{whole_terms}
-use Rattle.spec_derivations.specs.Examples.{asserting, speaking}
-use Rattle.spec_causes.specs.Shared.{IsSharedEquality}
+use Rattle.spec_derivations.specs.Examples.{speaking}
+use Rattle.spec_interfaces.specs.Interfaces.{AreInterfaceEqualities, StandsApart}
 use Rattle.spec_causes.proofs.Wider.{overflows_over_more}
 use Rattle.ratio128.specs.Meant.{overflow}
 use Rattle.term_core.specs.declared.ids.TermId.{TermId}
@@ -29,7 +29,7 @@ use Rattle.search_loop.specs.declared.cdcl.Answer.TheVariants.{Unknown}
 use Rattle.search_loop.specs.Stops.{IsOverflowed, reckoning}
 use Rattle.search_loop.specs.Search.{SearchFits, images}
 use Rattle.search_loop.specs.Paying.{atoms_of, IsPaid}
-use Rattle.search_loop.specs.Rounds.{HasDerived, IsSearch, HasMade, ShowsAnswer}
+use Rattle.search_loop.specs.Rounds.{HasDerived, IsSearch, HoldsApart, HasMade, ShowsAnswer}
 use Rattle.search_loop.specs.Asking.{HasSaturated, state}
 use Rattle.search_loop.proofs.SearchShows.{derived_shows}
 use Rattle.solve_core.specs.Answering.{IsAnswered, IsStoppedBy}
@@ -52,34 +52,34 @@ front_among t ids more watched k is u i =
     subst (Contains (clause_at t (ids ++ more))) n.2 (to_image (term_at t) (ids ++ more) n.0 there)
 
 -- an answer is shown of terms that are asserted, with interface equalities of which the search was asked
-pub answered_by : (ts : List Term) (limit : ℕ) (t w : TableView) (x y : Search) (interface : List Term) → All (IsSharedEquality (subterms_in (asserting ts))) interface → IsSearch t (speaking ts interface) x
+pub answered_by : (ts : List Term) (limit : ℕ) (t w : TableView) (x y : Search) (interface : List Term) → IsSearch t (speaking ts interface) x → HoldsApart t (speaking ts interface) x
     → IsLogOf w y.log → y.budget.limit ≡ limit → (a : Answer) → ShowsAnswer t w x y a → HasMade (speaking ts interface) y.budget a → IsAnswered ts limit (state w y) a
-answered_by ts limit t w x y interface equalities s right limit_is a shows made =
-    let shown = shows (speaking ts interface) s in
+answered_by ts limit t w x y interface s apart right limit_is a shows made =
+    let shown = shows (speaking ts interface) s apart in
     record {
       right = right;
       limit_is = limit_is;
       interface = interface;
-      equalities = equalities;
+      equalities = apart.equalities;
       evidence = shown.0;
       learning = shown.1;
       exchanged = made;
     }
 
 -- such an overflow is shown of the terms
-pub strained_by : (ts : List Term) (limit : ℕ) (t : TableView) (x : Search) (interface : List Term) → All (IsSharedEquality (subterms_in (asserting ts))) interface → (cs : List (List Literal))
-    → HasDerived (speaking ts interface) (derivation_in t x.log) cs (images t x.budget.learned) → IsLogOf t x.log → x.budget.limit ≡ limit → (stop : Stop)
+pub strained_by : (ts : List Term) (limit : ℕ) (t : TableView) (x : Search) (interface : List Term) → AreInterfaceEqualities (speaking ts interface) → (cs : List (List Literal))
+    → HasDerived (speaking ts interface) (derivation_in t x.log) cs (images t x.budget.learned) → All (StandsApart (speaking ts interface)) (images t x.budget.learned) → IsLogOf t x.log → x.budget.limit ≡ limit → (stop : Stop)
     → StopsBy (IsOverflowed (speaking ts interface) (length x.budget.learned) x.budget.exchanges) stop → IsStoppedBy ts limit (state t x) stop
-strained_by ts limit t x interface equalities cs derived right limit_is (stops.Strained e) h = record {
+strained_by ts limit t x interface equalities cs derived apart right limit_is (stops.Strained e) h = record {
   right = right;
   limit_is = limit_is;
   interface = interface;
   equalities = equalities;
   evidence = h;
-  learning = derived_shows t (speaking ts interface) x.log cs x.budget.learned (Unknown (reasons.Overflow e)) right derived derived.steps;
+  learning = derived_shows t (speaking ts interface) x.log cs x.budget.learned (Unknown (reasons.Overflow e)) right derived apart derived.steps;
   exchanged = tt;
 }
-strained_by ts limit t x interface equalities cs derived right limit_is stops.Memory h = tt
+strained_by ts limit t x interface equalities cs derived apart right limit_is stops.Memory h = tt
 
 -- the limit is another's
 pub stopped_limit : (ts : List Term) (limit other : ℕ) (w : TableView) (y : Search) → limit ≡ other → (stop : Stop) → IsStoppedBy ts limit (state w y) stop → IsStoppedBy ts other (state w y) stop

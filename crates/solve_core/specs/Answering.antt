@@ -4,7 +4,7 @@ use Rattle.spec_numbers.specs.Fractions.{Fraction, IsReduced}
 use Rattle.spec_sorts.specs.Terms.{Number, Term, sort_of}
 use Rattle.spec_derivations.specs.Problems.{subterms_in}
 use Rattle.spec_derivations.specs.Examples.{asserting, speaking}
-use Rattle.spec_causes.specs.Shared.{IsSharedEquality}
+use Rattle.spec_interfaces.specs.Interfaces.{IsInterfaceEquality}
 use Rattle.no_memory.specs.declared.NoMemory.{NoMemory}
 use Rattle.spec_sorts.specs.Literals.{Literal}
 use Rattle.spec_equality.specs.Congruence.{IsFine}
@@ -81,7 +81,7 @@ pub record IsAnswered (ts : List Term) (limit : ℕ) (s : SearchState) (a : Answ
   pub limit_is : s.search.budget.limit ≡ limit
   -- those equalities
   pub interface : List Term
-  pub equalities : All (IsSharedEquality (subterms_in (asserting ts))) interface
+  pub equalities : All (IsInterfaceEquality (subterms_in (asserting ts))) interface
   -- it shows what it should of the terms
   pub evidence : HasEvidence s.table (speaking ts interface) s.search.log s.search.budget a
   -- and so do the log and what was learned

@@ -3,7 +3,7 @@ use Rattle.std.specs.Prelude.{◌≡◌, ◌⊎◌, ◌≤◌, List, [], length,
 use Rattle.spec_sorts.specs.Terms.{Term}
 use Rattle.spec_derivations.specs.Problems.{Problem, subterms_in}
 use Rattle.spec_derivations.specs.Examples.{asserting, speaking}
-use Rattle.spec_causes.specs.Shared.{IsSharedEquality}
+use Rattle.spec_interfaces.specs.Interfaces.{IsInterfaceEquality}
 use Rattle.term_core.specs.Tables.{TableView}
 use Rattle.proof_log.specs.Logs.{Logged, IsLogOf}
 use Rattle.ratio128.specs.declared.wide.Wide.{Wide}
@@ -51,7 +51,7 @@ pub record IsJustified (t : TableView) (p : Problem) (limits : Limits) (d : Outc
 pub record HasDecision (t : TableView) (ts : List Term) (limits : Limits) (d : Outcome) : Type 0 where
   -- those equalities
   pub interface : List Term
-  pub equalities : All (IsSharedEquality (subterms_in (asserting ts))) interface
+  pub equalities : All (IsInterfaceEquality (subterms_in (asserting ts))) interface
   -- the evidence
   pub justified : IsJustified t (speaking ts interface) limits d
 

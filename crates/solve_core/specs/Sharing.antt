@@ -6,11 +6,11 @@ use Rattle.spec_sorts.specs.Terms.{Number, Head, Equal, Apply, Term, Terms, app,
 use Rattle.spec_sorts.specs.Terms.{same_sort}
 use Rattle.spec_derivations.specs.Problems.{Problem, subterms_in}
 use Rattle.spec_derivations.specs.Orders.{whole_terms}
-use Rattle.spec_causes.specs.Shared.{IsSharedAmong, IsSharedEquality}
+use Rattle.spec_causes.specs.Shared.{IsSharedAmong}
 use Rattle.term_core.specs.declared.ids.TermId.{TermId}
 use Rattle.term_core.specs.Tables.{TableView, AreIn, term_at, clause_at}
 use Rattle.search_loop.specs.declared.search.Search.{Search}
-use Rattle.search_loop.specs.Rounds.{IsSearch}
+use Rattle.search_loop.specs.Rounds.{IsSearch, HoldsApart}
 
 -- The numbers are those of the terms that are shared among terms.
 pub record AreSharedOf (t : TableView) (ts : List Term) (ids : List TermId) : Type 0 where
@@ -60,8 +60,8 @@ pub record IsAskedOf (t : TableView) (ids : List TermId) (p : Problem) (x : Sear
   pub asked : IsSearch t p x
   -- these are shared
   pub shared : AreSharedOf t (subterms_in p) ids
-  -- and the interface equalities are theirs
-  pub interface : All (IsSharedEquality (subterms_in p)) p.interface
+  -- and of the interface equalities those of elements are facts
+  pub apart : HoldsApart t p x
 
 -- Two of the numbers, of different terms, of whose equality a search of a problem does not speak.
 pub record IsOpen (t : TableView) (ids : List TermId) (p : Problem) (x : TermId × TermId) : Type 0 where

@@ -4,7 +4,8 @@ ghost use Rattle.std.specs.Prelude.{◌≡◌, ◌≢◌, [], List, All, Contain
 ghost use Rattle.spec_sorts.specs.Terms.{Number, Term, sort_of};
 ghost use Rattle.spec_sorts.specs.Subterms.{subterms_of};
 ghost use Rattle.spec_derivations.specs.Examples.{speaking};
-ghost use Rattle.term_core.specs.Tables.{declared_in, Extends, AreIn, clause_at};
+ghost use Rattle.term_core.specs.Tables.{declared_in, Extends, clause_at};
+ghost use Rattle.proof_log.specs.Logs.{AreFormulasIn};
 ghost use Rattle.proof_log.specs.Theories.{IsTermIn};
 ghost use Rattle.congruence_relation.specs.Relation.{AreFactsOf};
 ghost use Rattle.congruence.specs.Views.{theory_of};
@@ -12,12 +13,14 @@ ghost use Rattle.simplex.specs.Checks.{Suits};
 ghost use Rattle.simplex.specs.Coming.{CameBy};
 ghost use Rattle.search_loop.specs.Asking.{state};
 ghost use Rattle.search_loop.specs.Growing.{IsBegun};
+ghost use Rattle.solve_core.specs.Beginning.{IsBegunFor};
 ghost use Rattle.solve_core.specs.Sharing.{AreSharedOf};
 ghost use Rattle.solve_core.specs.Answering.{HasNumber, IsAnswered, IsStoppedBy, AnswersStop};
 ghost use Rattle.solve_core.specs.GoingOn.{CanGoOn};
 
 use crate::agreeing::{AgreementFound, agreement};
 use crate::bounding::relate_bounds;
+use crate::cases::speak_of_cases;
 use crate::choosing::denied_orders;
 use crate::modelling::{TheoryAssignment, model, zeros};
 use crate::propositional::{answer_propositional, are_propositional};
@@ -57,7 +60,8 @@ fn have_numbers(table: &TermTable, terms: &[TermId]) -> bool
 }
 
 /// Searches with no theory where all terms are propositional, else with the theory of equality and functions, and with that of linear
-/// arithmetic as well where some term is a number. The search begins, for these roots.
+/// arithmetic as well where some term is a number. The search begins, for these roots: to what the cases of their disjunctions lead is
+/// known first.
 pub(crate) fn answer(
     search: &mut Search,
     table: &mut TermTable,
@@ -65,7 +69,7 @@ pub(crate) fn answer(
 ) -> Result<Answer, NoMemory>
     ghost asked: { List Term }
     requires asked { asked ≡ clause_at table.old roots.now }
-    requires roots { AreIn table.old roots.now }
+    requires roots { AreFormulasIn table.old roots.now }
     requires begun { IsBegun table.old (speaking asked []) search.old }
     ensures grown { Extends table.old table.new }
     ensures declared { declared_in table.new ≡ declared_in table.old }
@@ -74,6 +78,7 @@ pub(crate) fn answer(
     if are_propositional(table, &search.terms) {
         return answer_propositional(search, table);
     }
+    speak_of_cases(search, table, roots)?;
     if have_numbers(table, &search.terms) {
         let shared = shared_terms(search.alloc, table, roots)?;
         return answer_numbers(search, table, &shared);
@@ -84,7 +89,7 @@ pub(crate) fn answer(
 /// Searches with the theory of equality and functions alone, where no term is a number.
 fn answer_classes(search: &mut Search, table: &mut TermTable) -> Result<Answer, NoMemory>
     ghost asked: { List Term }
-    requires begun { IsBegun table.old (speaking asked []) search.old }
+    requires begun { IsBegunFor asked (state table.old search.old) }
     requires plain { (u : Term) → Contains (clause_at table.old search.old.terms.items) u → sort_of u ≢ Number }
     ensures grown { Extends table.old table.new }
     ensures declared { declared_in table.new ≡ declared_in table.old }
@@ -103,7 +108,7 @@ fn search_classes(
     theory: &mut Congruence,
 ) -> Result<Answer, NoMemory>
     ghost asked: { List Term }
-    requires begun { IsBegun table.old (speaking asked []) search.old }
+    requires begun { IsBegunFor asked (state table.old search.old) }
     requires plain { (u : Term) → Contains (clause_at table.old search.old.terms.items) u → sort_of u ≢ Number }
     requires empty { theory_of theory.old ≡ record { held = []; watched = []; marks = [] } }
     requires with { AreFactsOf table.old theory.old.now.facts }
@@ -141,7 +146,7 @@ fn answer_numbers(
     shared: &[TermId],
 ) -> Result<Answer, NoMemory>
     ghost asked: { List Term }
-    requires begun { IsBegun table.old (speaking asked []) search.old }
+    requires begun { IsBegunFor asked (state table.old search.old) }
     requires shared { AreSharedOf table.old (subterms_of asked) shared.now }
     ensures grown { Extends table.old table.new }
     ensures declared { declared_in table.new ≡ declared_in table.old }
@@ -167,7 +172,7 @@ fn begin_with(
     shared: &[TermId],
 ) -> Result<Answer, Stop>
     ghost asked: { List Term }
-    requires begun { IsBegun table.old (speaking asked []) search.old }
+    requires begun { IsBegunFor asked (state table.old search.old) }
     requires shared { AreSharedOf table.old (subterms_of asked) shared.now }
     requires empty { theory_of theory.old.congruence ≡ record { held = []; watched = []; marks = [] } }
     requires congruence { AreFactsOf table.old theory.old.congruence.now.facts }

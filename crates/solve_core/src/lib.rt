@@ -7,6 +7,7 @@
 mod agreeing;
 mod answering;
 mod bounding;
+mod cases;
 mod choosing;
 mod equalities;
 mod forms;

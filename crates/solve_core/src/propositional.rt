@@ -1,15 +1,14 @@
 //! The search without a theory, where its terms are propositional.
 
-ghost use Rattle.std.specs.Prelude.{◌≡◌, ◌≢◌, ◌↔◌, true, List, [], All, IfOk, MatchBool};
+ghost use Rattle.std.specs.Prelude.{◌≡◌, ◌≢◌, ◌↔◌, true, List, All, IfOk, MatchBool};
 ghost use Rattle.spec_sorts.specs.Terms.{Truth, Term, sort_of};
-ghost use Rattle.spec_derivations.specs.Examples.{speaking};
 ghost use Rattle.spec_valuations.specs.Propositional.{AppliesNothing, IsPropositional};
 ghost use Rattle.term_core.specs.Tables.{declared_in, Extends, IsIn, AreIn, term_at, clause_at};
 ghost use Rattle.proof_log.specs.Theories.{TheoryView};
 ghost use Rattle.search_loop.specs.declared.cdcl.Answer.TheVariants.{Sat};
 ghost use Rattle.search_loop.specs.Rounds.{ShowsAnswer};
-ghost use Rattle.search_loop.specs.Growing.{IsBegun};
 ghost use Rattle.search_loop.specs.Asking.{HasSaturated, state};
+ghost use Rattle.solve_core.specs.Beginning.{IsBegunFor};
 ghost use Rattle.solve_core.specs.Answering.{IsAnswered};
 
 use crate::modelling::zeros;
@@ -73,7 +72,7 @@ pub(crate) fn answer_propositional(
     table: &mut TermTable,
 ) -> Result<Answer, NoMemory>
     ghost asked: { List Term }
-    requires begun { IsBegun table.old (speaking asked []) search.old }
+    requires begun { IsBegunFor asked (state table.old search.old) }
     requires propositional { All IsPropositional (clause_at table.old search.old.terms.items) }
     ensures grown { Extends table.old table.new }
     ensures declared { declared_in table.new ≡ declared_in table.old }

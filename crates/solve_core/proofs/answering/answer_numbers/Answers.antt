@@ -1,13 +1,12 @@
 -- From the beginning to an answer, where some term is a number.
-use Rattle.std.proofs.Common.{[], ℕ, subst}
-use Rattle.spec_derivations.specs.Examples.{speaking}
+use Rattle.std.proofs.Common.{ℕ, subst}
 use Rattle.spec_sorts.specs.Subterms.{subterms_of}
 use Rattle.term_core.proofs.TermsExtend.{Extends-trans}
 use Rattle.search_loop.specs.Asking.{state}
 use Rattle.solve_core.proofs.SearchAsked.{shared_kept}
 use Rattle.solve_core.specs.Answering.{IsAnswered}
 use Rattle.solve_core.proofs.SearchEnds.{answers_show}
-use Rattle.solve_core.proofs.SearchRelated.{begun_related, begun_wider}
+use Rattle.solve_core.proofs.SearchRelated.{begun_for_related, begun_for_wider}
 use Rattle.solve_core.proofs.SearchStops.{stopped_limit}
 use Rattle.solve_core.proofs.answering.answer_numbers.Goals as goal
 
@@ -18,11 +17,10 @@ begin_with-requires g c =
     let u = c.truth_values.new.table in
     let y = c.relate_bounds.new.search in
     let e = c.truth_values.ensures in
-    let p = speaking g.asked [] in
-    let b = begun_related t s p c.args.search.now y c.in_ok-relate_bounds.ensures.related c.requires.0 in
+    let b = begun_for_related g.asked t s c.args.search.now y c.in_ok-relate_bounds.ensures.related c.requires.0 in
     let laws = c.logs_hold_in_grown_tables.ensures in
     let theory = c.in_ok-theory.ensures in (
-      begun_wider s u e.grown e.declared p y (laws.right s u y.log b.ready.right e.grown) (laws.same s u y.log b.ready.right e.grown) b,
+      begun_for_wider g.asked s u e.grown e.declared y (laws.right s u y.log b.begun.ready.right e.grown) (laws.same s u y.log b.begun.ready.right e.grown) b,
       (
         shared_kept t u (Extends-trans t s u c.relate_bounds.ensures.grown e.grown) (subterms_of g.asked) c.args.shared.now c.requires.1,
         (theory.empty, (theory.congruence, (theory.simplex, theory.came))),

@@ -1,14 +1,11 @@
 -- From the beginning to an answer, with both theories.
 use Rattle.std.proofs.Common.{◌+◌, [], ◌++◌, List, length, take, Contains, sym, ap, ◌∙◌, subst, refl, arith}
 use Rattle.std.proofs.lemmas.List.{append-nil}
-use Rattle.std.proofs.lemmas.List.Elements.{All-nil}
 use Rattle.spec_sorts.specs.Terms.{Term}
 use Rattle.spec_sorts.specs.Subterms.{subterms_of}
 use Rattle.spec_sorts.specs.Subsets.{AreAmong}
-use Rattle.spec_derivations.specs.Problems.{subterms_in}
 use Rattle.spec_derivations.specs.Orders.{whole_terms}
-use Rattle.spec_derivations.specs.Examples.{asserting, speaking}
-use Rattle.spec_causes.specs.Shared.{IsSharedEquality}
+use Rattle.spec_derivations.specs.Examples.{speaking}
 use Rattle.term_core.specs.declared.ids.TermId.{TermId}
 use Rattle.term_core.specs.Tables.{clause_at}
 use Rattle.term_core.proofs.TermsExtend.{Extends-self}
@@ -29,8 +26,9 @@ pub returns-in-Err-clause-answers : goal.returns-in-Err-clause-answers
 returns-in-Err-clause-answers g c =
     let t = c.args.table.now in
     let x = c.args.search.now in
-    let b = c.requires.0 in
-    let p = speaking g.asked [] in
+    let a = c.requires.0 in
+    let b = a.begun in
+    let p = speaking g.asked a.interface in
     let theory = c.watch_all.new.theory in
     let stop = c.in-Err.stop in
     let es = x.budget.exchanges in
@@ -42,7 +40,7 @@ returns-in-Err-clause-answers g c =
     let spoken : AreAmong (clause_at t ids) (whole_terms p) = λ u i. b.search.listed.only u (subst (λ (is : List TermId). Contains (clause_at t is) u) all i) in
     let among : AreAmong (clause_at t (watched ++ take (h.0 + 1) ids)) (whole_terms p) = λ u i. spoken u (front_among t [] ids watched (h.0 + 1) (ap (λ (v : TheoryView). v.watched) c.requires.1.1.0) u i) in
     let before = subst (λ made. CameBy t (whole_terms p) 0 made c.args.theory.now.simplex) (sym b.unspent) (c.requires.1.1.1.1.1 (whole_terms p)) in
-    strained_by g.asked x.budget.limit t x [] (All-nil (IsSharedEquality (subterms_in (asserting g.asked)))) (images t x.store.clauses) b.search.derived b.ready.right refl stop
+    strained_by g.asked x.budget.limit t x a.interface a.apart.equalities (images t x.store.clauses) b.search.derived a.apart.apart b.ready.right refl stop
     (stop_shown t c.ids_are_unique.ensures x b.ready p b.search.listed.only 0 (omega arith) _ t theory.simplex (length x.budget.learned) (0 + counted_among t ids) es (clause_at t (watched ++ take (h.0 + 1) ids)) among (omega (arith, count)) stop
     (rw c.in-Err.is at (c.watch_all.ensures.came (whole_terms p) 0 es spoken before)) h.3)
 
@@ -50,8 +48,9 @@ pub try_and_search-requires : goal.try_and_search-requires
 try_and_search-requires g c =
     let t = c.args.table.now in
     let x = c.args.search.now in
-    let b = c.requires.0 in
-    let p = speaking g.asked [] in
+    let a = c.requires.0 in
+    let b = a.begun in
+    let p = speaking g.asked a.interface in
     let theory = c.watch_all.new.theory in
     let es = x.budget.exchanges in
     let all = c.deref.ensures.value in
@@ -65,11 +64,11 @@ try_and_search-requires g c =
           congruence = c.watch_all.ensures.with.0;
           simplex = c.watch_all.ensures.with.1;
           terms = record {
-            interface = [];
+            interface = a.interface;
             asked = record {
               asked = b.search;
               shared = subst (λ (us : List Term). AreSharedOf t (subterms_of us) c.args.shared.now) (sym (append-nil g.asked)) c.requires.1.0;
-              interface = All-nil (IsSharedEquality (subterms_in p));
+              apart = a.apart;
             };
           };
           grown = 0;

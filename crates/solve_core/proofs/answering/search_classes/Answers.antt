@@ -1,14 +1,12 @@
 -- From the beginning to an answer, with the theory of equality and functions.
-use Rattle.std.proofs.Common.{◌≡◌, ◌≢◌, List, [], length, map, Contains, sym, ap, ap₂, ◌∙◌, refl, arith, subst}
-use Rattle.std.proofs.lemmas.List.Elements.{All-nil, All-weaker}
+use Rattle.std.proofs.Common.{◌≡◌, ◌≢◌, List, length, map, Contains, sym, ap, ap₂, ◌∙◌, refl, arith, subst}
+use Rattle.std.proofs.lemmas.List.Elements.{All-weaker}
 use Rattle.std.specs.Prelude.{replicate}
 use Rattle.spec_numbers.specs.Fractions.{zero_fraction}
 use Rattle.spec_tableaux.specs.Numbers.{numbers}
 use Rattle.spec_sorts.specs.Terms.{Number, Term, sort_of}
-use Rattle.spec_derivations.specs.Problems.{subterms_in}
 use Rattle.spec_derivations.specs.Orders.{whole_terms}
-use Rattle.spec_derivations.specs.Examples.{asserting, speaking}
-use Rattle.spec_causes.specs.Shared.{IsSharedEquality}
+use Rattle.spec_derivations.specs.Examples.{speaking}
 use Rattle.ratio128.specs.Meant.{fraction}
 use Rattle.term_core.specs.declared.ids.TermId.{TermId}
 use Rattle.term_core.specs.Tables.{IsIn, AreIn, clause_at}
@@ -42,7 +40,7 @@ model-requires g c =
     let v = theory_of c.run.new.theory in
     let ends = rw c.in-Saturated.is at (rw c.in-Ok-run.is at c.run.ensures.ends) in
     let plain : (u : Term) → Contains (clause_at w y.terms.items) u → sort_of u ≢ Number =
-    plain_later t w c.run.ensures.grown x y c.requires.0.ready ends.1.terms c.requires.1.0 in
+    plain_later t w c.run.ensures.grown x y c.requires.0.begun.ready ends.1.terms c.requires.1.0 in
     let all : c.len.result ≡ length y.terms.items = omega (arith, c.len.ensures, y.terms.ok.0) in
     let ids = y.terms.items in
     let ns = c.in_ok-classes-in-Saturated.classes.items in
@@ -60,12 +58,12 @@ returns-in_ok-model-in-Saturated-clause-answered g c =
     let w = c.run.new.table in
     let x = c.args.search.now in
     let y = c.run.new.self in
-    let begun = c.requires.0 in
-    let p = speaking g.asked [] in
+    let b = c.requires.0 in
+    let p = speaking g.asked b.interface in
     let a : Answer = Sat c.in_ok-model-in-Saturated.model in
     let ends = rw c.in-Saturated.is at (rw c.in-Ok-run.is at c.run.ensures.ends) in
-    let came = rw c.in-Ok-run.is at (c.run.ensures.came (whole_terms p) 0 (0, omega arith, begun.unspent)) in
-    answered_by g.asked x.budget.limit t w x y [] (All-nil (IsSharedEquality (subterms_in (asserting g.asked)))) begun.search
+    let came = rw c.in-Ok-run.is at (c.run.ensures.came (whole_terms p) 0 (0, omega arith, b.begun.unspent)) in
+    answered_by g.asked x.budget.limit t w x y b.interface b.begun.search b.apart
     (rw c.in-Ok-run.is at c.run.ensures.right) (rw c.in-Ok-run.is at c.run.ensures.limit) a
     (shows_on t w w x y y a ends.1 c.in_ok-model-in-Saturated.ensures) (made p y.budget a (exchanged_none (whole_terms p) _ y.budget.exchanges came.2))
 
@@ -75,11 +73,11 @@ returns-in-Refuted-clause-answered g c =
     let w = c.run.new.table in
     let x = c.args.search.now in
     let y = c.run.new.self in
-    let begun = c.requires.0 in
-    let p = speaking g.asked [] in
+    let b = c.requires.0 in
+    let p = speaking g.asked b.interface in
     let a : Answer = Unsat c.in-Refuted.step in
-    let came = rw c.in-Ok-run.is at (c.run.ensures.came (whole_terms p) 0 (0, omega arith, begun.unspent)) in
-    answered_by g.asked x.budget.limit t w x y [] (All-nil (IsSharedEquality (subterms_in (asserting g.asked)))) begun.search
+    let came = rw c.in-Ok-run.is at (c.run.ensures.came (whole_terms p) 0 (0, omega arith, b.begun.unspent)) in
+    answered_by g.asked x.budget.limit t w x y b.interface b.begun.search b.apart
     (rw c.in-Ok-run.is at c.run.ensures.right) (rw c.in-Ok-run.is at c.run.ensures.limit) a
     (rw c.in-Refuted.is at (rw c.in-Ok-run.is at c.run.ensures.ends)) (made p y.budget a (exchanged_none (whole_terms p) _ y.budget.exchanges came.2))
 
@@ -89,10 +87,10 @@ returns-in-Stopped-clause-answered g c =
     let w = c.run.new.table in
     let x = c.args.search.now in
     let y = c.run.new.self in
-    let begun = c.requires.0 in
-    let p = speaking g.asked [] in
+    let b = c.requires.0 in
+    let p = speaking g.asked b.interface in
     let a : Answer = Unknown c.in-Stopped.reason in
-    let came = rw c.in-Ok-run.is at (c.run.ensures.came (whole_terms p) 0 (0, omega arith, begun.unspent)) in
-    answered_by g.asked x.budget.limit t w x y [] (All-nil (IsSharedEquality (subterms_in (asserting g.asked)))) begun.search
+    let came = rw c.in-Ok-run.is at (c.run.ensures.came (whole_terms p) 0 (0, omega arith, b.begun.unspent)) in
+    answered_by g.asked x.budget.limit t w x y b.interface b.begun.search b.apart
     (rw c.in-Ok-run.is at c.run.ensures.right) (rw c.in-Ok-run.is at c.run.ensures.limit) a
     (rw c.in-Stopped.is at (rw c.in-Ok-run.is at c.run.ensures.ends)) (made p y.budget a (exchanged_none (whole_terms p) _ y.budget.exchanges came.2))

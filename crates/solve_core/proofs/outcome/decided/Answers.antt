@@ -4,7 +4,7 @@ use Rattle.std.proofs.lemmas.Result.{IfOk-weaker}
 use Rattle.std.proofs.lemmas.List.Elements.{All-nil}
 use Rattle.spec_derivations.specs.Problems.{subterms_in}
 use Rattle.spec_derivations.specs.Examples.{asserting}
-use Rattle.spec_causes.specs.Shared.{IsSharedEquality}
+use Rattle.spec_interfaces.specs.Interfaces.{IsInterfaceEquality}
 use Rattle.term_core.specs.Tables.{TableView, clause_at}
 use Rattle.term_core.proofs.TermsExtend.{Extends-self}
 use Rattle.solve_core.specs.Decisions.{HasDecision, IsOverflowedBy}
@@ -23,7 +23,7 @@ returns-in-Some-clause-decided c =
     let found = rw c.in-Some.is at c.in_ok-wide.ensures in
     IfOk-weaker c.overflowed.result (IsOverflowedBy limits c.in-Some.wide) (HasDecision t ts limits) (λ d by. record {
       interface = [];
-      equalities = All-nil (IsSharedEquality (subterms_in (asserting ts)));
+      equalities = All-nil (IsInterfaceEquality (subterms_in (asserting ts)));
       justified = overflowed_justified t (asserting ts) limits (c.empty_logs_are_right.ensures t) c.in-Some.wide d by (inl found);
     }) c.overflowed.ensures
 

@@ -20,7 +20,7 @@ use Rattle.congruence.specs.Views.{theory_of}
 use Rattle.congruence.specs.contracts.theory.CongruenceTheory.TheImpl.Laws as of_congruence
 use Rattle.simplex.specs.contracts.theory.SimplexTheory.TheImpl.Laws as of_simplex
 use Rattle.search_loop.proofs.SearchGrown.{ready_wider}
-use Rattle.solve_core.proofs.SearchSpeaking.{after, comparable, linear, order_stops, resting, grows_to, grown_table, grown_search, grown_budget, grown_terms, keeps_asked, once, goes_on, watching_stops}
+use Rattle.solve_core.proofs.SearchSpeaking.{after, comparable, linear, order_stops, resting, resting_facts, grows_to, grown_table, grown_search, grown_facts, grown_budget, grown_terms, keeps_asked, once, goes_on, watching_stops}
 use Rattle.solve_core.proofs.speaking.speak_of.Goals as goal
 
 pub equalities_of-requires : goal.equalities_of-requires
@@ -77,7 +77,8 @@ returns-in-Err-Wide-clause-stopped g c =
     let order = (rw c.in-Err-Wide.field-0-is at c.in-Err-Wide.ensures.wide) (after g.asked ids t x v pairs h (clause_at u new) are) (grows_to g.asked ids t x v pairs h u wider log same at (c.rest.ensures.continues u) c.rest.ensures.budget new are) in
     let limit = ap (λ (b : BudgetView). b.limit) c.rest.ensures.budget in
     let by = subst (λ (z : SimplexView). StopsBy (λ s. (s.wide ≡ c.in-Err-Wide.wide) × IsBasisOf z.assignment s.basis) c.stop_of.result) c.simplex.ensures c.stop_of.ensures in
-    let stopped = order_stops g.asked ids t x v pairs h (clause_at u new) are differ u at (resting g.asked ids t x v pairs h u wider log same at (c.rest.ensures.continues u) c.rest.ensures.budget new are) ready.right c.rest.ensures.budget x.budget.limit limit rested.simplex
+    let stopped = order_stops g.asked ids t x v pairs h (clause_at u new) are differ u at (resting g.asked ids t x v pairs h u wider log same at (c.rest.ensures.continues u) c.rest.ensures.budget new are)
+    (resting_facts g.asked ids t x v pairs h u wider log same at (c.rest.ensures.continues u) c.rest.ensures.budget new are) ready.right c.rest.ensures.budget x.budget.limit limit rested.simplex
     (λ us n. c.rest.ensures.keeps.came t us n x.budget.exchanges) c.in-Err-Wide.wide order c.stop_of.result by in
     subst (λ (z : TableView). IsStoppedBy g.asked x.budget.limit (state z c.grow.new.self) c.stop_of.result) (sym stays.0) (subst (λ (z : Search). IsStoppedBy g.asked x.budget.limit (state u z) c.stop_of.result) (sym stays.1) stopped)
 
@@ -132,6 +133,7 @@ returns-clause-goes_on g c shared h =
     goes_on g.asked shared t x v pairs h (clause_at u new) are r grows y came
     (grown_terms g.asked shared t x v pairs h u wider log same at back unspent new are c.grow.new.table c.grow.new.self grown_by r y related terms c.deref-2.ensures.value from count)
     (grown_search g.asked shared t x v pairs h u wider log same at back unspent new are c.grow.new.table c.grow.new.self grown_by r y related)
+    (grown_facts g.asked shared t x v pairs h u wider log same at back unspent new are c.grow.new.table c.grow.new.self grown_by r y related)
     (grown_budget g.asked shared t x v pairs h u wider log same at back unspent new are c.grow.new.table c.grow.new.self grown_by r y related)
     related.ready later
     (keeps_asked g.asked shared t x v pairs h u wider log same at back unspent new are c.grow.new.table c.grow.new.self grown_by r y related terms c.deref-2.ensures.value from count
@@ -182,6 +184,7 @@ returns-in_err-watch_all-clause-stopped g c =
     (watching_stops g.asked ids t x v pairs h (clause_at u new) are r grows y came
     (grown_terms g.asked ids t x v pairs h u wider log same at back unspent new are c.grow.new.table c.grow.new.self grown_by r y related terms c.deref-2.ensures.value from count)
     (grown_search g.asked ids t x v pairs h u wider log same at back unspent new are c.grow.new.table c.grow.new.self grown_by r y related)
+    (grown_facts g.asked ids t x v pairs h u wider log same at back unspent new are c.grow.new.table c.grow.new.self grown_by r y related)
     budget related.ready c.ids_are_unique-2.ensures later.simplex x.budget.limit (ap (λ (b : BudgetView). b.limit) budget) watched
     (c.rest.ensures.asked.terms ∙ ap (λ (ns : Vec TermId Global). ns.items) back.terms) (stops.0 + 1) (λ n. λ (e : Unit {0}). CameBy r us (n + counted_among r came) x.budget.exchanges later.simplex) stop
     (λ n among by. c.in_err-watch_all.ensures.came us n x.budget.exchanges among ((of_simplex.lawful-law rested.simplex).came_grown t r grows goes.1 us n x.budget.exchanges (c.rest.ensures.keeps.came t us n x.budget.exchanges by)))
