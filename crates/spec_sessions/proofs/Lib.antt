@@ -5,3 +5,4 @@ pub mod Checks
 pub mod Running
 pub mod Computed
 pub mod Refuted
+pub mod Apart

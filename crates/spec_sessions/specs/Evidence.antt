@@ -1,5 +1,5 @@
 -- What shows that the answer of a check is right. Source: SMT-LIB 2.6, section 4.2.5; what counts as shown is own.
-use Rattle.std.specs.Prelude.{◌≡◌, ◌≤◌, ℕ, true, List, [], length, All}
+use Rattle.std.specs.Prelude.{◌≡◌, ◌≤◌, ℕ, true, List, [], length, All, Contains}
 use Rattle.spec_numbers.specs.Bounds.{Overflow, fits}
 use Rattle.spec_simplex.specs.Overflows.{IsOverflow}
 use Rattle.spec_sorts.specs.Values.{Interpretation, Interprets}
@@ -10,9 +10,9 @@ use Rattle.spec_commands.specs.Stack.{signature_of}
 use Rattle.spec_commands.specs.Checks.{Check, asked, IsTrueAssertion}
 use Rattle.spec_derivations.specs.Problems.{Problem, subterms_in, problem_of}
 use Rattle.spec_derivations.specs.Derivations.{Derivation}
-use Rattle.spec_derivations.specs.Spent.{AreLearned, IsConflictBudgetSpent, CanLearnMore}
+use Rattle.spec_derivations.specs.Spent.{IsAtomOf, AreLearned, IsConflictBudgetSpent, CanLearnMore}
 use Rattle.spec_causes.specs.Checks.{IsOverflowed}
-use Rattle.spec_causes.specs.Shared.{IsSharedEquality}
+use Rattle.spec_interfaces.specs.Interfaces.{IsElementEquality, IsInterfaceEquality, StandsApart}
 use Rattle.spec_sessions.specs.Refutations.{IsProofOf}
 
 -- What a search of a check may spend, and how much a script may name.
@@ -56,12 +56,12 @@ pub record IsModelOf (c : Check) (i : Interpretation) : Type 0 where
   -- each expression is true, as it is written
   pub each : All (IsTrueAssertion i (signature_of c.stack)) (asked c)
 
--- The terms of a check, with interface equalities of terms that functions and arithmetic share.
+-- The terms of a check, with interface equalities.
 pub record IsProblemOf (c : Check) (p : Problem) : Type 0 where
   -- the equalities
   pub interface : List Term
-  -- each is of two terms that are shared in the check
-  pub equalities : All (IsSharedEquality (subterms_in (problem_of c []))) interface
+  -- each is of two numbers that are shared in the check, or of two elements in it
+  pub equalities : All (IsInterfaceEquality (subterms_in (problem_of c []))) interface
   pub is : p ≡ problem_of c interface
 
 -- The budget is spent at a conflict more.
@@ -70,6 +70,9 @@ pub record IsSpentOn (p : Problem) (limit carried : ℕ) (d : Derivation) (learn
   pub spent : IsConflictBudgetSpent p d limit carried learned
   -- and one more would be
   pub conflict : CanLearnMore p d learned
+  -- all of them stand apart from equalities of elements that are beside the check's terms
+  pub apart : All (StandsApart p) learned
+  pub conflict_apart : StandsApart p conflict.clause
 
 -- What a search of a problem keeps is within its limits, and the clauses may be learned.
 pub record IsKeptOf (limits : Limits) (p : Problem) (k : Kept) : Type 0 where
@@ -77,6 +80,8 @@ pub record IsKeptOf (limits : Limits) (p : Problem) (k : Kept) : Type 0 where
   pub learned : length k.learned ≤ limits.conflicts
   -- and each of them is derived, over the problem's atoms, and was new
   pub learns : AreLearned p k.derivation k.learned
+  -- and it stands apart from equalities of elements that are beside the check's terms
+  pub apart : All (StandsApart p) k.learned
 
 -- both operands are within the bound on fractions
 abbrev pub HasBoundedOperands : Overflow → Type 0
@@ -85,8 +90,8 @@ HasBoundedOperands o = (fits o.left ≡ true) × (fits o.right ≡ true)
 -- what was found shows this of a check: a model makes true what it asks about; a proof that no interpretation does; the
 -- budget of conflicts is spent on it; or an operation on fractions within the bound leaves it where the exchanges lead,
 -- or all but the last, or before there are any. The runs are few then, and the clauses that were learned may be
--- learned. Where it was given up, the search may have spoken of interface equalities, of terms that functions and
--- arithmetic share.
+-- learned. Where it was given up, the search may have spoken of interface equalities; of those of elements no learned
+-- clause speaks.
 abbrev pub Justifies : Limits → Check → Found → Type 0
 Justifies limits c (model i) = IsModelOf c i
 Justifies limits c (proof text) = IsProofOf c text
@@ -94,3 +99,8 @@ Justifies limits c (spent n d learned) = (p : Problem) × IsProblemOf c p × IsS
 Justifies limits c (overflowed o k) =
     IsOverflow o × HasBoundedOperands o
     × ((p : Problem) × IsProblemOf c p × IsKeptOf limits p k × IsOverflowed p (length k.learned) k.exchanges o)
+
+-- each literal of the clause that is over an equality of elements is over an atom of the check's own terms
+abbrev pub SpeaksOf : Check → List Literal → Type 0
+SpeaksOf c clause = (l : Literal) → Contains clause l → IsElementEquality (subterms_in (problem_of c [])) l.atom
+    → IsAtomOf (problem_of c []) l.atom

@@ -1,13 +1,16 @@
 //! What the definitions imply. Each law is a function whose contract is the law; it computes nothing.
 
-ghost use Rattle.std.specs.Prelude.{◌≡◌, ℕ, Bool, List, Some, Err};
+ghost use Rattle.std.specs.Prelude.{◌≡◌, ℕ, Bool, List, Some, Err, All};
+ghost use Rattle.spec_numbers.specs.Bounds.{Overflow};
 ghost use Rattle.spec_text.specs.Faults.{Located};
 ghost use Rattle.spec_text.specs.Answers.{Answer};
 ghost use Rattle.spec_text.specs.Offsets.{HasOffset};
 ghost use Rattle.spec_text.specs.Readings.{prefix};
 ghost use Rattle.spec_text.specs.Trees.{Tree, offset_of};
+ghost use Rattle.spec_sorts.specs.Literals.{Literal};
 ghost use Rattle.spec_commands.specs.Checks.{Check, IsCurrent};
-ghost use Rattle.spec_sessions.specs.Evidence.{Limits, Found, Checked, Justifies};
+ghost use Rattle.spec_derivations.specs.Derivations.{Derivation};
+ghost use Rattle.spec_sessions.specs.Evidence.{Limits, Kept, Found, spent, overflowed, Checked, Justifies, SpeaksOf};
 ghost use Rattle.spec_sessions.specs.States.{State};
 ghost use Rattle.spec_sessions.specs.Questions.{Question, question_of};
 ghost use Rattle.spec_sessions.specs.Responses.{Mode, answer_to};
@@ -48,6 +51,15 @@ pub fn what_is_shown_is_so()
     spec_proof_texts::laws::printed_proofs_are_good();
     spec_proof_texts::laws::printed_proofs_are_accepted();
 }
+
+/// States of which equalities of elements learned clauses speak, where a check was given up: of atoms of its own terms
+/// alone. The search may have spoken of others.
+pub fn learned_clauses_speak_of_the_check()
+    ensures spent { (limits : Limits) (c : Check) (n : ℕ) (d : Derivation) (learned : List (List Literal))
+        → Justifies limits c (spent n d learned) → All (SpeaksOf c) learned }
+    ensures overflowed { (limits : Limits) (c : Check) (o : Overflow) (k : Kept)
+        → Justifies limits c (overflowed o k) → All (SpeaksOf c) k.learned }
+{}
 
 /// States that the fault of what is asked is at the offset of one of its atoms or lists.
 pub fn faults_are_in_their_question()
