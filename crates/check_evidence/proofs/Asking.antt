@@ -1,8 +1,8 @@
 -- That what a check asks about may be asked.
-use Rattle.std.proofs.Common.{◌≡◌, ℕ, List, [], ◌++◌, All, Contains, sym, ◌∙◌, subst, arith}
+use Rattle.std.proofs.Common.{◌≡◌, ℕ, List, [], ◌++◌, All, Contains, inl, inr, sym, ◌∙◌, subst, arith}
 use Rattle.std.proofs.lemmas.List.{append-nil, length-map, get_or-map, map-append}
 use Rattle.std.proofs.lemmas.List.Elements.{All-append, All-map, All-weaker, recursion_from_All}
-use Rattle.spec_sorts.specs.Terms.{Term}
+use Rattle.spec_sorts.specs.Terms.{Equal, Term, pair}
 use Rattle.spec_sorts.specs.Values.{Interpretation}
 use Rattle.spec_sorts.specs.TermValues.{value_at}
 use Rattle.spec_sorts.specs.Signatures.{symbols_in}
@@ -23,7 +23,7 @@ use Rattle.spec_proof_texts.proofs.Search.{argument_readable}
 use Rattle.spec_derivations.specs.Problems.{known_terms, subterms_in}
 use Rattle.spec_derivations.specs.Examples.{asserting, speaking}
 use Rattle.spec_derivations.proofs.Below.{subterms_have}
-use Rattle.spec_causes.specs.Shared.{IsSharedEquality}
+use Rattle.spec_interfaces.specs.Interfaces.{IsInterfaceEquality}
 use Rattle.spec_sessions.specs.Meaning.{IsKeptCheck}
 use Rattle.term_core.specs.declared.ids.TermId.{TermId}
 use Rattle.term_core.specs.Tables.{TableView, IsIn, term_at, clause_at}
@@ -100,16 +100,22 @@ module _ (limit : ℕ) (t : TableView) (x : CodeStack) (assumed : List TermId) (
 subterm_readable : (ts : List Term) → All IsReadableWhole ts → (u : Term) → Contains (subterms_in (asserting ts)) u → IsReadableWhole u
 subterm_readable ts each = subterms_have IsReadableWhole argument_readable (ts ++ []) (subst (All IsReadableWhole) (sym (append-nil ts)) each)
 
--- and so can equalities of those that are shared
-equality_readable : (ts : List Term) → All IsReadableWhole ts → (u : Term) → IsSharedEquality (subterms_in (asserting ts)) u → IsReadableWhole u
+-- an equality can be read where its sides can
+pair_readable : (s t : Term) → IsReadableWhole s → IsReadableWhole t → IsReadableWhole (pair Equal s t)
 unfolding IsLinear HasDecimals
-equality_readable ts each u h =
+pair_readable s t a b = ((tt, (a.0, (b.0, tt))), (tt, (a.1, (b.1, tt))))
+
+-- so can those of which a search speaks: their sides are subterms
+equality_readable : (ts : List Term) → All IsReadableWhole ts → (u : Term) → IsInterfaceEquality (subterms_in (asserting ts)) u → IsReadableWhole u
+equality_readable ts each u (inl h) =
     let left = subterm_readable ts each h.left (shared_subterm (asserting ts) h.left h.left_shared) in
     let right = subterm_readable ts each h.right (shared_subterm (asserting ts) h.right h.right_shared) in
-    subst IsReadableWhole (sym h.is) ((tt, (left.0, (right.0, tt))), (tt, (left.1, (right.1, tt))))
+    subst IsReadableWhole (sym h.is) (pair_readable h.left h.right left right)
+equality_readable ts each u (inr h) =
+    subst IsReadableWhole (sym h.is) (pair_readable h.left h.right (subterm_readable ts each h.left h.left_in) (subterm_readable ts each h.right h.right_in))
 
 -- so all that the search knows of can be read
-pub known_readable : (ts interface : List Term) → All IsReadableWhole ts → All (IsSharedEquality (subterms_in (asserting ts))) interface → All IsReadableWhole (known_terms (speaking ts interface))
+pub known_readable : (ts interface : List Term) → All IsReadableWhole ts → All (IsInterfaceEquality (subterms_in (asserting ts))) interface → All IsReadableWhole (known_terms (speaking ts interface))
 known_readable ts interface each equalities =
-    All-append IsReadableWhole interface (ts ++ []) (All-weaker (IsSharedEquality (subterms_in (asserting ts))) IsReadableWhole (equality_readable ts each) interface equalities)
+    All-append IsReadableWhole interface (ts ++ []) (All-weaker (IsInterfaceEquality (subterms_in (asserting ts))) IsReadableWhole (equality_readable ts each) interface equalities)
     (subst (All IsReadableWhole) (sym (append-nil ts)) each)

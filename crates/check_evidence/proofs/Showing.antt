@@ -9,7 +9,7 @@ use Rattle.spec_sorts.specs.Meaning.{value_under}
 use Rattle.spec_sorts.specs.Subterms.{subterms_of}
 use Rattle.spec_commands.specs.Stack.{Assertion, signature_of, terms_asserted}
 use Rattle.spec_commands.specs.Checks.{Check, asked, IsTrueAssertion}
-use Rattle.spec_causes.specs.Shared.{IsSharedEquality}
+use Rattle.spec_interfaces.specs.Interfaces.{IsInterfaceEquality}
 use Rattle.spec_sessions.specs.Evidence.{Limits, Kept, model, spent, overflowed, IsProblemOf, IsKeptOf, Justifies}
 use Rattle.term_core.specs.Tables.{TableView, literal_at}
 use Rattle.term_walks.specs.declared.values.Interp.{Interp}
@@ -74,13 +74,18 @@ module _ (limits : Limits) (t : TableView) (c : Check) (symbols : symbols_in (si
     same = same_terms c d.interface
 
     problem_is : IsProblemOf c problem
-    problem_is = record { interface = d.interface; equalities = subst (λ ts. All (IsSharedEquality (subterms_of ts)) d.interface) (same_terms c []) d.equalities; is = refl }
+    problem_is = record { interface = d.interface; equalities = subst (λ ts. All (IsInterfaceEquality (subterms_of ts)) d.interface) (same_terms c []) d.equalities; is = refl }
 
     conflicts_shown : (n : ℕ) → o.answer ≡ Unknown (reasons.Conflicts n) → HasEvidence t decided o.log o.budget (Unknown (reasons.Conflicts n)) → IsShown limits t c (found.Reason (reasons.Conflicts n)) o
     conflicts_shown n is h =
         let e = derivation_in t o.log in
         let learned = map (map (literal_at t)) o.budget.learned in
-        let on = spent_too decided problem same refl (asserts_no_more c d.interface) o.budget.limit n e learned (record { spent = h.0; conflict = h.1 }) in (
+        let on = spent_too decided problem same refl (asserts_no_more c d.interface) o.budget.limit n e learned (record {
+          spent = h.0;
+          conflict = h.1.0;
+          apart = d.justified.learning.apart;
+          conflict_apart = h.1.1;
+        }) in (
           spent n e learned,
           subst (λ m. Justifies (record { conflicts = m; terms = limits.terms }) c (spent n e learned)) d.justified.limit_is (problem, problem_is, on),
           (e, refl),
@@ -91,6 +96,7 @@ module _ (limits : Limits) (t : TableView) (c : Check) (symbols : symbols_in (si
     kept_within = kept_too decided problem same refl (asserts_no_more c d.interface) limits kept (record {
       learned = omega (arith, many, d.justified.learned_within, d.justified.limit_is);
       learns = d.justified.learning.learns;
+      apart = d.justified.learning.apart;
     })
 
     pub reason_shown : AreOverflows → ((a : Ratio) → fits (fraction a) ≡ true) → (r : Reason) → o.answer ≡ Unknown r → HasEvidence t decided o.log o.budget (Unknown r) → IsShown limits t c (found.Reason r) o
