@@ -12,7 +12,9 @@ parity-backwards   the same, with one of the chains backwards
 parity-shuffled    the same, with one of the chains in an order by chance
 adder              a + b by a chain of full adders is b + a in blocks with selected carries, for 6, 8 and 10 bits
 multiplier         a * b is b * a row by row, all bits of the product, for 4, 5 and 6 bits
-diamonds           N diamonds of equalities in a row whose ends are denied to be equal, for N to 40
+diamonds           N diamonds of equalities in a row whose ends are denied to be equal, for N to 100
+diamonds-open      the same where a way of the one in the middle leads back, so there is a model
+colourings         three colours of graphs by chance, of 20 to 50 vertices, near the threshold
 equalities         a path of N equalities whose ends are denied to be equal: N is 1,000, 10,000 and 100,000
 applications       f N times of a and of b, where a is b, are denied to be equal
 cycles             f N times of a is a, and f N + 1 times, and f of a is denied to be a

@@ -16,6 +16,7 @@ Each run gets the same number of seconds of a processor, --limit, in the program
 the machine counts little. --quick takes few formulas of each, and 5 seconds for a run where --limit is left out. The
 formulas are in bench/race/search/number_families.py:
 
+plans       a plan of 6 to 12 steps: a lorry drives to each place of a circle and back, with fuel for the way
 shops       job shops of difference logic, 3 to 8 jobs on three machines: that all is done before the machine with most
             to do or the longest job can be (load), at the end of a short schedule (fits), and one before that (less)
 systems     clauses of bounds on 20 to 100 sums over as many constants, by four seeds: about half are `sat`

@@ -23,8 +23,9 @@ ADDERS = (6, 8, 10)
 MULTIPLIERS = (4, 5, 6)
 # Bits of a block whose sums are chosen by the carry into it.
 BLOCK = 3
-DIAMONDS = (5, 10, 20, 30, 40)
+DIAMONDS = (5, 10, 20, 40, 60, 80, 100)
 ORDERS = (4, 5, 6)
+VERTICES = (20, 30, 40, 50)
 
 
 class Formula(NamedTuple):
@@ -152,9 +153,9 @@ def of_clauses(name, formula, answer):
     return Formula(name, lambda: clause_lines(*formula), answer, formula)
 
 
-def of_sizes(name, lines, sizes):
-    """Returns a formula for each size, which cannot be satisfied."""
-    return [Formula(f"{name}-{n}", lambda n=n: lines(n)) for n in sizes]
+def of_sizes(name, lines, sizes, answer="unsat"):
+    """Returns a formula for each size, with its answer."""
+    return [Formula(f"{name}-{n}", lambda n=n: lines(n), answer) for n in sizes]
 
 
 def of_unknown(name, lines, sizes):
@@ -181,6 +182,8 @@ FAMILIES = {
     "adder": lambda: of_sizes("adder", adder, ADDERS),
     "multiplier": lambda: of_sizes("multiplier", multiplier, MULTIPLIERS),
     "diamonds": lambda: of_sizes("diamonds", function_families.diamonds, DIAMONDS),
+    "diamonds-open": lambda: of_sizes("diamonds-open", function_families.open_diamonds, DIAMONDS, "sat"),
+    "colourings": lambda: of_unknown("colourings", function_families.colouring, VERTICES),
     "equalities": lambda: of_sizes("equalities", function_families.equalities, CHAINS),
     "applications": lambda: of_sizes("applications", function_families.applications, CHAINS),
     "cycles": lambda: of_sizes("cycles", function_families.cycles, CHAINS),

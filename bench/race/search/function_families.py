@@ -26,14 +26,38 @@ def equal(left, right):
     return f"(= {left} {right})"
 
 
-def diamonds(n):
-    """Denies that the ends of n diamonds are equal, of which each has two ways from its first corner to its last one."""
+def diamonds(n, open_at=None):
+    """Denies that the ends of n diamonds are equal, of which each has two ways from its first corner to its last one.
+
+    In the diamond open_at one way leads back to the first corner, so there is a model.
+    """
     yield SORT
     yield from (declare(f"{corner}{i}") for corner in "xyz" for i in range(n + 1))
     for i in range(n):
-        ways = [f"(and {equal(f'x{i}', f'{way}{i}')} {equal(f'{way}{i}', f'x{i + 1}')})" for way in "yz"]
+        ends = {"y": i + 1, "z": i if i == open_at else i + 1}
+        ways = [f"(and {equal(f'x{i}', f'{way}{i}')} {equal(f'{way}{i}', f'x{end}')})" for way, end in ends.items()]
         yield claim(f"(or {' '.join(ways)})")
     yield claim(f"(not {equal('x0', f'x{n}')})")
+
+
+def open_diamonds(n):
+    """Denies that the ends of n diamonds are equal, of which the one in the middle is open."""
+    return diamonds(n, n // 2)
+
+
+def colouring(n):
+    """Gives n vertices one of three colours each, and neighbours different ones, at 2.3 edges by chance for each vertex."""
+    source = numbers(n)
+    colours, vertices = [f"c{i}" for i in range(3)], [f"v{i}" for i in range(n)]
+    yield SORT + "".join(map(declare, colours + vertices))
+    yield from (claim(f"(not {equal(a, b)})") for a, b in combinations(colours, 2))
+    yield from (claim(f"(or {' '.join(equal(v, c) for c in colours)})") for v in vertices)
+    edges = set()
+    while len(edges) < 23 * n // 10:
+        a, b = sorted(next(source) % n for _ in range(2))
+        if a != b:
+            edges.add((a, b))
+    yield from (claim(f"(not {equal(vertices[a], vertices[b])})") for a, b in sorted(edges))
 
 
 def equalities(n):

@@ -22,6 +22,11 @@ DENSITY = 2.0
 STEPS = (5, 10, 15, 20, 30)
 CLOCK_STEPS = (9, 18, 36, 72)
 SUM_STEPS = (4, 6, 7, 8)
+PLAN_STEPS = (6, 8, 9, 12)
+# How far each place is from the next, round a circle; a tank holds TANK, and is filled at the first place. So it takes two
+# trips, of four steps each, and a step to fill it between them.
+WAYS = (3, 4, 2, 5, 3)
+TANK = 16
 # The greatest value of a saturating counter, and how many ticks a clock has.
 FULL = 4
 TICKS = 8
@@ -185,7 +190,40 @@ def systems():
     return [of(f"systems-{n}-{seed}", lambda n=n, seed=seed: system(n, seed), None) for n, seed in pairs]
 
 
+def plan(n):
+    """Asks for a plan of n steps: a lorry drives to each place of a circle and back, with fuel for the way, filled at home."""
+    places = range(len(WAYS))
+    at = [[f"at{step}_{place}" for place in places] for step in range(n + 1)]
+    been = [[f"been{step}_{place}" for place in places] for step in range(n + 1)]
+    fuel, fills = [f"fuel{step}" for step in range(n + 1)], [f"fills{step}" for step in range(n)]
+    yield from declare((name for rows in (at, been) for row in rows for name in row), "Bool")
+    yield from declare(fills, "Bool") + declare(fuel)
+    for step in range(n + 1):
+        yield claim(f"(or {' '.join(at[step])})")
+        yield from (claim(f"(not (and {a} {b}))") for a, b in combinations(at[step], 2))
+        yield claim(f"(>= {fuel[step]} 0)")
+    yield claim(at[0][0]) + claim(f"(= {fuel[0]} {TANK})")
+    for place in places:
+        yield claim(f"(= {been[0][place]} {at[0][place]})")
+        for step in range(n):
+            yield claim(f"(= {been[step + 1][place]} (or {been[step][place]} {at[step + 1][place]}))")
+            yield claim(moves(at, fuel, fills, step, place))
+    yield from map(claim, [*been[n], at[n][0]])
+
+
+def moves(at, fuel, fills, step, place):
+    """What a step from a place does: it fills the tank at the first one, or drives to a neighbour."""
+    before, after = (place - 1) % len(WAYS), (place + 1) % len(WAYS)
+    ways = [(after, WAYS[place]), (before, WAYS[before])]
+    later = fuel[step + 1]
+    done = [f"(and {at[step + 1][end]} (not {fills[step]}) (= {later} (- {fuel[step]} {way})))" for end, way in ways]
+    if place == 0:
+        done.append(f"(and {at[step + 1][0]} {fills[step]} (= {later} {TANK}))")
+    return f"(=> {at[step][place]} (or {' '.join(done)}))"
+
+
 FAMILIES = {
+    "plans": lambda: [of(f"plans-{n}", lambda n=n: plan(n), "unsat" if n < 9 else "sat") for n in PLAN_STEPS],
     "shops": shops,
     "systems": systems,
     "saturating": lambda: both("saturating", saturating, STEPS),
@@ -193,4 +231,4 @@ FAMILIES = {
     "sums": lambda: [of(f"sums-{n}", lambda n=n: sums(n), "unsat") for n in SUM_STEPS],
 }
 # The first formulas of each family, for a short race.
-QUICK = {"shops": 6, "systems": 4, "saturating": 4, "clocks": 2, "sums": 2}
+QUICK = {"plans": 2, "shops": 6, "systems": 4, "saturating": 4, "clocks": 2, "sums": 2}
