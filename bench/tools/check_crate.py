@@ -2,6 +2,7 @@
 """Checks single crates of this checkout, over libraries that a gate has built in another clone.
 
 usage: bench/tools/check_crate.py GATE check CRATE [ARGUMENT ..]   (`rattle check`; what passed is kept, in .checked of the checkout)
+       bench/tools/check_crate.py GATE source CRATE [ARGUMENT ..]  (the same, where crates below are read as source if not built)
        bench/tools/check_crate.py GATE time CRATE [ARGUMENT ..]    (the same with nothing kept; prints the seconds of each function)
        bench/tools/check_crate.py GATE build CRATE ..              (proves these and all below them that differ, two at a time)
        bench/tools/check_crate.py GATE list CRATE ..               (lists those)
@@ -10,6 +11,9 @@ GATE is the top of a clone in which `rt ci` runs or ran. A crate whose files, an
 same there is taken from there. Each other one has to be built first, lowest first: its library comes into out/rlib of
 its folder, and what `rattle` wrote into out/check_crate.log. Arguments of a check are those of `rattle check`, as
 `--only MODULE`, `--allow-holes`, `--start FUNCTION`, `--test`.
+
+`source` is for work on a crate while those below it are being proved. What these state is trusted, and what of them matches
+`--only` is checked, too. It reads them anew each time, which takes a minute or more.
 
 `rt check` and `rt ci` keep apart what they proved, and each proves all crates below first. This proves what differs
 alone, so it is for work on a high crate beside a gate. It is no gate: what it proved is proved there once more.
@@ -110,6 +114,24 @@ def words_of(gate, crate):
     return [*words, "--antt-project", f"{KIT}/rattle/logic/antt-project.json", "--logic-built", f"{KIT}/logic_built"]
 
 
+def words_over_source(gate, crate):
+    """Gives these arguments where each crate below that is not built is read as source."""
+    lower = [name for name in USES if name in below(crate) - {crate}]
+    words = words_of(gate, crate)
+    for name in {used for one in lower for used in USES[one]} - OWN - set(USES[crate]):
+        words += ["--extern", f"{name}={KIT}/rlibs/{name}.rlib"]
+    for name in lower:
+        given = f"{name}={place_of(gate, name)}"
+        if given in words:
+            at = words.index(given)
+            del words[at - 1 : at + 1]
+        if is_built(gate, name):
+            words += ["--extern", given]
+        else:
+            words += ["--lib", f"{name}:{','.join(['std', *USES[name]])}={TOP}/crates/{name}/src/lib.rt"]
+    return words
+
+
 def build(gate, crate):
     """Proves a crate, and writes its library; says whether it did."""
     folder, place = os.path.join(TOP, "crates", crate), library(TOP, crate)
@@ -171,17 +193,18 @@ def time_functions(words, folder):
 
 
 def main():
-    if len(sys.argv) < 4 or sys.argv[2] not in ("check", "time", "build", "list"):
+    if len(sys.argv) < 4 or sys.argv[2] not in ("check", "source", "time", "build", "list"):
         sys.exit(__doc__)
     gate, mode, crates = os.path.abspath(sys.argv[1]), sys.argv[2], sys.argv[3:]
     if mode == "time":
         words = [f"{KIT}/bin/rattle", "check", *words_of(gate, crates[0]), *crates[1:]]
         sys.exit(time_functions(words, os.path.join(TOP, "crates", crates[0])))
-    if mode == "check":
+    if mode in ("check", "source"):
         crate, folder = crates[0], os.path.join(TOP, "crates", crates[0])
-        kept = os.path.join(TOP, ".checked", crate)
+        kept = os.path.join(TOP, ".checked", f"{crate}-{mode}" if mode == "source" else crate)
         os.makedirs(kept, exist_ok=True)
-        words = [f"{KIT}/bin/rattle", "check", *words_of(gate, crate), "--incremental", kept, *crates[1:]]
+        given = words_over_source(gate, crate) if mode == "source" else words_of(gate, crate)
+        words = [f"{KIT}/bin/rattle", "check", *given, "--incremental", kept, *crates[1:]]
         sys.exit(subprocess.run(words, cwd=folder).returncode)
     wanted = set().union(*(below(crate) for crate in crates))
     todo = [crate for crate in USES if crate in wanted and not is_built(gate, crate)]
