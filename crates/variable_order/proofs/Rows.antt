@@ -1,19 +1,21 @@
--- Rows of variables and their places: one more, one less, and two that change places.
-use Rattle.std.proofs.Common.{◌≡◌, ◌≢◌, ℕ, ◌+◌, ◌<◌, ◌≤◌, ◌==◌, true, false, List, [], ◌∷◌, ◌++◌, length, get_or, set, map, Contains, Option, Some, None, inl, inr, refl, sym, ap, ◌∙◌, subst, arith, true≢false}
+-- Rows of variables and their places: one more, one less, fewer variables, and two that change places.
+use Rattle.std.proofs.Common.{◌≡◌, ◌≢◌, ℕ, ◌+◌, ◌-◌, ◌<◌, ◌≤◌, ◌==◌, true, false, List, [], ◌∷◌, ◌++◌, length, get_or, set, map, take, Contains, Option, Some, None, inl, inr, refl, sym, ap, ◌∙◌, subst, arith, true≢false}
 use Rattle.std.specs.List.{AllPairs, list_any}
 use Rattle.std.specs.Option.{is_some}
-use Rattle.std.specs.Prelude.{MatchOption}
+use Rattle.std.specs.Prelude.{MatchOption, IfSome}
 use Rattle.std.proofs.Math.ListN as total
+use Rattle.std.proofs.Math.Nat.{min-le_left, min-le_right}
 use Rattle.std.proofs.Math.Seq.{map-set_same}
 use Rattle.std.proofs.lemmas.Bool.{cases_eq, cases_lt}
 use Rattle.std.proofs.lemmas.Bool.Decides.{Decides-eqb}
-use Rattle.std.proofs.lemmas.List.{length_push, length-set, length-map, get_or-set_same, get_or-set_other, get_or-map, get_or_append_left, get_or_past, get_or_push}
+use Rattle.std.proofs.lemmas.List.{length_push, length-set, length-map, get_or-set_same, get_or-set_other, get_or-map, get_or_append_left, get_or_past, get_or_push, get_or-take, length-take}
 use Rattle.std.proofs.lemmas.Map.Steps.{length-le_from_distinct_below}
 use Rattle.std.proofs.lemmas.Map.Made.{IsDistinct-from_AllPairs, is_member-Decides}
 use Rattle.std.proofs.lemmas.Option.{none-some, same_Some}
 use Rattle.term_core.specs.declared.ids.TermId.{TermId}
-use Rattle.variable_order.specs.Orders.{IsEmpty}
-use Rattle.variable_order.specs.Rows.{no_variable, IsAt}
+use Rattle.term_core.proofs.Numbers.{same_id}
+use Rattle.variable_order.specs.Orders.{IsIn, IsEmpty, IsRemoved}
+use Rattle.variable_order.specs.Rows.{RowView, no_variable, IsAt}
 use Rattle.variable_order.specs.Kept.{order_view, ArePlaces}
 use Rattle.variable_order.specs.declared.places.Places.TheInside.{Inside}
 
@@ -36,7 +38,7 @@ not_member places v e = go (get_or places v None) (sym (member_of places v) ∙ 
 -- what the place of a variable tells
 pub place_by : (p : Inside) (v : TermId) → ArePlaces p.row.items p.places.items → (o : Option ℕ) → get_or p.places.items v.0 None ≡ o → MatchOption o (get_or (map is_some p.places.items) v.0 false ≡ false) (IsAt (order_view p) v)
 place_by p v h None e = member_of p.places.items v.0 ∙ ap is_some e
-place_by p v h (Some k) e = record { is_in = member_of p.places.items v.0 ∙ ap is_some e; within = (h.only v.0 k e).0 }
+place_by p v h (Some k) e = record { is_in = member_of p.places.items v.0 ∙ ap is_some e; within = (h.only v.0 k e).0; is = same_id _ v (h.only v.0 k e).1 }
 
 -- where the row has no variable, none is in it
 pub none_in : (row : List TermId) (places : List (Option ℕ)) → ArePlaces row places → row ≡ [] → IsEmpty (map is_some places)
@@ -184,6 +186,40 @@ module _ (front : List TermId) (v : TermId) (places : List (Option ℕ)) (h : Ar
             (lt, sym (early k lt) ∙ o.1)
       ]
 
+-- the last variable is out, and it was one of the row's
+pub last_taken : (r s : RowView) (v : TermId) (o : Option TermId) → IsIn r.members v → get_or r.row (length r.row - 1) no_variable ≡ v
+    → MatchOption o (IsEmpty r.members × (s ≡ r)) (λ w. IsRemoved r.members w s.members) → IfSome o (λ w. r.row ≡ s.row ++ w ∷ [])
+    → (s.members ≡ set r.members v.0 false) × (length r.row ≡ length s.row + 1)
+last_taken r s v None i is none row = absurd (none.0 v i)
+last_taken r s v (Some w) i is removed row = (removed.members ∙ ap (λ (x : TermId). set r.members x.0 false) same, more)
+  where
+    more : length r.row ≡ length s.row + 1
+    more = ap length row ∙ length_push s.row w
+
+    same : w ≡ v
+    same = sym (get_or_push s.row w no_variable (length r.row - 1) (omega (arith, more))) ∙ sym (ap (λ xs. get_or xs (length r.row - 1) no_variable) row) ∙ is
+
+-- variables of no row go
+module _ (row : List TermId) (places : List (Option ℕ)) (h : ArePlaces row places) (vars : ℕ) (out : (k : ℕ) → vars ≤ k → get_or (map is_some places) k false ≡ false) where
+  -- those of the row stay
+  stays : (u k : ℕ) → get_or places u None ≡ Some k → u < vars
+  stays u k e = elim (cases_lt u vars) [
+    | inl lt ↦ lt
+    | inr le ↦ absurd (none-some k (sym (not_member places u (out u le)) ∙ e))
+  ]
+
+  pub placed_cut : ArePlaces row (take vars places)
+  placed_cut = record {
+    there = λ k lt. get_or-take vars places (at row k) None (stays (at row k) k (h.there k lt)) ∙ h.there k lt;
+    only = λ u k e. elim (cases_lt u vars) [
+      | inl lt ↦ h.only u k (sym (get_or-take vars places u None lt) ∙ e)
+      | inr le ↦ absurd (none-some k (sym (get_or_past (take vars places) u None (omega (arith, le, length-take vars places, min-le_left vars (length places)))) ∙ e))
+    ];
+  }
+
+  pub room_cut : length (take vars places) ≤ length places
+  room_cut = omega (arith, length-take vars places, min-le_right vars (length places))
+
 -- two variables change places
 module _ (row : List TermId) (places : List (Option ℕ)) (h : ArePlaces row places) (i j : ℕ) (il : i < length row) (jl : j < length row) (a b : TermId) (a_is : a ≡ get_or row i no_variable) (b_is : b ≡ get_or row j no_variable) where
   abbrev swapped : List TermId
@@ -264,6 +300,10 @@ module _ (row : List TermId) (places : List (Option ℕ)) (h : ArePlaces row pla
               (omega (arith, o.0, count), row_other k ni nj ∙ o.1)
         ]
       ]
+
+  -- the second place has the variable of the first
+  pub moved_there : get_or swapped j no_variable ≡ get_or row i no_variable
+  moved_there = get_or-set_same (set row i b) j a no_variable inner_j ∙ a_is
 
   -- the same variables are in the row
   pub members_swapped : map is_some moved ≡ map is_some places

@@ -1,5 +1,5 @@
 -- Rows of variables, each of which knows its place.
-use Rattle.std.specs.Prelude.{◌<◌, ℕ, List, [], Bool, length}
+use Rattle.std.specs.Prelude.{◌≡◌, ◌<◌, ℕ, List, [], Bool, length, get_or}
 use Rattle.term_core.specs.declared.ids.TermId.{TermId}
 use Rattle.variable_order.specs.Orders.{IsIn}
 
@@ -24,3 +24,5 @@ pub record IsAt (r : RowView) (v : TermId) (place : ℕ) : Type 0 where
   pub is_in : IsIn r.members v
   -- the place is one of the row's
   pub within : place < length r.row
+  -- and is the variable's
+  pub is : get_or r.row place no_variable ≡ v

@@ -1,6 +1,6 @@
 //! The order of variables by activity.
 
-ghost use Rattle.std.specs.Prelude.{◌≡◌, ◌<◌, ◌++◌, ◌∷◌, [], true, false, length, get_or, set, OnOk, OnErr, MatchOption};
+ghost use Rattle.std.specs.Prelude.{◌≡◌, ◌<◌, ◌++◌, ◌∷◌, [], true, false, length, get_or, set, take, OnOk, OnErr, MatchOption};
 ghost use Rattle.variable_order.specs.Orders.{IsEmpty, IsRemoved};
 
 use crate::places::Places;
@@ -118,6 +118,37 @@ impl VariableOrder {
         let v = self.places.pop()?;
         sift_down(&mut self.places, &self.scores, 0);
         Some(v)
+    }
+
+    /// Takes all variables from `vars` on away, in the order or not; where there are no more than that, nothing changes. The others
+    /// stay as active as they are. It takes no memory, and for each variable that goes the time of a `pop`.
+    pub fn cut(&mut self, vars: u64)
+        ensures { self.new ≡ take vars self.old }
+    {
+        'out: for v in vars..self.vars() {
+            self.remove(TermId(v));
+        }
+        self.places.cut(vars as usize);
+        self.scores.truncate(vars as usize);
+    }
+
+    /// Takes a variable out; where it is not in the order, nothing changes.
+    #[tactic(auto, using(crate::proofs::Rows::last_taken))]
+    fn remove(&mut self, v: TermId)
+        requires known { v.0 < length self.old }
+        ensures { self.new ≡ set self.old v.0 false }
+    {
+        let Some(place) = self.places.place(v) else {
+            return;
+        };
+        let last = self.places.len() - 1;
+        self.places.swap(place, last);
+        self.places.pop();
+        if place == last {
+            return;
+        }
+        sift_up(&mut self.places, &self.scores, place);
+        sift_down(&mut self.places, &self.scores, place);
     }
 
     /// Makes a variable more active, in the order or not; once between two decays, so that further calls change nothing. It takes no

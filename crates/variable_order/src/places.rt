@@ -1,8 +1,8 @@
 //! Variables in a row, each of which knows its place.
 
-ghost use Rattle.std.specs.Prelude.{◌≡◌, ◌<◌, ◌++◌, ◌∷◌, [], true, false, length, get_or, set, OnOk, OnErr, MatchOption};
+ghost use Rattle.std.specs.Prelude.{◌≡◌, ℕ, ◌<◌, ◌≤◌, ◌++◌, ◌∷◌, [], true, false, length, get_or, set, take, OnOk, OnErr, IfSome, MatchOption};
 ghost use Rattle.variable_order.specs.Orders.{IsEmpty, IsRemoved};
-ghost use Rattle.variable_order.specs.Rows.{nowhere, IsAt};
+ghost use Rattle.variable_order.specs.Rows.{nowhere, no_variable, IsAt};
 
 use no_memory::NoMemory;
 use std::alloc::Global;
@@ -91,6 +91,7 @@ impl Places {
         requires second { j < length self.old.row }
         ensures members { self.new.members ≡ self.old.members }
         ensures len { length self.new.row ≡ length self.old.row }
+        ensures moved { get_or self.new.row j no_variable ≡ get_or self.old.row i no_variable }
     {
         let a = self.row[i];
         let b = self.row[j];
@@ -113,13 +114,23 @@ impl Places {
 
     /// Takes the last variable; nothing exactly where there is none.
     pub(crate) fn pop(&mut self) -> Option<TermId>
-        ensures { MatchOption result (IsEmpty self.old.members × (self.new ≡ self.old))
+        ensures members { MatchOption result (IsEmpty self.old.members × (self.new ≡ self.old))
             (λ v. IsRemoved self.old.members v self.new.members) }
+        ensures row { IfSome result (λ v. self.old.row ≡ self.new.row ++ v ∷ []) }
     {
         let Some(v) = self.row.pop() else {
             return None;
         };
         self.places[v.0 as usize] = None;
         Some(v)
+    }
+
+    /// Takes the variables from `vars` on away, none of which is in the row.
+    pub(crate) fn cut(&mut self, vars: usize)
+        requires out { (k : ℕ) → vars ≤ k → get_or self.old.members k false ≡ false }
+        ensures row { self.new.row ≡ self.old.row }
+        ensures members { self.new.members ≡ take vars self.old.members }
+    {
+        self.places.truncate(vars);
     }
 }

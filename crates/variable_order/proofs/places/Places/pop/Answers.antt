@@ -10,8 +10,8 @@ use Rattle.variable_order.specs.Kept.{ArePlaces}
 use Rattle.variable_order.proofs.Rows.{member_of, none_in, last_known, last_place, placed_popped}
 use Rattle.variable_order.proofs.places.Places.pop.Goals as goal
 
-pub returns-in_default : goal.returns-in_default
-returns-in_default c =
+pub returns-in_default-clause-members : goal.returns-in_default-clause-members
+returns-in_default-clause-members c =
     let h = c.self.inside in
     let e = c.in_default.ensures in
     let none : length h.row.items ≡ 0 = elim (cases_lt 0 (length h.row.items)) [
@@ -37,8 +37,8 @@ invariant_of-self-2 c =
       room = omega (arith, length-set h.places.items v.0 None, c.in-Some.ensures.capacity, c.self.invariant.room);
     }
 
-pub returns : goal.returns
-returns c =
+pub returns-clause-members : goal.returns-clause-members
+returns-clause-members c =
     let h = c.self.inside in
     let v = c.in-Some.v in
     let placed = subst (λ (xs : List TermId). ArePlaces xs h.places.items) c.in-Some.ensures.items c.self.invariant.placed in
@@ -46,3 +46,6 @@ returns c =
       was_in = member_of h.places.items v.0 ∙ ap is_some (last_place c.pop.new.self.items v h.places.items placed);
       members = map-set is_some h.places.items v.0 None;
     })
+
+pub returns-clause-row : goal.returns-clause-row
+returns-clause-row c = ap (λ (r : RowView). r.row) (sym c.self.view_is) ∙ c.in-Some.ensures.items
