@@ -20,9 +20,13 @@ pub record TrailView : Type 0 where
   -- how many of the oldest literals are marked as propagated
   pub propagated : ℕ
 
+-- the trail of so many variables, none of which has a value
+abbrev pub unassigned : ℕ → TrailView
+unassigned vars = record { literals = []; levels = []; reasons = []; vars = vars; level = 0; propagated = 0 }
+
 -- the trail of no variables
 abbrev pub empty : TrailView
-empty = record { literals = []; levels = []; reasons = []; vars = 0; level = 0; propagated = 0 }
+empty = unassigned 0
 
 -- what no place has
 abbrev pub no_lit : Lit

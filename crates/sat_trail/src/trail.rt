@@ -1,8 +1,8 @@
 //! Literals with values, levels and reasons by variable.
 
-ghost use Rattle.std.specs.Prelude.{◌≡◌, ℕ, ◌+◌, ◌^◌, ◌<◌, ◌≤◌, length, take, All, OnOk, OnErr, None, Some, get_or, vec_capacity};
+ghost use Rattle.std.specs.Prelude.{◌≡◌, ℕ, ◌+◌, ◌^◌, ◌<◌, ◌≤◌, length, take, All, OnOk, OnErr, None, Some, get_or, min, vec_capacity};
 ghost use Rattle.clause_literals.specs.Literals.{IsConsistent};
-ghost use Rattle.sat_trail.specs.Trails.{TrailView, empty, no_lit, VariablesAreApart, IsUnassigned, HasValue, HasSame, IsPushed, IsCutTo, IsLeveled};
+ghost use Rattle.sat_trail.specs.Trails.{TrailView, empty, unassigned, no_lit, VariablesAreApart, IsUnassigned, HasValue, HasSame, IsPushed, IsCutTo, IsLeveled};
 ghost use Rattle.sat_trail.specs.Values.{HasValues};
 
 use no_memory::NoMemory;
@@ -207,6 +207,19 @@ impl SatTrail {
         take_off(&mut self.literals, &mut self.values, len);
         self.starts.truncate(level as usize);
         self.propagated = self.propagated.min(len);
+    }
+
+    /// Takes all values back, and all variables from `vars` on away; where there are no more than that, all variables stay. It
+    /// takes no memory, and time in proportion to the literals that hold and the variables that go.
+    pub fn clear(&mut self, vars: u64)
+        ensures { self.new ≡ unassigned (min vars self.old.vars) }
+    {
+        take_off(&mut self.literals, &mut self.values, 0);
+        self.starts.clear();
+        self.values.truncate(vars as usize);
+        self.levels.truncate(vars as usize);
+        self.reasons.truncate(vars as usize);
+        self.propagated = 0;
     }
 
     /// Counts the oldest literals that were marked as propagated and have not been undone since. It takes no memory.
