@@ -1,6 +1,6 @@
 -- Batches of lemmas: what was there stays, and a step more is a lemma.
 use Rattle.std.proofs.Common.{◌≡◌, Bool, true, ◌<◌, ◌≤◌, ◌+◌, inl, inr, List, [], ◌∷◌, ◌++◌, length, map, get_or, sym, ap, ◌∙◌, subst, arith, length-append, append_assoc}
-use Rattle.std.specs.Prelude.{⊤, MatchBool, Contains, Option, Some, None, IfSome, Result, Ok, Err, IfOk}
+use Rattle.std.specs.Prelude.{MatchBool, Contains, Option, Some, None, IfSome, Result, Ok, Err, IfOk}
 use Rattle.std.proofs.lemmas.List.{append-nil, map-append}
 use Rattle.std.proofs.Math.Seq.{get_or-append_seam}
 use Rattle.std.proofs.lemmas.List.Elements.{All-nil, All-cons, All-push, All-map, All-weaker}
@@ -29,7 +29,7 @@ use Rattle.proof_log.proofs.Composed.{lemmas_after}
 use Rattle.term_clauses.specs.Stating.{Widens}
 use Rattle.term_clauses.proofs.Arguments.{Widens-self, Widens-trans}
 use Rattle.term_clauses.proofs.Parts.{formula_kept}
-use Rattle.congruence_explain.specs.Choosing.{ComesFrom}
+use Rattle.congruence_explain.specs.Choosing.{ComesFrom, IsNotFound}
 use Rattle.case_equalities.specs.Stating.{Batch, Continues, GoesOn, IsMade, AreMade, IsDenialOf, IsStepOf, AreStepsIn}
 
 -- what is made of the terms is so in a wider table
@@ -173,11 +173,13 @@ alone_goes b t log d rule ps empty qs ids clause is made id new added =
 pub steps_there : (b : Batch) (log : List Logged) (ps : List StepId) → AreStepsIn b log ps → AreStepsOf log ps
 steps_there b log = All-weaker (IsStepOf b log) (λ (s : StepId). s.0 < length log) (λ s h. h.1)
 
--- the clause comes by a chain, where a test says so
-pub comes_told : (t : TableView) (log : List Logged) (ss ps : List StepId) (ids clause : List TermId) (told : Bool) → MatchBool told (ComesFrom t log ss ids) ⊤ → told ≡ true → ss ≡ ps → ids ≡ clause → ComesFrom t log ps clause
-comes_told t log ss ps ids clause told says is steps terms =
-    let comes = subst (λ (b : Bool). MatchBool b (ComesFrom t log ss ids) ⊤) is says in
-    subst (ComesFrom t log ps) terms (subst (λ (xs : List StepId). ComesFrom t log xs ids) steps comes)
+-- what a test of a chain says
+module _ (t : TableView) (log : List Logged) (ss ps : List StepId) (ids clause : List TermId) (told : Bool) (says : MatchBool told (ComesFrom t log ss ids) (IsNotFound t log ss ids)) (steps : ss ≡ ps) (terms : ids ≡ clause) where
+  -- the clause comes by one
+  pub comes_told : told ≡ true → ComesFrom t log ps clause
+  comes_told is =
+      let comes = subst (λ (b : Bool). MatchBool b (ComesFrom t log ss ids) (IsNotFound t log ss ids)) is says in
+      subst (ComesFrom t log ps) terms (subst (λ (xs : List StepId). ComesFrom t log xs ids) steps comes)
 
 -- the step of it
 pub resolution_step : (ss ps : List StepId) → ss ≡ ps → (qs : List Fraction) → qs ≡ [] → (ids clause : List TermId) → ids ≡ clause → stepped Resolution ss qs ids ≡ stepped Resolution ps [] clause

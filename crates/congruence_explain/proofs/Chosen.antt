@@ -132,7 +132,7 @@ module _ (u t : TableView) (needed literals : List Lit) (clause kept : List Sign
   )
 
 -- the complements of literals mean the complements of what they mean
-complements_mean : (u : TableView) (ls : List Lit) → map (literal_at u) (map lit_complement ls) ≡ map complement (map (literal_at u) ls)
+pub complements_mean : (u : TableView) (ls : List Lit) → map (literal_at u) (map lit_complement ls) ≡ map complement (map (literal_at u) ls)
 complements_mean u [] = refl
 complements_mean u (l ∷ ls) = ap (λ xs. complement (literal_at u l) ∷ xs) (complements_mean u ls)
 

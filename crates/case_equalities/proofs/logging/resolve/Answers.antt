@@ -25,7 +25,7 @@ add_right-requires-clause-follows g c =
     let ps = c.args.steps.items in
     let clause = c.args.one ∷ c.args.other ∷ [] in
     let terms = c.in_ok-clause.ensures.items in
-    let comes = comes_told t log c.deref.result.now ps c.deref-2.result.now clause c.in_ok-is_exact.field-0 c.in_ok-is_exact.ensures c.if-not-branch.false c.deref.ensures.value (c.deref-2.ensures.value ∙ terms) in
+    let comes = comes_told t log c.deref.result.now ps c.deref-2.result.now clause c.in_ok-is_exact.field-0 c.in_ok-is_exact.ensures c.deref.ensures.value (c.deref-2.ensures.value ∙ terms) c.if-not-branch.false in
     subst (λ (x : Logged). FollowsFrom (derivation_in t log) (inference_of t x))
     (sym (resolution_step c.from.result ps c.from.ensures c.from-2.result (c.from-2.ensures ∙ ap fractions_of c.new.ensures.items) c.from-3.result clause (c.from-3.ensures ∙ terms)))
     (resolution_follows g.batch t log ps c.requires.1.1 clause comes)
@@ -37,7 +37,7 @@ returns-clause-goes g c =
     let ps = c.args.steps.items in
     let clause = c.args.one ∷ c.args.other ∷ [] in
     let terms = c.in_ok-clause.ensures.items in
-    let comes = comes_told t log c.deref.result.now ps c.deref-2.result.now clause c.in_ok-is_exact.field-0 c.in_ok-is_exact.ensures c.if-not-branch.false c.deref.ensures.value (c.deref-2.ensures.value ∙ terms) in
+    let comes = comes_told t log c.deref.result.now ps c.deref-2.result.now clause c.in_ok-is_exact.field-0 c.in_ok-is_exact.ensures c.deref.ensures.value (c.deref-2.ensures.value ∙ terms) c.if-not-branch.false in
     let added = subst (λ (x : Logged). IsAdded t log x c.in_ok-id.id c.add_right.new.self)
     (resolution_step c.from.result ps c.from.ensures c.from-2.result (c.from-2.ensures ∙ ap fractions_of c.new.ensures.items) c.from-3.result clause (c.from-3.ensures ∙ terms)) c.in_ok-id.ensures in
     (resolution_goes g.batch t log ps c.requires.1.1 clause comes c.requires.0 c.requires.1.0 c.in_ok-id.id c.add_right.new.self added).0
@@ -49,7 +49,7 @@ returns-clause-put g c =
     let ps = c.args.steps.items in
     let clause = c.args.one ∷ c.args.other ∷ [] in
     let terms = c.in_ok-clause.ensures.items in
-    let comes = comes_told t log c.deref.result.now ps c.deref-2.result.now clause c.in_ok-is_exact.field-0 c.in_ok-is_exact.ensures c.if-not-branch.false c.deref.ensures.value (c.deref-2.ensures.value ∙ terms) in
+    let comes = comes_told t log c.deref.result.now ps c.deref-2.result.now clause c.in_ok-is_exact.field-0 c.in_ok-is_exact.ensures c.deref.ensures.value (c.deref-2.ensures.value ∙ terms) c.if-not-branch.false in
     let added = subst (λ (x : Logged). IsAdded t log x c.in_ok-id.id c.add_right.new.self)
     (resolution_step c.from.result ps c.from.ensures c.from-2.result (c.from-2.ensures ∙ ap fractions_of c.new.ensures.items) c.from-3.result clause (c.from-3.ensures ∙ terms)) c.in_ok-id.ensures in
     let goes = resolution_goes g.batch t log ps c.requires.1.1 clause comes c.requires.0 c.requires.1.0 c.in_ok-id.id c.add_right.new.self added in
