@@ -1,5 +1,5 @@
 -- Batches of lemmas: what was there stays, and a step more is a lemma.
-use Rattle.std.proofs.Common.{◌≡◌, Bool, true, ◌<◌, ◌≤◌, ◌+◌, inl, inr, List, [], ◌∷◌, ◌++◌, length, map, get_or, sym, ap, ◌∙◌, subst, arith, length-append, append_assoc}
+use Rattle.std.proofs.Common.{◌≡◌, Bool, true, false, ◌<◌, ◌≤◌, ◌+◌, inl, inr, List, [], ◌∷◌, ◌++◌, length, map, get_or, sym, ap, ◌∙◌, subst, arith, length-append, append_assoc}
 use Rattle.std.specs.Prelude.{MatchBool, Contains, Option, Some, None, IfSome, Result, Ok, Err, IfOk}
 use Rattle.std.proofs.lemmas.List.{append-nil, map-append}
 use Rattle.std.proofs.Math.Seq.{get_or-append_seam}
@@ -181,9 +181,15 @@ module _ (t : TableView) (log : List Logged) (ss ps : List StepId) (ids clause :
       let comes = subst (λ (b : Bool). MatchBool b (ComesFrom t log ss ids) (IsNotFound t log ss ids)) is says in
       subst (ComesFrom t log ps) terms (subst (λ (xs : List StepId). ComesFrom t log xs ids) steps comes)
 
--- the step of it
-pub resolution_step : (ss ps : List StepId) → ss ≡ ps → (qs : List Fraction) → qs ≡ [] → (ids clause : List TermId) → ids ≡ clause → stepped Resolution ss qs ids ≡ stepped Resolution ps [] clause
-resolution_step ss ps steps qs none ids clause terms = λ i. stepped Resolution (steps i) (none i) (terms i)
+  -- or none is found
+  pub missed_told : told ≡ false → IsNotFound t log ps clause
+  missed_told is =
+      let missed = subst (λ (b : Bool). MatchBool b (ComesFrom t log ss ids) (IsNotFound t log ss ids)) is says in
+      subst (IsNotFound t log ps) terms (subst (λ (xs : List StepId). IsNotFound t log xs ids) steps missed)
+
+-- a step without arguments
+pub same_step : (rule : Rule) (ss ps : List StepId) → ss ≡ ps → (qs : List Fraction) → qs ≡ [] → (ids clause : List TermId) → ids ≡ clause → stepped rule ss qs ids ≡ stepped rule ps [] clause
+same_step rule ss ps steps qs none ids clause terms = λ i. stepped rule (steps i) (none i) (terms i)
 
 -- a step by resolution
 module _ (b : Batch) (t : TableView) (log : List Logged) (ps : List StepId) (steps : AreStepsIn b log ps) (clause : List TermId) (comes : ComesFrom t log ps clause) where

@@ -1,11 +1,14 @@
 -- The steps by which a disjunction leads to an equality: a batch of lemmas, over some terms.
-use Rattle.std.specs.Prelude.{◌≡◌, ◌<◌, ◌≤◌, List, [], ◌∷◌, ◌++◌, length, All}
+use Rattle.std.specs.Prelude.{◌≡◌, ◌⊎◌, ◌<◌, ◌≤◌, List, [], ◌∷◌, ◌++◌, length, All}
 use Rattle.spec_sorts.specs.Terms.{Term, negated}
+use Rattle.spec_proofs.specs.declared.Rule.{Rule}
+use Rattle.spec_derivations.specs.Derivations.{FollowsFrom}
 use Rattle.spec_derivations.specs.Lemmas.{IsMadeOf}
 use Rattle.term_core.specs.declared.ids.TermId.{TermId}
 use Rattle.term_core.specs.Tables.{TableView, term_at}
 use Rattle.proof_log.specs.declared.premises.StepId.{StepId}
-use Rattle.proof_log.specs.Logs.{Logged, named, logged_at, IsFormulaIn}
+use Rattle.proof_log.specs.Logs.{Logged, stepped, named, logged_at, inference_of, derivation_in, IsFormulaIn}
+use Rattle.proof_log.specs.Adding.{IsWideFrom}
 use Rattle.proof_log.specs.Theories.{Derived, DerivesLemmas}
 use Rattle.term_clauses.specs.Stating.{Widens}
 use Rattle.case_equalities.specs.declared.lead.Chain.{Chain}
@@ -63,6 +66,15 @@ IsStepOf b log id = (length b.start.log ≤ id.0) × (id.0 < length log)
 -- so is each number
 abbrev pub AreStepsIn : Batch → List Logged → List StepId → Type 0
 AreStepsIn b log ids = All (IsStepOf b log) ids
+
+-- the step of a rule without premises
+abbrev pub alone : Rule → List TermId → Logged
+alone rule clause = stepped rule [] [] clause
+
+-- it does not follow, or whether it does cannot be told within the bound on numbers
+abbrev pub IsNotTaken : TableView → List Logged → Rule → List TermId → Type 0
+IsNotTaken t log rule clause = (FollowsFrom (derivation_in t log) (inference_of t (alone rule clause)) → ⊥)
+    ⊎ IsWideFrom (derivation_in t log) (inference_of t (alone rule clause))
 
 -- it is one of this clause
 abbrev pub StatesBoth : Batch → List Logged → TermId → TermId → StepId → Type 0

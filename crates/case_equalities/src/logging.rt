@@ -1,8 +1,10 @@
 //! Single steps of a batch of lemmas.
 
-ghost use Rattle.std.specs.Prelude.{[], ◌∷◌, IfOk, IfSome};
+ghost use Rattle.std.specs.Prelude.{◌≡◌, [], ◌∷◌, IfOk, IfSome};
+ghost use Rattle.std.specs.Option.{IfNone};
 ghost use Rattle.proof_log.specs.Theories.{derived};
-ghost use Rattle.case_equalities.specs.Stating.{Batch, Continues, GoesOn, AreMade, IsStepOf, AreStepsIn, StatesBoth};
+ghost use Rattle.congruence_explain.specs.Choosing.{IsNotFound};
+ghost use Rattle.case_equalities.specs.Stating.{Batch, Continues, GoesOn, AreMade, IsNotTaken, IsStepOf, AreStepsIn, StatesBoth};
 
 use congruence_explain::is_exact;
 use no_memory::NoMemory;
@@ -10,7 +12,8 @@ use proof_log::{Clause, LogFault, Numbers, ProofLog, Rule, Step, StepId, StepIds
 use std::alloc::Global;
 use term_core::{TermId, TermTable};
 
-/// Logs a clause by a rule without premises, and gives the step's number; nothing where the rule does not take it.
+/// Logs a clause by a rule without premises, and gives the step's number; nothing where the rule does not take it, or its numbers are too
+/// wide to tell. Then the log is as it was.
 pub(crate) fn log_alone(
     alloc: Global,
     table: &TermTable,
@@ -23,6 +26,8 @@ pub(crate) fn log_alone(
     requires clause { AreMade batch table.now clause.items }
     ensures goes { GoesOn batch (derived table.now log.old) (derived table.now log.new) }
     ensures put { IfOk result (λ found. IfSome found (IsStepOf batch log.new)) }
+    ensures missed { IfOk result (λ found. IfNone found
+        ((log.new ≡ log.old) × IsNotTaken table.now log.old rule clause.items)) }
 {
     let step = Step {
         rule,
@@ -39,7 +44,7 @@ pub(crate) fn log_alone(
 }
 
 /// Logs a clause of two terms that follows by `resolution` from steps of the batch, and gives the step's number; nothing where a chain of
-/// resolutions gives less, or none is found.
+/// resolutions gives less, or none is found. Then the log is as it was.
 pub(crate) fn resolve(
     alloc: Global,
     table: &TermTable,
@@ -54,6 +59,8 @@ pub(crate) fn resolve(
     requires steps { AreStepsIn batch log.old steps.items }
     ensures goes { GoesOn batch (derived table.now log.old) (derived table.now log.new) }
     ensures put { IfOk result (λ found. IfSome found (StatesBoth batch log.new one other)) }
+    ensures missed { IfOk result (λ found. IfNone found
+        ((log.new ≡ log.old) × IsNotFound table.now log.old steps.items (one ∷ other ∷ []))) }
 {
     let clause = vec![in alloc; one, other]?;
     if !is_exact(alloc, table, log, &steps, &clause)? {

@@ -1,7 +1,10 @@
--- A step that was added is one of the batch.
-use Rattle.std.proofs.Common.{◌∙◌, sym, subst}
-use Rattle.proof_log.specs.Logs.{AreFormulasIn}
-use Rattle.case_equalities.proofs.Batches.{formulas_made, goes_same, alone_goes}
+-- A step that was added is one of the batch; or the rule does not take it.
+use Rattle.std.proofs.Common.{◌∙◌, [], inl, inr, ap, sym, subst}
+use Rattle.spec_derivations.specs.Derivations.{FollowsFrom}
+use Rattle.rule_bool.specs.Arguments.{fractions_of}
+use Rattle.proof_log.specs.Logs.{Logged, AreFormulasIn, inference_of, derivation_in}
+use Rattle.proof_log.specs.Adding.{IsWideFrom}
+use Rattle.case_equalities.proofs.Batches.{formulas_made, same_step, goes_same, alone_goes}
 use Rattle.case_equalities.proofs.logging.log_alone.Goals as goal
 
 pub add-requires-clause-log : goal.add-requires-clause-log
@@ -28,3 +31,19 @@ returns-in-Err-RuleFails-clause-goes g c = goes_same g.batch c.args.table.now c.
 
 pub returns-in-Err-Wide-clause-goes : goal.returns-in-Err-Wide-clause-goes
 returns-in-Err-Wide-clause-goes g c = goes_same g.batch c.args.table.now c.args.log.now c.add.new.self c.requires.0 c.in-Err-Wide.ensures.1
+
+pub returns-in-Err-RuleFails-clause-missed : goal.returns-in-Err-RuleFails-clause-missed
+returns-in-Err-RuleFails-clause-missed g c =
+    let t = c.args.table.now in
+    let log = c.args.log.now in
+    let same = same_step c.args.rule c.from.result [] (c.from.ensures ∙ c.new.ensures.items) c.from-2.result (c.from-2.ensures ∙ ap fractions_of c.new-2.ensures.items) c.from-3.result c.args.clause.items c.from-3.ensures in
+    let told = rw c.in-Err-RuleFails.field-0-is at c.in-Err-RuleFails.ensures.0 in
+    (c.in-Err-RuleFails.ensures.1, inl (subst (λ (x : Logged). FollowsFrom (derivation_in t log) (inference_of t x) → ⊥) same told.0))
+
+pub returns-in-Err-Wide-clause-missed : goal.returns-in-Err-Wide-clause-missed
+returns-in-Err-Wide-clause-missed g c =
+    let t = c.args.table.now in
+    let log = c.args.log.now in
+    let same = same_step c.args.rule c.from.result [] (c.from.ensures ∙ c.new.ensures.items) c.from-2.result (c.from-2.ensures ∙ ap fractions_of c.new-2.ensures.items) c.from-3.result c.args.clause.items c.from-3.ensures in
+    let told = rw c.in-Err-Wide.field-0-is at c.in-Err-Wide.ensures.0 in
+    (c.in-Err-Wide.ensures.1, inr (subst (λ (x : Logged). IsWideFrom (derivation_in t log) (inference_of t x)) same told))
