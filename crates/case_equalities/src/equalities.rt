@@ -31,7 +31,7 @@ pub struct CaseEquality {
 /// `NoMemory` comes where memory ran out; what came until then stays. Time and memory go in proportion to the disjunctions whose cases
 /// are such, but for sorting.
 /// Source: Alethe specification, rules `or_pos`, `and_pos`, `eq_transitive` and `resolution`.
-pub fn equalities_of(
+pub fn equalities_of_cases(
     alloc: Global,
     table: &mut TermTable,
     log: &mut ProofLog,

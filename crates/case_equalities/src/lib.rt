@@ -18,4 +18,4 @@ mod lead;
 mod logging;
 mod stating;
 
-pub use equalities::{CaseEquality, equalities_of};
+pub use equalities::{CaseEquality, equalities_of_cases};

@@ -14,7 +14,7 @@ ghost use Rattle.search_loop.specs.Growing.{IsBegun};
 ghost use Rattle.solve_core.specs.Beginning.{IsBegunFor, IsOverAtomsOf, IsStored};
 ghost use Rattle.solve_core.specs.Relating.{HasRelated};
 
-use case_equalities::{CaseEquality, equalities_of};
+use case_equalities::{CaseEquality, equalities_of_cases};
 use clausify::ClauseStop;
 use no_memory::NoMemory;
 use search_loop::Search;
@@ -66,7 +66,7 @@ pub(crate) fn speak_of_cases(
     ensures limit { OnOk result (KeepsLimit search.old.budget search.new.budget) }
     ensures begun { OnOk result (IsBegunFor asked (state table.new search.new)) }
 {
-    let found = equalities_of(search.alloc, table, &mut search.log, roots)?;
+    let found = equalities_of_cases(search.alloc, table, &mut search.log, roots)?;
     let equalities = terms_of(search.alloc, &found)?;
     match search.grow(table, &[], &equalities) {
         Ok(()) => {}

@@ -39,19 +39,19 @@ all_over ts t u x roots formulas asked b log derives w y ids grown differ found 
 
 pub grow-requires-clause-ready : goal.grow-requires-clause-ready
 grow-requires-clause-ready g c =
-    (begun_in g.asked c.args.table.now c.equalities_of.new.table c.args.search.now c.args.roots.now c.requires.1.0 c.requires.0 c.requires.1.1 c.equalities_of.new.log c.equalities_of.ensures.derives).ready
+    (begun_in g.asked c.args.table.now c.equalities_of_cases.new.table c.args.search.now c.args.roots.now c.requires.1.0 c.requires.0 c.requires.1.1 c.equalities_of_cases.new.log c.equalities_of_cases.ensures.derives).ready
 
 pub grow-requires-clause-interface : goal.grow-requires-clause-interface
 grow-requires-clause-interface g c =
-    subst (AreFormulasIn c.equalities_of.new.table) (sym c.deref-2.ensures.value)
-    (found_formulas g.asked c.args.table.now c.equalities_of.new.table c.args.search.now c.args.roots.now c.requires.1.0 c.requires.0 c.requires.1.1 c.equalities_of.new.log c.equalities_of.ensures.derives
-    c.in_ok-equalities.equalities.items c.deref.result.now c.in_ok-equalities.ensures (subst (All (IsCaseEquality c.equalities_of.new.table c.equalities_of.new.log c.args.roots.now)) (sym c.deref.ensures.value) c.in_ok-found.ensures.found))
+    subst (AreFormulasIn c.equalities_of_cases.new.table) (sym c.deref-2.ensures.value)
+    (found_formulas g.asked c.args.table.now c.equalities_of_cases.new.table c.args.search.now c.args.roots.now c.requires.1.0 c.requires.0 c.requires.1.1 c.equalities_of_cases.new.log c.equalities_of_cases.ensures.derives
+    c.in_ok-equalities.equalities.items c.deref.result.now c.in_ok-equalities.ensures (subst (All (IsCaseEquality c.equalities_of_cases.new.table c.equalities_of_cases.new.log c.args.roots.now)) (sym c.deref.ensures.value) c.in_ok-found.ensures.found))
 
 pub grow-requires-clause-answered_interface : goal.grow-requires-clause-answered_interface
 grow-requires-clause-answered_interface g c =
-    subst (λ (ids : List TermId). AreAnswered (clause_at c.equalities_of.new.table ids)) (sym c.deref-2.ensures.value)
-    (found_linear g.asked c.args.table.now c.equalities_of.new.table c.args.search.now c.args.roots.now c.requires.1.0 c.requires.0 c.requires.1.1 c.equalities_of.new.log c.equalities_of.ensures.derives
-    c.in_ok-equalities.equalities.items c.deref.result.now c.in_ok-equalities.ensures (subst (All (IsCaseEquality c.equalities_of.new.table c.equalities_of.new.log c.args.roots.now)) (sym c.deref.ensures.value) c.in_ok-found.ensures.found))
+    subst (λ (ids : List TermId). AreAnswered (clause_at c.equalities_of_cases.new.table ids)) (sym c.deref-2.ensures.value)
+    (found_linear g.asked c.args.table.now c.equalities_of_cases.new.table c.args.search.now c.args.roots.now c.requires.1.0 c.requires.0 c.requires.1.1 c.equalities_of_cases.new.log c.equalities_of_cases.ensures.derives
+    c.in_ok-equalities.equalities.items c.deref.result.now c.in_ok-equalities.ensures (subst (All (IsCaseEquality c.equalities_of_cases.new.table c.equalities_of_cases.new.log c.args.roots.now)) (sym c.deref.ensures.value) c.in_ok-found.ensures.found))
 
 -- where all clauses were kept
 kept_begins : (r : Result (Unit {0}) NoMemory) (A B C : Type 0) → (A → B → C) → OnOk r A → OnOk r B → OnOk r C
@@ -62,40 +62,40 @@ kept_begins (Err e) A B C f a b = tt
 pub returns-in-Err-Wide-clause-begun : goal.returns-in-Err-Wide-clause-begun
 returns-in-Err-Wide-clause-begun g c =
     let t = c.args.table.now in
-    let u = c.equalities_of.new.table in
+    let u = c.equalities_of_cases.new.table in
     let x = c.args.search.now in
-    let b = begun_in g.asked t u x c.args.roots.now c.requires.1.0 c.requires.0 c.requires.1.1 c.equalities_of.new.log c.equalities_of.ensures.derives in
+    let b = begun_in g.asked t u x c.args.roots.now c.requires.1.0 c.requires.0 c.requires.1.1 c.equalities_of_cases.new.log c.equalities_of_cases.ensures.derives in
     let stays = rw c.in-Err-Wide.field-0-is at c.in-Err-Wide.ensures.same in
-    subst (λ (z : TableView). IsBegunFor g.asked (state z c.grow.new.self)) (sym stays.0) (subst (λ (z : Search). IsBegunFor g.asked (state u z)) (sym stays.1) (begun_for_none g.asked u (record x { log = c.equalities_of.new.log }) b))
+    subst (λ (z : TableView). IsBegunFor g.asked (state z c.grow.new.self)) (sym stays.0) (subst (λ (z : Search). IsBegunFor g.asked (state u z)) (sym stays.1) (begun_for_none g.asked u (record x { log = c.equalities_of_cases.new.log }) b))
 
 -- what was found is still so
 pub keep_all-requires-clause-found : goal.keep_all-requires-clause-found
 keep_all-requires-clause-found g c =
     let t = c.args.table.now in
-    let u = c.equalities_of.new.table in
+    let u = c.equalities_of_cases.new.table in
     let x = c.args.search.now in
     let ids = c.deref-2.result.now in (
       c.args.roots.now,
       subst (All (IsCaseEquality c.grow.new.table c.grow.new.self.log c.args.roots.now)) (sym c.deref-3.ensures.value)
-          (all_later g.asked t u x c.args.roots.now c.requires.1.0 c.requires.0 c.requires.1.1 c.equalities_of.new.log c.equalities_of.ensures.derives c.grow.new.table c.grow.new.self ids c.in-Ok.ensures.grows
+          (all_later g.asked t u x c.args.roots.now c.requires.1.0 c.requires.0 c.requires.1.1 c.equalities_of_cases.new.log c.equalities_of_cases.ensures.derives c.grow.new.table c.grow.new.self ids c.in-Ok.ensures.grows
           c.in_ok-found.found.items c.in_ok-found.ensures.found),
     )
 
 pub keep_all-requires-clause-atoms : goal.keep_all-requires-clause-atoms
 keep_all-requires-clause-atoms g c =
     let t = c.args.table.now in
-    let u = c.equalities_of.new.table in
+    let u = c.equalities_of_cases.new.table in
     let x = c.args.search.now in
     let ids = c.deref-2.result.now in
     let are : ids ≡ map (λ (z : CaseEquality). z.equality) c.in_ok-found.found.items = c.deref-2.ensures.value ∙ c.in_ok-equalities.ensures ∙ ap (map (λ (z : CaseEquality). z.equality)) c.deref.ensures.value in
     subst (All (IsOverAtomsOf c.grow.new.self.atoms.items)) (sym c.deref-3.ensures.value)
-    (all_over g.asked t u x c.args.roots.now c.requires.1.0 c.requires.0 c.requires.1.1 c.equalities_of.new.log c.equalities_of.ensures.derives c.grow.new.table c.grow.new.self ids c.in-Ok.ensures.grows c.ids_are_unique.ensures
+    (all_over g.asked t u x c.args.roots.now c.requires.1.0 c.requires.0 c.requires.1.1 c.equalities_of_cases.new.log c.equalities_of_cases.ensures.derives c.grow.new.table c.grow.new.self ids c.in-Ok.ensures.grows c.ids_are_unique.ensures
     c.in_ok-found.found.items are c.in_ok-found.ensures.found)
 
 pub returns-clause-begun : goal.returns-clause-begun
 returns-clause-begun g c =
     let t = c.args.table.now in
-    let u = c.equalities_of.new.table in
+    let u = c.equalities_of_cases.new.table in
     let w = c.grow.new.table in
     let x = c.args.search.now in
     let y = c.grow.new.self in
@@ -105,4 +105,4 @@ returns-clause-begun g c =
     let are : ids ≡ map (λ (q : CaseEquality). q.equality) found = c.deref-2.ensures.value ∙ c.in_ok-equalities.ensures ∙ ap (map (λ (q : CaseEquality). q.equality)) c.deref.ensures.value in
     let stored = subst (λ (qs : List CaseEquality). OnOk c.keep_all.result (All (IsStored w z) qs)) c.deref-3.ensures.value c.keep_all.ensures.stored in
     kept_begins c.keep_all.result (HasRelated w w y z) (All (IsStored w z) found) (IsBegunFor g.asked (state w z))
-    (begun_with g.asked t u x c.args.roots.now c.requires.1.0 c.requires.0 c.requires.1.1 c.equalities_of.new.log c.equalities_of.ensures.derives w y ids c.in-Ok.ensures.grows found are c.in_ok-found.ensures.found z) c.keep_all.ensures.related stored
+    (begun_with g.asked t u x c.args.roots.now c.requires.1.0 c.requires.0 c.requires.1.1 c.equalities_of_cases.new.log c.equalities_of_cases.ensures.derives w y ids c.in-Ok.ensures.grows found are c.in_ok-found.ensures.found z) c.keep_all.ensures.related stored

@@ -5,7 +5,7 @@ use Rattle.proof_log.specs.Theories.{derived}
 use Rattle.proof_log.proofs.Composed.{lemmas_none}
 use Rattle.case_equalities.specs.declared.lead.Lead.{Lead}
 use Rattle.case_equalities.specs.Leads.{asserted_below, IsLeadOver}
-use Rattle.case_equalities.proofs.equalities.equalities_of.Goals as goal
+use Rattle.case_equalities.proofs.equalities.equalities_of_cases.Goals as goal
 
 pub returns-in_err-leads-clause-derives : goal.returns-in_err-leads-clause-derives
 returns-in_err-leads-clause-derives c = lemmas_none (asserted_below c.args.table.now c.args.roots.now) (derived c.args.table.now c.args.log.now) c.requires.log
