@@ -20,7 +20,7 @@ pub(crate) struct Lead {
 pub(crate) struct Chain {
     /// The case.
     pub(crate) case: TermId,
-    /// The equalities of a chain from one term to the other: the next has a side that is the one of the side reached so far. Each is the
-    /// case itself, or one of its arguments where it is a conjunction.
+    /// The equalities of a chain from one term to the other: each has the side to which those before it lead. It is the case itself, or
+    /// one of the arguments where the case is a conjunction.
     pub(crate) equalities: Vec<TermId>,
 }

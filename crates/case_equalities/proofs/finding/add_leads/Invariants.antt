@@ -1,4 +1,4 @@
--- The leads so far came of the disjunction.
+-- The leads up to here came of the disjunction.
 use Rattle.case_equalities.specs.Finding.{AddsLeads}
 use Rattle.case_equalities.proofs.finding.add_leads.Given as goal
 

@@ -1,4 +1,4 @@
--- The leads so far are right.
+-- The leads up to here are right.
 use Rattle.std.proofs.Common.{All}
 use Rattle.case_equalities.specs.Leads.{IsLeadOver}
 use Rattle.case_equalities.proofs.finding.leads_of.Given as goal
