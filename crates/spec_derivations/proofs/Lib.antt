@@ -27,3 +27,4 @@ pub mod Grown
 pub mod Fewer
 pub mod Deriving
 pub mod Asserting
+pub mod Kept

@@ -13,3 +13,4 @@ pub mod Spent
 pub mod Models
 pub mod Examples
 pub mod Copies
+pub mod Keeping

@@ -9,5 +9,6 @@ pub mod chains;
 pub mod checks;
 pub mod examples;
 pub mod growing;
+pub mod keeping;
 pub mod laws;
 pub mod search_laws;
