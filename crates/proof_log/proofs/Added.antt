@@ -1,9 +1,11 @@
 -- What comes of adding a step, by what its premises and its rule say.
 use Rattle.std.proofs.Common.{◌≡◌, ℕ, ◌+◌, ◌<◌, List, [], ◌∷◌, ◌++◌, length, map, take, get_or, Result, Ok, Err, sym, ◌∙◌, subst, add-one}
+use Rattle.std.specs.Prelude.{MatchResult}
 use Rattle.std.specs.Result.{IsErrAnd}
 use Rattle.std.proofs.lemmas.List.{map_more}
 use Rattle.std.proofs.lemmas.List.Elements.{All-push}
 use Rattle.std.proofs.Math.Seq.{take-suc}
+use Rattle.no_memory.specs.declared.NoMemory.{NoMemory}
 use Rattle.spec_numbers.specs.Fractions.{Fraction}
 use Rattle.spec_proofs.specs.declared.Rule.{Rule}
 use Rattle.spec_rules.specs.Rules.{IsRight, IsWide}
@@ -17,10 +19,10 @@ use Rattle.proof_log.specs.declared.premises.StepId.{StepId}
 use Rattle.proof_log.specs.declared.log_fault.LogFault.{LogFault}
 use Rattle.proof_log.specs.declared.log_fault.LogFault.TheVariants.{RuleFails, Wide, Memory}
 use Rattle.spec_derivations.specs.Derivations.{FollowsFrom}
-use Rattle.proof_log.specs.Logs.{Logged, stepped, AreStepsOf, clauses_in, named, logged_at, inference_of, derivation_in, AreFormulasIn, IsLogOf}
+use Rattle.proof_log.specs.Logs.{Logged, assumed, stepped, AreStepsOf, clauses_in, named, logged_at, inference_of, derivation_in, AreFormulasIn, IsLogOf}
 use Rattle.proof_log.specs.Faults.{fault_of}
-use Rattle.proof_log.specs.Adding.{IsAdded, JudgesClause, Collects}
-use Rattle.proof_log.proofs.Logged.{numbers_back, follows_back, wide_there, wide_back, log_push}
+use Rattle.proof_log.specs.Adding.{Assumes, IsAdded, JudgesClause, Collects}
+use Rattle.proof_log.proofs.Logged.{numbers_back, follows_back, wide_there, wide_back, log_push, one_there}
 
 module _ (t : TableView) (log : List Logged) (r : Rule) (ps : List StepId) (qs : List Fraction) (c : List TermId) where
   -- a premise is not there, or its copy found no memory
@@ -52,6 +54,23 @@ added t old l id new h here follows is_next is_last = record {
   follows = follows;
   right = subst (λ x. IsLogOf t x) (sym is_last) (log_push t old l h here follows);
 }
+
+-- what follows is added, or nothing is changed
+pub added_or_not : (t : TableView) (old : List Logged) (l : Logged) (result : Result StepId NoMemory) (new : List Logged) → IsLogOf t old → AreFormulasIn t (named l)
+    → FollowsFrom (derivation_in t old) (inference_of t l) → MatchResult result (λ id. (id.0 ≡ length old) × (new ≡ old ++ l ∷ [])) (λ _. new ≡ old)
+    → MatchResult result (λ id. IsAdded t old l id new) (λ _. new ≡ old)
+added_or_not t old l (Ok id) new h here follows is = added t old l id new h here follows is.0 is.1
+added_or_not t old l (Err e) new h here follows is = is
+
+-- what is assumed is last, or nothing is changed
+pub assumed_or_not : (old : List Logged) (id : TermId) (result : Result StepId NoMemory) (new : List Logged)
+    → MatchResult result (λ s. (s.0 ≡ length old) × (new ≡ old ++ assumed id ∷ [])) (λ _. new ≡ old) → Assumes old id result new
+assumed_or_not old id (Ok s) new is = record {
+  number = is.0;
+  last = is.1;
+  right = λ u h here. subst (λ l. IsLogOf u l) (sym is.1) (log_push u old (assumed id) h (one_there u id here) tt);
+}
+assumed_or_not old id (Err e) new is = is
 
 -- the numbers before, with one more, are the log's
 pub one_more_there : (log : List Logged) (ss : List StepId) (k : ℕ) (d : StepId) → k < length ss → (get_or ss k d).0 < length log

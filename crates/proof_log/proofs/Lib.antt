@@ -6,3 +6,14 @@ pub mod Added
 pub mod Tables
 pub mod Sound
 pub mod Composed
+pub mod Most
+pub mod Reached
+pub mod Scopes
+pub mod Leveled
+pub mod Kept
+pub mod Marks
+pub mod Moving
+pub mod Renaming
+pub mod Staying
+pub mod KeptSound
+pub mod Implied

@@ -2,6 +2,10 @@
 pub mod Logs
 pub mod Entries
 pub mod Faults
+pub mod Reaches
+pub mod Levels
+pub mod Keeping
+pub mod Moving
 pub mod Adding
 pub mod Clashes
 pub mod Theories

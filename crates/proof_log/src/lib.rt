@@ -4,11 +4,14 @@
 
 mod atoms;
 mod entry;
+mod keeping;
 pub mod laws;
 mod log;
 mod log_fault;
 mod numbers;
 mod premises;
+mod reach;
+mod reaching;
 mod step;
 mod theory;
 
@@ -18,6 +21,7 @@ pub use log_fault::LogFault;
 pub use numbers::Numbers;
 pub use premises::{StepId, StepIds};
 pub use ratio128::Ratio;
+pub use reach::Reach;
 pub use spec_proofs::Rule;
 pub use step::Step;
 pub use term_core::{Clause, TermId};

@@ -3,6 +3,7 @@
 ghost use Rattle.std.specs.Prelude.{◌≡◌};
 ghost use Rattle.proof_log.specs.Faults.{fault_of};
 
+use no_memory::NoMemory;
 use rule_bool::RuleStop;
 use std::alloc::{AllocError, AllocFailed};
 use thiserror::Error;
@@ -39,6 +40,16 @@ impl<T: Drop> From<AllocFailed<T>> for LogFault {
     ghost from_gives = { λ _ r. r ≡ faults.Memory };
 
     fn from(_error: AllocFailed<T>) -> LogFault {
+        LogFault::Memory
+    }
+}
+
+impl From<NoMemory> for LogFault {
+    ghost use Rattle.proof_log.specs.declared.log_fault.LogFault.TheVariants as faults;
+
+    ghost from_gives = { λ _ r. r ≡ faults.Memory };
+
+    fn from(_error: NoMemory) -> LogFault {
         LogFault::Memory
     }
 }
