@@ -12,6 +12,7 @@ search        formulas over Bool and one declared sort
 numbers       formulas of linear real arithmetic
 combination   formulas in which functions and numbers share terms
 scripts       scripts that others wrote; a folder of them stands in the place of the families
+sessions      sessions of many checks, with levels or assumptions
 stages        how long `solve`, the printing of a proof and `check` take, on the same formula
 growing       scripts and proofs that grow tenfold, and texts that have to be refused at once
 closure       congruence closure alone
@@ -35,6 +36,7 @@ import formulas
 import growing_texts
 import number_formulas
 import real_scripts
+import session_texts
 import simplex
 import stages
 from groups import asked_of, status_of
@@ -44,6 +46,7 @@ GROUPS = {
     "numbers": number_formulas.NUMBERS,
     "combination": number_formulas.COMBINATION,
     "scripts": real_scripts.GROUP,
+    "sessions": session_texts.GROUP,
     "stages": stages.GROUP,
     "growing": growing_texts.GROUP,
     "closure": closure.GROUP,
