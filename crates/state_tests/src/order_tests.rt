@@ -25,7 +25,13 @@ const ROWS: &str = "|
 ......A-B-C-D-E-Ffedcba|fedcba
 ....abcdC-C-C-D-D-B|cdba
 ....abcd*A-B-C|cbad
-...abcA*B*C|cba";
+...abcA*B*C|cba
+.......abcdefgA-B-C-D-E-F-G4|dcba
+.......gfedcbaG-F-E-D-C-B-A3|abc
+....abdA-B-D-3.d|bad
+......abcdefA-B-C-D-E-F9|fedcba
+......abcdef0|
+......abcdef0..bB|b";
 
 /// Gives the variable of a letter.
 fn variable_of(letter: u8) -> TermId {
@@ -60,6 +66,7 @@ fn order_of(alloc: Global, steps: &str) -> Result<VariableOrder, NoMemory> {
             b'.' => order.add_var()?,
             b'-' => order.decay(),
             b'*' => decay_long(&mut order),
+            digit @ b'0'..=b'9' => order.cut((digit - b'0') as u64),
             b'<' => {
                 let _ = order.pop();
             }
@@ -161,6 +168,18 @@ fn gives_greatest(alloc: Global, seed: u64) -> Result<bool, NoMemory> {
             3 | 4 | 5 => {
                 bump(&mut order, &mut activities, step, n as u8);
                 step = u64::saturating_add(step, step / 16);
+            }
+            7 if number & 3 == 0 => {
+                order.cut(n);
+                for v in n..24 {
+                    order.add_var()?;
+                    if let Some(activity) = activities.get_mut(v as usize) {
+                        *activity = 0;
+                    }
+                    if let Some(is_in) = members.get_mut(v as usize) {
+                        *is_in = false;
+                    }
+                }
             }
             _ => {
                 if !takes_greatest(&mut order, &activities, &mut members) {
