@@ -8,7 +8,7 @@ use Rattle.std.proofs.lemmas.List.{append-nil, append_assoc, length-append, repl
 use Rattle.clause_literals.specs.Literals.{lists}
 use Rattle.clause_literals.proofs.Noting.{list_at}
 use Rattle.term_core.specs.declared.ids.Lit.{Lit}
-use Rattle.watch_index.specs.Indexes.{code, list_of, numbers_below, HasGrown, IsAppended, IsTakenOut}
+use Rattle.watch_index.specs.Indexes.{code, list_of, HasGrown, IsAppended, IsTakenOut}
 
 abbrev numbers : Vec ℕ Global → List ℕ
 numbers v = v.items
@@ -87,30 +87,31 @@ still_there old mid to n k at p lt = elim (cases_eq k to) [
   | inr o ↦ subst (λ (xs : List ℕ). at < length xs) (sym (p.others k o)) lt
 ]
 
--- ---- the numbers numbers_below one
+-- ---- each list is changed alike
 
--- the first lists have only those, the others are as they were
-pub record AreCut (n place : ℕ) (old new : List (List ℕ)) : Type 0 where
+-- the first lists are changed, the others are as they were
+pub record AreChanged (f : List ℕ → List ℕ) (place : ℕ) (old new : List (List ℕ)) : Type 0 where
   pub size : length new ≡ length old
-  pub first : (k : ℕ) → k < place → get_or new k [] ≡ numbers_below n (get_or old k [])
+  pub first : (k : ℕ) → k < place → get_or new k [] ≡ f (get_or old k [])
   pub others : (k : ℕ) → place ≤ k → get_or new k [] ≡ get_or old k []
 
-pub cut_none : (n : ℕ) (old : List (List ℕ)) → AreCut n 0 old old
-cut_none n old = record { size = refl; first = λ k lt. absurd (omega (arith, lt)); others = λ k le. refl }
+module _ (f : List ℕ → List ℕ) where
+  pub changed_none : (old : List (List ℕ)) → AreChanged f 0 old old
+  changed_none old = record { size = refl; first = λ k lt. absurd (omega (arith, lt)); others = λ k le. refl }
 
-pub cut_more : (n place : ℕ) (old mid new : List (List ℕ)) → AreCut n place old mid → place < length mid → new ≡ set mid place (numbers_below n (get_or mid place [])) → AreCut n (place + 1) old new
-cut_more n place old mid new h lt e = record {
-  size = ap length e ∙ length-set mid place (numbers_below n (get_or mid place [])) ∙ h.size;
-  first = λ k le. ap (λ xs. get_or xs k []) e ∙ elim (cases_lt k place) [
-    | inl before ↦ get_or-set_other mid place k (numbers_below n (get_or mid place [])) [] (omega (arith, before)) ∙ h.first k before
-    | inr from ↦
-        let is : k ≡ place = omega (arith, le, from) in
-        ap (λ j. get_or (set mid place (numbers_below n (get_or mid place []))) j []) is ∙ get_or-set_same mid place (numbers_below n (get_or mid place [])) [] lt
-        ∙ ap (numbers_below n) (h.others place (omega arith)) ∙ ap (λ j. numbers_below n (get_or old j [])) (sym is)
-  ];
-  others = λ k le. ap (λ xs. get_or xs k []) e ∙ get_or-set_other mid place k (numbers_below n (get_or mid place [])) [] (omega (arith, le)) ∙ h.others k (omega (arith, le));
-}
+  pub changed_more : (place : ℕ) (old mid new : List (List ℕ)) → AreChanged f place old mid → place < length mid → new ≡ set mid place (f (get_or mid place [])) → AreChanged f (place + 1) old new
+  changed_more place old mid new h lt e = record {
+    size = ap length e ∙ length-set mid place (f (get_or mid place [])) ∙ h.size;
+    first = λ k le. ap (λ xs. get_or xs k []) e ∙ elim (cases_lt k place) [
+      | inl before ↦ get_or-set_other mid place k (f (get_or mid place [])) [] (omega (arith, before)) ∙ h.first k before
+      | inr from ↦
+          let is : k ≡ place = omega (arith, le, from) in
+          ap (λ j. get_or (set mid place (f (get_or mid place []))) j []) is ∙ get_or-set_same mid place (f (get_or mid place [])) [] lt
+          ∙ ap f (h.others place (omega arith)) ∙ ap (λ j. f (get_or old j [])) (sym is)
+    ];
+    others = λ k le. ap (λ xs. get_or xs k []) e ∙ get_or-set_other mid place k (f (get_or mid place [])) [] (omega (arith, le)) ∙ h.others k (omega (arith, le));
+  }
 
-pub cut_all : (n place : ℕ) (old new : List (List ℕ)) → AreCut n place old new → length new ≤ place → new ≡ map (numbers_below n) old
-cut_all n place old new h le = ext_get_or [] new (map (numbers_below n) old) (h.size ∙ sym (length-map old (numbers_below n)))
-    (λ i lt. h.first i (omega (arith, lt, le)) ∙ sym (get_or-map (numbers_below n) old i [] [] (omega (arith, lt, h.size))))
+  pub changed_all : (place : ℕ) (old new : List (List ℕ)) → AreChanged f place old new → length new ≤ place → new ≡ map f old
+  changed_all place old new h le = ext_get_or [] new (map f old) (h.size ∙ sym (length-map old f))
+      (λ i lt. h.first i (omega (arith, lt, le)) ∙ sym (get_or-map f old i [] [] (omega (arith, lt, h.size))))

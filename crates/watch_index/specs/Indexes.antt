@@ -1,7 +1,7 @@
 -- Lists of numbers by literals, and what the calls do to them.
-use Rattle.std.specs.Prelude.{◌≡◌, ◌≢◌, ◌+◌, ◌*◌, ◌<◌, ◌≤◌, nat_lt, ℕ, Bool, true, false, List, [], ◌∷◌, ◌++◌, length}
-use Rattle.std.specs.Prelude.{replicate, set, get_or}
-use Rattle.std.specs.List.{swap_remove, filter}
+use Rattle.std.specs.Prelude.{◌≡◌, ◌≢◌, ◌+◌, ◌*◌, ◌<◌, ◌≤◌, ◌⊎◌, nat_lt, ℕ, suc, Bool, true, false, Option, Some, None}
+use Rattle.std.specs.Prelude.{List, [], ◌∷◌, ◌++◌, length, replicate, set, get_or}
+use Rattle.std.specs.List.{swap_remove, filter, filter_map}
 use Rattle.term_core.specs.declared.ids.Lit.{Lit}
 
 -- 1 for yes and 0 for no
@@ -71,3 +71,12 @@ pub record IsListTaken (old : List (List ℕ)) (l : Lit) (list : List ℕ) (new 
 -- the numbers numbers_below one
 abbrev pub numbers_below : ℕ → List ℕ → List ℕ
 numbers_below n ks = filter (λ k. nat_lt k n) ks
+
+-- of the numbers those that stay, each by its new number
+abbrev pub renumbered : List (Option ℕ) → List ℕ → List ℕ
+renumbered kept ns = filter_map (λ n. get_or kept n None) ns
+
+-- what comes of the entry at a place: it goes and nothing changes, or its new number is at another place
+abbrev pub RenumbersOne : List (Option ℕ) → (at to : ℕ) → (old new : List ℕ) → ℕ → Type 0
+RenumbersOne kept at to old new next = ((get_or kept (get_or old at 0) None ≡ None) × (new ≡ old) × (next ≡ to))
+    ⊎ ((m : ℕ) × (get_or kept (get_or old at 0) None ≡ Some m) × (new ≡ set old to m) × (next ≡ suc to))

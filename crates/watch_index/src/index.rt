@@ -1,9 +1,10 @@
 //! Numbers by literals.
 
-ghost use Rattle.std.specs.Prelude.{◌≡◌, ◌<◌, [], OnOk, OnErr, MatchOption, length, map, set, get_or, Contains};
-ghost use Rattle.watch_index.specs.Indexes.{code, list_of, numbers_below, IsAppended, IsTakenOut, IsMoved, IsMovedOf, IsListTaken};
+ghost use Rattle.std.specs.Prelude.{◌≡◌, ◌<◌, [], OnOk, OnErr, MatchOption, length, map, set, get_or, All, Contains};
+ghost use Rattle.watch_index.specs.Indexes.{code, list_of, numbers_below, renumbered, IsAppended, IsTakenOut, IsMoved, IsMovedOf, IsListTaken};
 
 use crate::lists::{code_of, drop_all_from, exchange, place_of, put_at, take_out};
+use crate::renumbering::renumber_all;
 use no_memory::NoMemory;
 use std::alloc::Global;
 use std::marker::Model;
@@ -164,5 +165,14 @@ impl WatchIndex {
         ensures { self.new ≡ map (numbers_below clause) self.old }
     {
         drop_all_from(&mut self.all, clause);
+    }
+
+    /// Takes out the entries of the numbers that have None here, and puts in the place of each other one its new number, in order.
+    /// It takes no memory.
+    pub fn keep(&mut self, kept: &[Option<u64>])
+        requires below { All (All (λ n. n < length kept.now)) self.old }
+        ensures { self.new ≡ map (renumbered kept.now) self.old }
+    {
+        renumber_all(&mut self.all, kept);
     }
 }

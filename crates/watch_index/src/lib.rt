@@ -6,6 +6,8 @@
 
 mod index;
 mod lists;
+mod renumbering;
 
 pub use index::WatchIndex;
+pub use renumbering::renumber;
 pub use term_core::{Lit, TermId};
