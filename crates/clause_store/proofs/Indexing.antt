@@ -12,10 +12,10 @@ use Rattle.clause_store.specs.Watching.{IsIndexed, HaveSameLists, IsEnteredIfTwo
 
 -- ---- numbers in a list
 
-is_one : (a b : ℕ) → a ≡ b → one_if (a == b) ≡ 1
+pub is_one : (a b : ℕ) → a ≡ b → one_if (a == b) ≡ 1
 is_one a b e = ap one_if (eq-eqb a b e)
 
-is_none : (a b : ℕ) → a ≢ b → one_if (a == b) ≡ 0
+pub is_none : (a b : ℕ) → a ≢ b → one_if (a == b) ≡ 0
 is_none a b n = go (a == b) refl
   where
     go : (t : Bool) → (a == b) ≡ t → one_if t ≡ 0
@@ -76,10 +76,10 @@ module _ (p : Pair) (k : ℕ) where
   hits_one e = hits_by true (eq-eqb _ _ (ap code e))
 
 -- of a pair that is there
-hits_there : (pairs : List Pair) (n k : ℕ) → n < length pairs → hits_at pairs n k ≡ hits (get_or pairs n no_pair) k
+pub hits_there : (pairs : List Pair) (n k : ℕ) → n < length pairs → hits_at pairs n k ≡ hits (get_or pairs n no_pair) k
 hits_there pairs n k lt = get_or-map (λ p. hits p k) pairs n no_pair 0 lt
 
-hits_past : (pairs : List Pair) (n k : ℕ) → length pairs ≤ n → hits_at pairs n k ≡ 0
+pub hits_past : (pairs : List Pair) (n k : ℕ) → length pairs ≤ n → hits_at pairs n k ≡ 0
 hits_past pairs n k le = get_or_past (map (λ p. hits p k) pairs) n 0 (omega (arith, le, length-map pairs (λ p. hits p k)))
 
 -- the arithmetic of a step, at the list that loses, at that which gains, and at others

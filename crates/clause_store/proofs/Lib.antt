@@ -13,3 +13,6 @@ pub mod Atwork
 pub mod Attaching
 pub mod Entering
 pub mod Again
+pub mod Chosen
+pub mod Places
+pub mod Kept

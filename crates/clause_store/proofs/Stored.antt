@@ -19,6 +19,9 @@ module _ (es : List StoredClause) where
   pub clause_count : length (clauses_of es) ≡ length es
   clause_count = length-map es literals
 
+  pub step_count : length (steps_of es) ≡ length es
+  step_count = length-map es step_of
+
   -- a pair's clause is there
   pub entry_there : (pairs : List Pair) (n : ℕ) → ArePairs (clauses_of es) pairs → n < length pairs → n < length es
   entry_there pairs n ps lt = omega (arith, lt, ps.paired, clause_count)

@@ -4,3 +4,4 @@ pub mod Entries
 pub mod Propagating
 pub mod Watching
 pub mod QuietPairs
+pub mod Keeping

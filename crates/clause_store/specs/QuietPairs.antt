@@ -1,5 +1,6 @@
 -- Prefixes of what was seen at which the clauses are quiet.
-use Rattle.std.specs.Prelude.{◌≡◌, ◌+◌, ◌-◌, ◌<◌, ◌≤◌, ℕ, Bool, true, false, List, [], length, take, get_or, Contains}
+use Rattle.std.specs.Prelude.{◌≡◌, ◌+◌, ◌-◌, ◌<◌, ◌≤◌, ℕ, Bool, true, false, Option, List, [], length}
+use Rattle.std.specs.Prelude.{take, get_or, Contains}
 use Rattle.term_core.specs.declared.ids.Lit.{Lit}
 use Rattle.sat_trail.specs.Trails.{TrailView, HasSame}
 use Rattle.clause_store.specs.declared.pair.Pair.{Pair}
@@ -59,6 +60,13 @@ pub record StoreFits (p : StoreParts) : Type 0 where
   pub attached : AreAttached (clauses_of p.watched.entries.items) p.watched.pairs.items p.attached p.short.items
   -- the prefixes
   pub quiet_at : QuietLengths p.quiet_at.items p.attached p.watched.pairs.items (length p.seen.items) p.seen.items
+
+-- The parts fit together, and there is room for the number of each clause.
+pub record StoreHasRoom (p : StoreParts) (numbers : List (Option ℕ)) : Type 0 where
+  -- the parts
+  pub fits : StoreFits p
+  -- the room
+  pub room : length numbers ≡ length p.watched.entries.items
 
 -- The parts fit together in the midst of propagation, where the prefixes are those of the trail.
 pub record IsAtWork (p : StoreParts) (t : TrailView) : Type 0 where

@@ -6,6 +6,7 @@
 
 mod entry;
 mod fresh;
+mod keeping;
 pub mod laws;
 mod literals;
 mod pair;

@@ -2,17 +2,21 @@
 
 ghost use Rattle.std.specs.Prelude.{◌≡◌, ◌+◌, ◌<◌, ◌≤◌, ◌⊎◌, [], ℕ, Contains, OnOk, OnErr, IfOk, MatchOption, length, take};
 ghost use Rattle.clause_store.specs.Entries.{clauses_of, bare};
+ghost use Rattle.clause_store.specs.Keeping.{numbered_from, KeepsEntries};
 ghost use Rattle.clause_store.specs.Stores.{HasSeen};
 ghost use Rattle.clause_store.specs.Watching.{AreKnownIn, AreQuietPairs, IsFalseOf, Below};
 ghost use Rattle.clause_store.specs.Propagating.{AddsImplied, Advances, IsPropagated};
 ghost use Rattle.clause_store.specs.QuietPairs.{LengthsRise, IsPrefixOf, last_of, StoreFits, IsAtWork, WorksOn, AttachesOne, IsSameBut, store_of};
 
 use crate::fresh::Fresh;
+use crate::keeping::count_kept;
 use crate::watched::Watched;
 use clause_literals::negated;
 use no_memory::NoMemory;
+use proof_log::StepId;
 use sat_trail::SatTrail;
 use term_core::Lit;
+use watch_index::renumber;
 
 /// Holds clauses, and at which prefixes of what was seen they are quiet: where one of two watched literals is false, the other holds.
 #[derive(Drop)]
@@ -22,7 +26,7 @@ pub(crate) struct StoreParts {
     /// How many of them were looked at.
     pub(crate) attached: usize,
     /// The numbers of those that have no second literal.
-    pub(crate) short: Vec<usize>,
+    pub(crate) short: Vec<u64>,
     /// What held when propagation was quiet last.
     pub(crate) seen: Vec<Lit>,
     /// The lengths of prefixes of this at which those that were looked at are quiet, rising.
@@ -103,12 +107,12 @@ impl StoreParts {
             (IsFalseOf (clauses_of self.now.watched.entries.items) trail.new.literals) }
     {
         for n in &self.short {
-            let l = self.watched.pairs[*n].first;
+            let l = self.watched.pairs[*n as usize].first;
             trail.is_sound();
             match trail.value(l) {
                 Some(true) => {}
-                Some(false) => return Some(*n),
-                None => trail.imply(l, self.watched.entries[*n].step.0),
+                Some(false) => return Some(*n as usize),
+                None => trail.imply(l, self.watched.entries[*n as usize].step.0),
             }
         }
         None
@@ -129,7 +133,7 @@ impl StoreParts {
             Fresh::Open => {}
             Fresh::Forced(level) => drop_levels(&mut self.quiet_at, level, trail),
             Fresh::Single => {
-                self.short.push(n)?;
+                self.short.push(n as u64)?;
                 self.quiet_at.clear();
             }
         }
@@ -248,5 +252,21 @@ impl StoreParts {
         }
         self.finish(trail)?;
         Ok(None)
+    }
+
+    /// Keeps the clauses that have a step, each with this step and by these numbers, and forgets what was seen.
+    pub(crate) fn keep(&mut self, kept: &[Option<StepId>], numbers: &[Option<u64>])
+        requires fits { StoreFits self.old }
+        requires count { length kept.now ≡ length self.old.watched.entries.items }
+        requires numbers { numbers.now ≡ numbered_from 0 kept.now }
+        ensures fits { StoreFits self.new }
+        ensures entries { KeepsEntries kept.now self.old.watched.entries.items self.new.watched.entries.items }
+        ensures seen { self.new.seen.items ≡ [] }
+    {
+        self.watched.keep(kept, numbers);
+        self.attached = count_kept(kept, self.attached);
+        renumber(&mut self.short, numbers);
+        self.seen.clear();
+        self.quiet_at.clear();
     }
 }

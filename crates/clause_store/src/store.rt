@@ -1,11 +1,14 @@
 //! Clauses by their literals, each with the step that derives it.
 
-ghost use Rattle.std.specs.Prelude.{◌≡◌, ◌≢◌, ◌<◌, [], ℕ, length, get_or, Contains, MatchResult};
+ghost use Rattle.std.specs.Prelude.{◌≡◌, ◌≢◌, ◌<◌, [], ℕ, Some, None, length, get_or, Contains, MatchResult};
 ghost use Rattle.term_core.specs.declared.ids.Lit.{Lit as Literal};
+ghost use Rattle.proof_log.specs.declared.premises.StepId.{StepId as Step};
 ghost use Rattle.proof_log.specs.Logs.{IsLogOf};
 ghost use Rattle.clause_store.specs.Stores.{StoreView, empty, no_step, no_pair, IsAdded, IsWatchedTwice, AreWatchedBy};
+ghost use Rattle.clause_store.specs.Keeping.{staying, steps_in};
 
 use crate::entry::StoredClause;
+use crate::keeping::number_all;
 use crate::parts::StoreParts;
 use crate::watched::Watched;
 use clause_literals::literals_of;
@@ -24,6 +27,8 @@ use watch_index::WatchIndex;
 pub struct ClauseStore {
     alloc: Global,
     pub(crate) parts: StoreParts,
+    /// Room for the number of each clause, which `keep` writes.
+    pub(crate) numbers: Vec<Option<u64>>,
 }
 
 impl Model for ClauseStore {
@@ -31,11 +36,11 @@ impl Model for ClauseStore {
 
     ghost Value = { StoreView };
 
-    ghost use Rattle.clause_store.specs.QuietPairs.{store_of, StoreFits};
+    ghost use Rattle.clause_store.specs.QuietPairs.{store_of, StoreHasRoom};
 
     ghost view = { λ s. store_of s.parts };
 
-    ghost invariant = { λ s. StoreFits s.parts };
+    ghost invariant = { λ s. StoreHasRoom s.parts s.numbers.items };
 }
 
 impl ClauseStore {
@@ -57,6 +62,7 @@ impl ClauseStore {
                 seen: Vec::new(alloc),
                 quiet_at: Vec::new(alloc),
             },
+            numbers: Vec::new(alloc),
         }
     }
 
@@ -92,11 +98,30 @@ impl ClauseStore {
         ensures { MatchResult result (λ _. IsAdded table.now log.now step self.old self.new)
             (λ _. self.new ≡ self.old) }
     {
+        self.numbers.reserve(1)?;
         let literals = literals_of(self.alloc, table, log.clause(step))?;
         match self.parts.watched.add(StoredClause { literals, step }) {
-            Ok(()) => Ok(()),
+            Ok(()) => {
+                self.numbers.push_reserved(None);
+                Ok(())
+            }
             Err(NoMemory) => Err(NoMemory),
         }
+    }
+
+    /// Keeps the clauses that have a step here, each with this step of the log from now on, in order, and drops the others. What was
+    /// seen of a trail is forgotten. It takes no memory, and time in proportion to all clauses and to what watches them.
+    pub fn keep(&mut self, log: &ProofLog, kept: &[Option<StepId>])
+        requires count { length kept.now ≡ length self.old.clauses }
+        requires there { (k : ℕ) (s : Step) → get_or kept.now k None ≡ Some s → s.0 < length log.now }
+        ensures clauses { self.new.clauses ≡ staying kept.now self.old.clauses }
+        ensures steps { self.new.steps ≡ steps_in kept.now }
+        ensures seen { self.new.seen ≡ [] }
+    {
+        let _ = log;
+        number_all(&mut self.numbers, kept);
+        self.parts.keep(kept, &self.numbers);
+        self.numbers.truncate(self.parts.watched.entries.len());
     }
 
     /// Lends the numbers of the clauses that a literal watches. It takes no memory.

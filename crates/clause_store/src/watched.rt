@@ -3,13 +3,16 @@
 ghost use Rattle.std.specs.Prelude.{◌≡◌, ◌≢◌, ◌+◌, ◌<◌, Contains, OnOk, OnErr, IfOk, MatchOption, get_or, length};
 ghost use Rattle.clause_literals.specs.Literals.{lit_complement};
 ghost use Rattle.clause_store.specs.Entries.{clauses_of, bare};
+ghost use Rattle.clause_store.specs.Keeping.{staying, numbered_from, KeepsEntries};
 ghost use Rattle.clause_store.specs.Watching.{IsWatched, IsWatchedWith, with_list, AreKnownIn, IsPairOf, HaveSameLists, IsEntered, IsEnteredIfTwo, IsOneMore, IsAsBefore, HaveAllPassed, IsFalseOf, PropagatesPart, VisitsClause};
 
 use crate::entry::StoredClause;
+use crate::keeping::{choose, set_steps};
 use crate::literals::{is_false, is_true, next_open};
 use crate::pair::{Pair, other_of};
 use clause_literals::same;
 use no_memory::NoMemory;
+use proof_log::StepId;
 use sat_trail::SatTrail;
 use term_core::{Lit, TermId};
 use watch_index::WatchIndex;
@@ -230,5 +233,21 @@ impl Watched {
             }
             Err(NoMemory) => Err(NoMemory),
         }
+    }
+
+    /// Keeps the clauses that have a step, each with this step, in order. They have these numbers, and the literals that watched them.
+    pub(crate) fn keep(&mut self, kept: &[Option<StepId>], numbers: &[Option<u64>])
+        requires watched { IsWatched self.old }
+        requires count { length kept.now ≡ length self.old.entries.items }
+        requires numbers { numbers.now ≡ numbered_from 0 kept.now }
+        ensures watched { IsWatched self.new }
+        ensures entries { KeepsEntries kept.now self.old.entries.items self.new.entries.items }
+        ensures pairs { self.new.pairs.items ≡ staying kept.now self.old.pairs.items }
+    {
+        self.index.keep(numbers);
+        set_steps(&mut self.entries, kept);
+        choose(&mut self.entries, kept);
+        choose(&mut self.pairs, kept);
+        choose(&mut self.starts, kept);
     }
 }

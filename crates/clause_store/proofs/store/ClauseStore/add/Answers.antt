@@ -1,20 +1,33 @@
--- The parts fit together with a clause more.
+-- The parts fit together with a clause more, which has room for its number.
+use Rattle.std.proofs.Common.{◌∙◌, None, length, sym, ap, arith}
+use Rattle.std.proofs.lemmas.List.{length_push}
 use Rattle.clause_store.proofs.Entering.{attached_with, quiet_with, attached_before, quiet_before}
 use Rattle.clause_store.proofs.store.ClauseStore.add.Goals as goal
-use Rattle.clause_store.proofs.store.ClauseStore.add.Goals.{in-Ok, in-Err}
 
-pub invariant_of-self : goal.invariant_of-self
-invariant_of-self c =
+pub invariant_of-self-in-Ok : goal.invariant_of-self-in-Ok
+invariant_of-self-in-Ok c =
     let p = c.self.inside.parts in
-    let kept = c.self.invariant in
+    let kept = c.self.invariant.fits in
+    let more = c.in-Ok.ensures.ok in
     record {
-      watched = c.add.ensures.watched;
-      attached = elim c.match-add.branch [
-        | in-Ok w ↦ attached_with p.watched c.add.new.self _ kept.watched w.in-Ok.ensures.ok p.attached p.short.items kept.attached
-        | in-Err w ↦ attached_before p.watched c.add.new.self p.attached p.short.items w.in-Err.ensures.err kept.attached
-      ];
-      quiet_at = elim c.match-add.branch [
-        | in-Ok w ↦ quiet_with p.watched c.add.new.self _ kept.watched w.in-Ok.ensures.ok p.attached p.short.items kept.attached p.quiet_at.items _ p.seen.items kept.quiet_at
-        | in-Err w ↦ quiet_before p.watched c.add.new.self p.quiet_at.items p.attached _ p.seen.items w.in-Err.ensures.err kept.quiet_at
-      ];
+      fits = record {
+        watched = c.add.ensures.watched;
+        attached = attached_with p.watched c.add.new.self _ kept.watched more p.attached p.short.items kept.attached;
+        quiet_at = quiet_with p.watched c.add.new.self _ kept.watched more p.attached p.short.items kept.attached p.quiet_at.items _ p.seen.items kept.quiet_at;
+      };
+      room = omega (arith, ap length c.push_reserved.ensures.items, length_push c.reserve.new.self.items None, ap length c.reserve.ensures.items, c.self.invariant.room, ap length more.entries, length_push p.watched.entries.items (record { literals = c.in_ok-literals.literals; step = c.args.step }));
+    }
+
+pub invariant_of-self-in-Err : goal.invariant_of-self-in-Err
+invariant_of-self-in-Err c =
+    let p = c.self.inside.parts in
+    let kept = c.self.invariant.fits in
+    let same = c.in-Err.ensures.err in
+    record {
+      fits = record {
+        watched = c.add.ensures.watched;
+        attached = attached_before p.watched c.add.new.self p.attached p.short.items same kept.attached;
+        quiet_at = quiet_before p.watched c.add.new.self p.quiet_at.items p.attached _ p.seen.items same kept.quiet_at;
+      };
+      room = ap length c.reserve.ensures.items ∙ c.self.invariant.room ∙ sym (ap length same.entries);
     }

@@ -9,4 +9,4 @@ pub returns : goal.returns
 returns c =
     let p = c.self.inside.parts.watched in
     subst (λ (s : StoreView). (n : ℕ) (l m : Lit) → n < length s.clauses → Contains (get_or s.clauses n []) l → Contains (get_or s.clauses n []) m → (l ≡ m → ⊥) → IsWatchedTwice (get_or s.clauses n []) (get_or s.pairs n no_pair))
-    c.self.view_is (watched_twice _ p.pairs.items c.self.invariant.watched.pairs_by)
+    c.self.view_is (watched_twice _ p.pairs.items c.self.invariant.fits.watched.pairs_by)

@@ -9,4 +9,4 @@ pub returns : goal.returns
 returns c =
     let p = c.self.inside.parts in
     subst (λ (s : StoreView). AreWatchedBy s c.args.lit c.list.result.now) c.self.view_is
-    (subst (AreWatchedBy (store_of p) c.args.lit) (sym c.list.ensures) (watched_by (store_of p) p.watched.index c.args.lit c.self.invariant.watched.pairs_by c.self.invariant.watched.index_by))
+    (subst (AreWatchedBy (store_of p) c.args.lit) (sym c.list.ensures) (watched_by (store_of p) p.watched.index c.args.lit c.self.invariant.fits.watched.pairs_by c.self.invariant.fits.watched.index_by))
