@@ -2,13 +2,14 @@
 
 ghost use Rattle.std.specs.Prelude.{◌≡◌, ◌⊎◌, MatchBool, IfOk, OnOk};
 ghost use Rattle.std.specs.List.Sorted.{IsPermutation};
-ghost use Rattle.agreement.specs.Agreeing.{Concur, Clash, HasPairs, HasClashes, IsAgreementOn};
+ghost use Rattle.agreement.specs.Agreeing.{Concur, Clash, ArePairs, HasPairs, HasClashes, IsAgreementOn};
 
 use delta_num::Delta;
 use no_memory::NoMemory;
+use ratio128::Ratio;
 use std::alloc::Global;
 use std::cmp::Ordering;
-use term_core::TermId;
+use term_core::{SymbolId, TermId};
 
 /// A term that both theories speak of, with what each says of it.
 #[derive(Clone, Copy, PartialEq, Eq, Debug)]
@@ -19,8 +20,17 @@ pub struct Shared {
     pub class: u64,
     /// Its value. Simplex says that terms are equal where they have one value, infinitesimal part included.
     pub value: Delta,
-    /// Whether some function is applied to it.
-    pub is_argument: bool,
+    /// The place at which a function is applied to it; nothing where it comes as the value of one.
+    pub place: Option<ArgumentPlace>,
+}
+
+/// Names a place of the arguments of a function.
+#[derive(Clone, Copy, PartialEq, Eq, Debug)]
+pub struct ArgumentPlace {
+    /// The function.
+    pub function: SymbolId,
+    /// Which of its arguments, from 0.
+    pub index: u64,
 }
 
 /// What is found of two theories and the terms that they share.
@@ -35,34 +45,58 @@ pub enum Agreement {
 /// Says whether two theories agree on each two of the terms, and lists pairs on which they do not, if there are such.
 ///
 /// The terms are sorted by their values, and then by their classes. So neighbours tell of all, and it takes n log n comparisons of n
-/// terms. Of two neighbours that differ the pair is listed, with the lesser number first; it may come twice. Where congruence says that
-/// some are equal, or both are arguments of functions, these are listed alone: the others may turn out to differ by what follows. The
-/// terms are left in some order.
+/// terms. Of two neighbours that differ the pair is listed, with the lesser number first; it may come twice. Pairs are urgent that
+/// congruence says are equal, or of which one function takes both at one place. Where there are such, they are listed alone: the others
+/// may turn out to differ by what follows, or it may not matter that they do. The terms are left in some order.
 /// `NoMemory` comes where the list finds no memory.
 pub fn agree(alloc: Global, shared: &mut [Shared]) -> Result<Agreement, NoMemory>
     ensures permutation { IsPermutation shared.old shared.new }
     ensures answer { IfOk result (IsAgreementOn shared.old) }
 {
-    let mut urgent = Vec::new(alloc);
+    let urgent = urgent_pairs(alloc, shared)?;
+    if !urgent.is_empty() {
+        return Ok(Agreement::Pairs(urgent));
+    }
     let mut pairs = Vec::new(alloc);
     shared.sort_unstable_by(|a, b| Delta::cmp(a.value, b.value));
-    add_urgent(shared, &mut urgent)?;
     add_clashes(shared, &mut pairs)?;
     shared.sort_unstable_by_key(|a| a.class);
-    add_urgent(shared, &mut urgent)?;
     add_clashes(shared, &mut pairs)?;
     if pairs.is_empty() {
         return Ok(Agreement::Agreed);
     }
-    if urgent.is_empty() {
-        return Ok(Agreement::Pairs(pairs));
-    }
-    Ok(Agreement::Pairs(urgent))
+    Ok(Agreement::Pairs(pairs))
 }
 
-/// Tells whether two terms on which the theories do not agree are of one class, or both are arguments.
+/// Lists pairs on which the theories do not agree and that are urgent. The terms are left in some order.
+fn urgent_pairs(alloc: Global, shared: &mut [Shared]) -> Result<Vec<(TermId, TermId)>, NoMemory>
+    ensures permutation { IsPermutation shared.old shared.new }
+    ensures pairs { IfOk result (λ pairs. ArePairs shared.old pairs.items) }
+{
+    let mut pairs = Vec::new(alloc);
+    shared.sort_unstable_by_key(|a| (place_key(a.place), value_key(a.value), a.class));
+    add_urgent(shared, &mut pairs)?;
+    shared.sort_unstable_by_key(|a| (a.class, value_key(a.value)));
+    add_urgent(shared, &mut pairs)?;
+    Ok(pairs)
+}
+
+/// Gives numbers that are the same only for one place.
+fn place_key(place: Option<ArgumentPlace>) -> (bool, u64, u64) {
+    match place {
+        None => (false, 0, 0),
+        Some(place) => (true, place.function.0, place.index),
+    }
+}
+
+/// Gives the two parts of a value, in the order in which values compare.
+fn value_key(value: Delta) -> (Ratio, Ratio) {
+    (value.base, value.tilt)
+}
+
+/// Tells whether two terms on which the theories do not agree are of one class, or one function takes both at one place.
 fn is_urgent(a: Shared, b: Shared) -> bool {
-    a.class == b.class || (a.is_argument && b.is_argument)
+    a.class == b.class || (a.place.is_some() && a.place == b.place)
 }
 
 /// Adds to pairs the terms of each two neighbours on which the theories do not agree, where that is urgent.

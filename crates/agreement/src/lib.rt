@@ -7,6 +7,6 @@
 
 mod agreeing;
 
-pub use agreeing::{Agreement, Shared, agree};
+pub use agreeing::{Agreement, ArgumentPlace, Shared, agree};
 pub use delta_num::Delta;
-pub use term_core::TermId;
+pub use term_core::{SymbolId, TermId};

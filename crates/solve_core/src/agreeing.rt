@@ -4,6 +4,7 @@ ghost use Rattle.std.specs.Prelude.{◌≡◌, ◌+◌, ◌++◌, length, map, I
 ghost use Rattle.spec_derivations.specs.Problems.{Problem};
 ghost use Rattle.ratio128.specs.Meant.{fraction};
 ghost use Rattle.sat_budget.specs.Budgets.{StopsBy};
+ghost use Rattle.term_core.specs.Tables.{IsIn};
 ghost use Rattle.proof_log.specs.Theories.{terms_watched, literals_held};
 ghost use Rattle.congruence_relation.specs.Relation.{AreFactsOf};
 ghost use Rattle.congruence.specs.Views.{theory_of};
@@ -14,10 +15,8 @@ ghost use Rattle.solve_core.specs.Answering.{AgreeBoth};
 ghost use Rattle.solve_core.specs.Sharing.{IsAskedOf};
 ghost use Rattle.solve_core.specs.Agreeing.{AreTheoryValues, FindsAgreement};
 
-use crate::marking::{is_marked, mark_all};
 use crate::modelling::TheoryAssignment;
-use crate::sharing::is_declared;
-use agreement::{Agreement, Delta, Shared, agree};
+use agreement::{Agreement, ArgumentPlace, Delta, Shared, agree};
 use combined::Combined;
 use no_memory::NoMemory;
 use sat_budget::Stop;
@@ -27,7 +26,7 @@ use spec_valuations::laws::{
     sides_of_equalities_agree, terms_of_linear_checks_are_linear,
 };
 use std::alloc::Global;
-use term_core::{TermId, TermTable};
+use term_core::{Head, Sort, TermId, TermTable};
 
 /// What is found where a search is saturated.
 #[derive(Drop)]
@@ -47,16 +46,70 @@ fn joined(alloc: Global, front: &[TermId], back: &[TermId]) -> Result<Vec<TermId
     Ok(ids)
 }
 
-/// Gives for each term of the table whether a declared function is applied to it. No answer depends on these marks.
-fn argument_marks(alloc: Global, table: &TermTable) -> Result<Vec<bool>, NoMemory> {
-    let mut marks = vec![in alloc; false; table.len() as usize]?;
-    'terms: for number in 0..table.len() {
-        let node = table.node(TermId(number));
-        if is_declared(node.head) {
-            mark_all(&mut marks, node.arguments.as_slice());
+/// Tells whether this term stands at a place of a list.
+fn stands_at(ids: &[TermId], at: usize, id: TermId) -> bool {
+    match ids.get(at) {
+        None => false,
+        Some(there) => *there == id,
+    }
+}
+
+/// Adds the places of those shared terms that an application shares, where they are the next: its arguments have one, and it has none
+/// itself.
+fn add_places(
+    places: &mut Vec<Option<ArgumentPlace>>,
+    table: &TermTable,
+    id: TermId,
+    shared: &[TermId],
+) -> Result<(), NoMemory>
+    requires { IsIn table.now id }
+{
+    let node = table.node(id);
+    let Head::Apply(function) = node.head else {
+        return Ok(());
+    };
+    let arguments = node.arguments.as_slice();
+    if arguments.is_empty() {
+        return Ok(());
+    }
+    let count = places.len();
+    'arguments: for index in 0..arguments.len() {
+        if stands_at(shared, places.len(), arguments[index]) {
+            let index = index as u64;
+            places.push(Some(ArgumentPlace { function, index }))?;
         }
     }
-    Ok(marks)
+    if stands_at(shared, places.len(), id) {
+        places.push(None)?;
+    } else if table.sort(id) == Sort::Real {
+        // Another check is about this application.
+        places.truncate(count);
+    }
+    Ok(())
+}
+
+/// Gives for each shared term the place at which a function is applied to it. No answer depends on these places.
+///
+/// The terms are taken as `shared_terms` lists them: by rising numbers of the applications that share them, of each its arguments and
+/// then itself.
+fn places_of(
+    alloc: Global,
+    table: &TermTable,
+    shared: &[TermId],
+) -> Result<Vec<Option<ArgumentPlace>>, NoMemory> {
+    let mut places = Vec::new(alloc);
+    'terms: for number in 0..table.len() {
+        add_places(&mut places, table, TermId(number), shared)?;
+    }
+    Ok(places)
+}
+
+/// Gives what is at a place of a list; nothing beyond its end.
+fn place_at(places: &[Option<ArgumentPlace>], at: usize) -> Option<ArgumentPlace> {
+    match places.get(at) {
+        None => None,
+        Some(place) => *place,
+    }
 }
 
 /// Puts together what the theories say of the terms from a place on.
@@ -72,12 +125,12 @@ fn shared_of(
     ensures { IfOk result (λ xs. AreTheoryValues shared.now assigned_values.now.classes.items
         (map fraction assigned_values.now.numbers.items) from xs.items) }
 {
-    let arguments = argument_marks(alloc, table)?;
+    let argument_places = places_of(alloc, table, shared)?;
     let mut xs = Vec::new(alloc);
     'places: for at in 0..shared.len() {
         xs.push(Shared {
             term: shared[at],
-            is_argument: is_marked(&arguments, shared[at]),
+            place: place_at(&argument_places, at),
             class: assigned_values.classes[from + at],
             value: Delta::number(assigned_values.numbers[from + at]),
         })?;
