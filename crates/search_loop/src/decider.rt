@@ -26,7 +26,7 @@ use variable_order::VariableOrder;
 pub struct Decider {
     /// The variables that wait.
     order: VariableOrder,
-    /// For each variable the sign that it had last, at first false.
+    /// For each variable the sign that it had last; at first false, or the one that clauses have more often.
     phases: Vec<bool>,
 }
 
@@ -87,6 +87,20 @@ impl Decider {
         ensures { result ≡ get_or self.now v.0 false }
     {
         self.order.has(v)
+    }
+
+    /// Gives these atoms the sign that affirms them where their balance is above 0, and the other where it is not. One that has no balance
+    /// keeps its sign. It takes no memory.
+    pub(crate) fn lean(&mut self, atoms: &[TermId], balances: &[i64])
+        ensures { self.new ≡ self.old }
+    {
+        'atoms: for atom in atoms.iter() {
+            let at = atom.0 as usize;
+            if at >= self.phases.len() || at >= balances.len() {
+                continue;
+            }
+            self.phases[at] = balances[at] > 0;
+        }
     }
 
     /// Gives variables the sign that affirms them, and makes the first of them more active: so the search tries soon that its equality

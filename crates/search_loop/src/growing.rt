@@ -11,6 +11,7 @@ ghost use Rattle.search_loop.specs.Asking.{state};
 ghost use Rattle.search_loop.specs.Growing.{IsEmptySearch, GrowsTo, HasGrown, StoresAll};
 
 use crate::atoms::atoms_of;
+use crate::balances::balances_of;
 use crate::decider::Decider;
 use crate::restarts::Restarts;
 use crate::search::Search;
@@ -125,6 +126,8 @@ impl Search {
         let atoms = atoms_of(self.alloc, table, &terms)?;
         reach(&mut self.trail, table)?;
         self.decider.wait_for(&atoms, self.trail.vars())?;
+        let balances = balances_of(self.alloc, table, &self.log, steps.as_slice(), roots)?;
+        self.decider.lean(&atoms, &balances);
         self.decider.affirm(interface);
         store_all(&mut self.store, table, &self.log, steps.as_slice())?;
         self.terms.extend_from_slice(&terms)?;

@@ -7,6 +7,7 @@
 
 mod activity;
 mod atoms;
+mod balances;
 mod cdcl;
 mod conflict;
 mod decider;

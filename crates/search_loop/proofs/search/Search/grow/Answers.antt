@@ -45,11 +45,11 @@ returns-clause-grows c =
     let y : Search = record { alloc = x.alloc; log = log; store = store; trail = c.reach.new.trail; terms = c.extend_from_slice.new.self; atoms = c.extend_from_slice-2.new.self; decider = c.affirm.new.self; restarts = x.restarts; budget = x.budget; fed = x.fed } in
     let new : AreNewTerms u (problem_in t roots interface) x.terms.items terms = subst (λ (ids : List TermId). AreNewTerms u (problem_in t roots interface) ids terms) c.deref.ensures.value made.terms in
     let chosen : AreAtomsAmong u terms atoms = subst (λ (ids : List TermId). AreAtomsAmong u ids atoms) c.deref-2.ensures.value c.in_ok-atoms.ensures in
-    let stored : StoresAll u log steps x.store store = subst (λ (ss : List StepId). StoresAll u log ss x.store store) c.as_slice.ensures c.in_ok-store_all.ensures in
-    let terms_are : y.terms.items ≡ x.terms.items ++ terms = c.in_ok-extend_from_slice.ensures.items ∙ ap (λ (ids : List TermId). x.terms.items ++ ids) c.deref-4.ensures.value in
-    let atoms_are : y.atoms.items ≡ x.atoms.items ++ atoms = c.in_ok-extend_from_slice-2.ensures.items ∙ ap (λ (ids : List TermId). x.atoms.items ++ ids) c.deref-5.ensures.value in
+    let stored : StoresAll u log steps x.store store = subst (λ (ss : List StepId). StoresAll u log ss x.store store) c.as_slice-2.ensures c.in_ok-store_all.ensures in
+    let terms_are : y.terms.items ≡ x.terms.items ++ terms = c.in_ok-extend_from_slice.ensures.items ∙ ap (λ (ids : List TermId). x.terms.items ++ ids) c.deref-6.ensures.value in
+    let atoms_are : y.atoms.items ≡ x.atoms.items ++ atoms = c.in_ok-extend_from_slice-2.ensures.items ∙ ap (λ (ids : List TermId). x.atoms.items ++ ids) c.deref-7.ensures.value in
     let waits : AreWaiting (x.atoms.items ++ atoms) x.trail.literals y.decider =
-    subst (λ (ws : List Bool). AreWaiting (x.atoms.items ++ atoms) x.trail.literals ws) (sym c.affirm.ensures)
+    subst (λ (ws : List Bool). AreWaiting (x.atoms.items ++ atoms) x.trail.literals ws) (sym (c.affirm.ensures ∙ c.lean.ensures))
     (subst (λ (ids : List TermId). AreWaiting (x.atoms.items ++ ids) x.trail.literals c.wait_for.new.self) c.deref-3.ensures.value
     (c.in_ok-wait_for.ensures.waiting x.atoms.items x.trail.literals c.requires.ready.waiting)) in
     let came : Came t u x y roots interface = record {
@@ -71,7 +71,7 @@ returns-clause-grows c =
       table = made.grown.table;
       declared = made.grown.declared;
       ready = fits_grown t u x y roots interface came c.what_is_marked_was_seen.ensures.grown c.reasons_stay_right.ensures.grown atoms chosen atoms_are c.in_ok-reach.ensures c.is_sound.ensures.leveled c.requires.level waits
-          (ap length c.affirm.ensures ∙ c.in_ok-wait_for.ensures.size ∙ c.vars.ensures);
+          (ap length (c.affirm.ensures ∙ c.lean.ensures) ∙ c.in_ok-wait_for.ensures.size ∙ c.vars.ensures);
       trail = c.in_ok-reach.ensures.same;
       fed = refl;
       budget = refl;
