@@ -158,10 +158,11 @@ def reset(state, parts, start):
     return "success"
 
 
-def check_sat(_state, parts, start):
+def check_sat(state, parts, start):
     """Performs `check-sat`, which assumes nothing."""
     if len(parts) != 1:
         raise Fault(start, b"BadShape")
+    state.literals = []
     return []
 
 
@@ -185,6 +186,7 @@ def check_sat_assuming(state, parts, start):
         raise Fault(start, b"BadShape")
     assumed = [literal(state, item) for item in parts[1][1]]
     state.require_room(start, 0, assumed)
+    state.literals = parts[1][1]
     return assumed
 
 

@@ -264,7 +264,8 @@ def free_names(item):
 class State:
     """What a script has stated: sorts and functions by name, assertions, levels, options, and whether it has begun.
 
-    `written` has the items of the assertions, and `asked` the last check, where nothing was stated after it.
+    `written` has the items of the assertions, `literals` those that the last check assumes, and `asked` is that check, where nothing was
+    stated after it.
     """
 
     def __init__(self, limit):
@@ -282,7 +283,7 @@ class State:
         """Takes back assertions, levels, and names that are not global, as `reset-assertions` does."""
         if not self.options[b":global-declarations"]:
             self.sorts, self.functions = {}, {}
-        self.assertions, self.written, self.levels = [], [], []
+        self.assertions, self.written, self.literals, self.levels = [], [], [], []
         self.asked = None
 
     def open_levels(self, count):
@@ -355,7 +356,7 @@ class State:
 class Check(State):
     """What is current at a check: what it asks about, its declared symbols in their order, and its answer.
 
-    Its assertions are those of all levels, and after them what the check assumes.
+    Its assertions are those of all levels, and after them what the check assumes; `places` has the offset of each in the script.
     """
 
     def __init__(self, state, assumed):
@@ -363,6 +364,7 @@ class Check(State):
         self.terms = state.terms
         self.sorts, self.functions = dict(state.sorts), dict(state.functions)
         self.assertions = [*state.assertions, *assumed]
+        self.places = [item[2] for item in (*state.written, *state.literals)]
         self.order = [name for name, known in self.functions.items() if not isinstance(known, Definition)]
 
     @cached_property
