@@ -1,0 +1,2 @@
+-- The scripts that are made, by their size.
+pub mod Scripts
