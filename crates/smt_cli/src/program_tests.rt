@@ -10,12 +10,15 @@ use std::test::Fail;
 const RUNS: &str = "0\tyes\tsmt_cli solve\t(check-sat)
 0\tyes\tsmt_cli certify --conflicts 1\t(check-sat)
 1\tyes\tsmt_cli solve\t(assert zz)
+0\tyes\tsmt_cli gen 7\t
+2\tyes\tsmt_cli gen 0\t
 2\tyes\tsmt_cli\t
 2\tyes\tsmt_cli solve --conflicts\t
 2\tyes\tsmt_cli solve --pivots 1\t
 2\tyes\tsmt_cli solve !\t
 4\tyes\tsmt_cli solve absent\t
 4\tyes\tsmt_cli check --at 1 absent absent\t
+5\tno\tsmt_cli gen 7\t
 5\tno\tsmt_cli\t
 5\tno\tsmt_cli solve\t(check-sat)";
 

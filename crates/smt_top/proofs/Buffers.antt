@@ -15,7 +15,7 @@ use Rattle.spec_sessions.specs.Statements.{OnTranscript, OnBegun}
 use Rattle.script_run.specs.Runs.{Delivered}
 use Rattle.script_run.specs.Scripts.{Holdings}
 use Rattle.smt_session.proofs.Delivering.{flushed, not_flushed}
-use Rattle.smt_top.specs.Arguments.{Asked, runs, checks, limits_by}
+use Rattle.smt_top.specs.Arguments.{Asked, runs, checks, generates, limits_by}
 use Rattle.smt_top.specs.Output.{longest_line}
 use Rattle.smt_top.specs.RunMeans.{RunMeans, IsUnread, is_answered}
 
@@ -36,13 +36,16 @@ module _ (holds : Holdings) (old mid new : SinkView) where
     pub ends_kept : (status : Status) (asked : Option Asked) → is_answered status ≡ true → RunMeans status asked holds old mid → RunMeans status asked holds old new
     ends_kept Done None e r = absurd r
     ends_kept Done (Some (checks n)) e (script, proof, s, p, (valid, w)) = (script, proof, s, p, (valid, kept _ w))
+    ends_kept Done (Some (generates n)) e (line, is, w) = (line, is, kept _ w)
     ends_kept Done (Some (runs mode name conflicts)) e (text, held, (all, t, say, w)) = (text, held, (all, t, say, kept_all all w))
     ends_kept Refused None e r = absurd r
     ends_kept Refused (Some (checks n)) e (script, proof, s, p, (fault, r)) =
         (script, proof, s, p, (fault, record { verdict = r.verdict; short = r.short; written = kept _ r.written }))
+    ends_kept Refused (Some (generates n)) e r = absurd r
     ends_kept Refused (Some (runs mode name conflicts)) e (text, held, (all, t, say, w)) = (text, held, (all, t, say, kept_all all w))
     ends_kept Words None e (is, w) = (is, kept _ w)
     ends_kept Words (Some (checks n)) e (is, w) = (is, kept _ w)
+    ends_kept Words (Some (generates n)) e r = absurd r
     ends_kept Words (Some (runs mode name conflicts)) e r = absurd r
     ends_kept Memory asked e r = cc
     ends_kept ReadFault asked e r = cc
@@ -60,13 +63,16 @@ module _ (holds : Holdings) (old mid new : SinkView) where
     pub ends_cut : (status : Status) (asked : Option Asked) → is_answered status ≡ true → RunMeans status asked holds old mid → RunMeans WriteFault asked holds old new
     ends_cut Done None e r = absurd r
     ends_cut Done (Some (checks n)) e (script, proof, s, p, (valid, w)) = ((script, proof, s, p, (None, valid.verdict, cut _ w.0)), no_room longest_line _ w.0 (omega arith))
+    ends_cut Done (Some (generates n)) e (line, is, w) = (line, is, cut _ w.0)
     ends_cut Done (Some (runs mode name conflicts)) e (text, held, t) = (text, held, whole_is_begun (limits_by conflicts) mode text false _ _ (λ all d. cut all d.sent) t)
     ends_cut Refused None e r = absurd r
     ends_cut Refused (Some (checks n)) e (script, proof, s, p, (fault, r)) =
         ((script, proof, s, p, (Some fault, r.verdict, cut _ r.written.0)), no_room longest_line _ r.written.0 r.short)
+    ends_cut Refused (Some (generates n)) e r = absurd r
     ends_cut Refused (Some (runs mode name conflicts)) e (text, held, t) = (text, held, whole_is_begun (limits_by conflicts) mode text true _ _ (λ all d. cut all d.sent) t)
     ends_cut Words None e (is, w) = (cut _ w.0, no_room longest_line _ w.0 (omega arith))
     ends_cut Words (Some (checks n)) e (is, w) = cc
+    ends_cut Words (Some (generates n)) e r = absurd r
     ends_cut Words (Some (runs mode name conflicts)) e r = absurd r
     ends_cut Memory asked e r = cc
     ends_cut ReadFault asked e r = cc

@@ -9,10 +9,11 @@ use Rattle.script_run.specs.declared.status.Status.{Status}
 use Rattle.script_run.specs.declared.status.Status.TheVariants.{Done, Refused, Words, Memory, ReadFault, WriteFault}
 use Rattle.script_run.specs.Scripts.{Holdings, ScriptRun, ScriptMeans}
 use Rattle.script_run.proofs.Leaving.{answered_as}
-use Rattle.smt_top.specs.Arguments.{ProofNames, Asked, runs, checks, limits_by}
+use Rattle.smt_top.specs.Arguments.{ProofNames, Asked, runs, checks, generates, limits_by}
 use Rattle.smt_top.specs.Output.{longest_line}
+use Rattle.smt_top.specs.Generated.{GenMeans}
 use Rattle.smt_top.specs.RunMeans.{CheckMeans, RunMeans, AreHeld, BothHold, IsUnread}
-use Rattle.smt_top.specs.InMemory.{WritesBytes, LacksRoom, GrowsByPrefix, CheckEndsInMemory, ScriptEndsInMemory, UsageEndsInMemory, EndsInMemory}
+use Rattle.smt_top.specs.InMemory.{WritesBytes, LacksRoom, GrowsByPrefix, CheckEndsInMemory, ScriptEndsInMemory, UsageEndsInMemory, GenEndsInMemory, EndsInMemory}
 
 -- a text that is known, and is this one
 known_is : (o : Option (List ℕ)) (text : List ℕ) → IsSome o → IfSome o (λ t. t ≡ text) → o ≡ Some text
@@ -55,6 +56,14 @@ module _ (texts : List Text) (old new : SinkState) where
   usage_ends ReadFault h = absurd (false≢true h.0)
   usage_ends WriteFault h = (cut _ h.0, lacks_room longest_line h.1)
 
+  made : (status : Status) (n : ℕ) → GenMeans status n before after → GenEndsInMemory status n old new
+  made Done n (line, is, w) = (line, is, grows _ w.0)
+  made Refused n h = h
+  made Words n h = h
+  made Memory n h = same_written old new h
+  made ReadFault n h = h
+  made WriteFault n (line, is, w) = (line, is, cut _ w)
+
   checked : (status : Status) (n : ProofNames) → CheckMeans status (Some n) (text_named texts) before after
       → BothHold (Some n) (text_named texts) ⊎ IsUnread status before after → CheckEndsInMemory status n texts old new
   checked Done n (script, proof, s, p, (valid, w)) (inl held) = (script, proof, known_is _ script held.0 s, known_is _ proof held.1 p, (valid, grows _ w.0))
@@ -94,10 +103,12 @@ module _ (texts : List Text) (old new : SinkState) where
       → AreHeld asked (text_named texts) ⊎ IsUnread status before after → EndsInMemory status asked texts old new
   ends_in_memory status None h found = usage_ends status h
   ends_in_memory status (Some (checks n)) h found = checked status n h found
+  ends_in_memory status (Some (generates n)) h found = made status n h
   ends_in_memory status (Some (runs mode name conflicts)) h found = ran status (record { mode = mode; name = name; limits = limits_by conflicts }) h found
 
 -- where the sink failed, its count of faults rose
 pub fault_counted : (asked : Option Asked) (holds : Holdings) (old new : SinkView) → RunMeans WriteFault asked holds old new → Rose old.faults new.faults
 fault_counted None holds old new h = h.0.failed
+fault_counted (Some (generates n)) holds old new (line, is, w) = w.failed
 fault_counted (Some (checks n)) holds old new ((script, proof, s, p, (found, v, w)), room) = w.failed
 fault_counted (Some (runs mode name conflicts)) holds old new (text, e, (begun, t, say, d)) = d.failed

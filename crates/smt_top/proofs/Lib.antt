@@ -5,6 +5,8 @@ pub mod Numbers
 pub mod Asked
 pub mod Lengths
 pub mod InMemory
+pub mod Answering
+pub mod ScriptLines
 pub mod Buffers
 pub mod Taken
 pub mod CommandLines

@@ -5,7 +5,7 @@ use Rattle.script_run.specs.declared.status.Status.{Status}
 use Rattle.script_run.specs.declared.status.Status.TheVariants.{Done, Refused, Words, Memory, ReadFault, WriteFault}
 use Rattle.script_run.specs.Runs.{code_of}
 use Rattle.script_run.specs.Scripts.{Holdings}
-use Rattle.smt_top.specs.Arguments.{Asked, runs, checks, asked, asked_of}
+use Rattle.smt_top.specs.Arguments.{Asked, runs, checks, generates, asked, asked_of}
 use Rattle.smt_top.specs.CommandLine.{AreTaken}
 use Rattle.smt_top.specs.RunMeans.{RunMeans, is_answered}
 use Rattle.smt_top.specs.Program.{Exits}
@@ -19,6 +19,7 @@ asked_by_bytes arguments = refl
 runs_out : (wanted : Option Asked) (holds : Holdings) (s : SinkView) → RunMeans Memory wanted holds s s
 runs_out None holds s = refl
 runs_out (Some (checks n)) holds s = refl
+runs_out (Some (generates n)) holds s = refl
 runs_out (Some (runs mode name conflicts)) holds s = inr refl
 
 -- some arguments are taken

@@ -25,6 +25,8 @@ pub data Asked : Type 0 where
   runs : Mode → List ℕ → ℕ → Asked
   -- a proof is to be judged against a script
   checks : ProofNames → Asked
+  -- the script of this size is to be made and run
+  generates : ℕ → Asked
 
 -- an option of this name, with any word as its value
 abbrev pub option_named : Text → Rule
@@ -43,6 +45,10 @@ abbrev pub check_app : App
 check_app = with_rule (with_rule (with_rule (new_app (codes "check")) (option_named (codes "at")))
     (required_argument (codes "script"))) (required_argument (codes "proof"))
 
+-- the command `gen N`
+abbrev pub gen_app : App
+gen_app = with_rule (new_app (codes "gen")) (required_argument (codes "size"))
+
 -- the program without its commands: one must be there, and no word asks for help or a version
 abbrev pub bare_app : App
 bare_app =
@@ -56,10 +62,13 @@ bare_app =
       };
     }
 
+-- the program with the commands that run a script, and no other
+abbrev pub app_with_runs : App
+app_with_runs = with_subcommand (with_subcommand bare_app (run_app (codes "solve")).top) (run_app (codes "certify")).top
+
 -- the program
 abbrev pub smt_app : App
-smt_app = with_subcommand (with_subcommand (with_subcommand bare_app (run_app (codes "solve")).top)
-    (run_app (codes "certify")).top) check_app.top
+smt_app = with_subcommand (with_subcommand app_with_runs check_app.top) gen_app.top
 
 -- no number of the arguments is greater
 abbrev pub most_number : ℕ
@@ -79,6 +88,18 @@ unfoldable pub number_of : List ℕ → Option ℕ
 number_of word =
     let n = digits_value 10 word in
     if bytes_eq word (decimal n) && (nat_le 1 n && nat_le n most_number) then Some n else None
+
+-- no script that is made has a greater size
+abbrev pub most_size : ℕ
+most_size = 10000
+
+-- this number, where it is a size
+abbrev pub as_size : ℕ → Option ℕ
+as_size n = if nat_le n most_size then Some n else None
+
+-- the size of which the word is the digits, where there is one
+abbrev pub size_of : List ℕ → Option ℕ
+size_of word = option_and_then as_size (number_of word)
 
 -- the number that the value of an option stands for, and this one where the option has none
 abbrev pub number_or : ℕ → Option Text → Option ℕ
@@ -104,12 +125,17 @@ abbrev pub names_in : List Row → Option ProofNames
 names_in rows = all_three (first_of (codes "script") rows) (first_of (codes "proof") rows)
     (number_or 1 (first_of (codes "at") rows))
 
+-- the size that the value of `size` of a command's matches stands for
+abbrev pub size_in : List Row → Option ℕ
+size_in rows = option_and_then size_of (first_of (codes "size") rows)
+
 -- what a command asks for, by its name and its matches
 abbrev pub asked_in : Text × List Row → Option Asked
 asked_in m =
     if bytes_eq m.0 (codes "solve") then run_in solve m.1
     else if bytes_eq m.0 (codes "certify") then run_in certify m.1
     else if bytes_eq m.0 (codes "check") then option_map checks (names_in m.1)
+    else if bytes_eq m.0 (codes "gen") then option_map generates (size_in m.1)
     else None
 
 -- by the faults of the arguments and the command that they name

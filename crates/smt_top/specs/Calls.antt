@@ -16,7 +16,7 @@ use Rattle.smt_top.specs.declared.arguments.ArgumentsStop.{ArgumentsStop}
 use Rattle.smt_top.specs.declared.arguments.ArgumentsStop.TheVariants as stop
 use Rattle.script_run.specs.Scripts.{ScriptRun}
 use Rattle.smt_top.specs.RunMeans.{IsValid, IsRefused}
-use Rattle.smt_top.specs.Arguments.{ProofNames, Asked, runs, checks, limits_by}
+use Rattle.smt_top.specs.Arguments.{ProofNames, Asked, runs, checks, generates, limits_by}
 use Rattle.smt_top.specs.Output.{valid, output_of, longest_line}
 
 -- what was judged of a proof of a check of a script, and for an accepted one that nothing makes true what is asserted
@@ -47,6 +47,7 @@ run_of r = record { mode = mode_meant r.mode; name = r.name.now; limits = limits
 abbrev pub asked_by : Request → Asked
 asked_by (request.Run r) = runs (mode_meant r.mode) r.name.now r.conflicts
 asked_by (request.Check r) = checks (names_of r)
+asked_by (request.Generate n) = generates n
 
 -- what the arguments ask for, or that they ask for nothing, unless memory ran out
 abbrev pub Asks : Option Asked → Result Request ArgumentsStop → Type 0

@@ -6,10 +6,11 @@ use Rattle.spec_checking.specs.Accepted.{IsVerdict}
 use Rattle.script_run.specs.declared.status.Status.{Status}
 use Rattle.script_run.specs.declared.status.Status.TheVariants.{Done, Refused, Words, Memory, ReadFault, WriteFault}
 use Rattle.spec_sessions.specs.Statements.{OnTranscript, OnBegun}
-use Rattle.smt_top.specs.Arguments.{ProofNames, Asked, runs, checks, limits_by}
+use Rattle.smt_top.specs.Arguments.{ProofNames, Asked, runs, checks, generates, limits_by}
 use Rattle.script_run.specs.Scripts.{ScriptRun, OnRead}
 use Rattle.smt_top.specs.RunMeans.{IsValid}
 use Rattle.smt_top.specs.Output.{usage, valid, error_line, output_of, longest_line}
+use Rattle.smt_top.specs.Generated.{IsLineOf}
 
 -- both names have texts, and P is true of these and of the check that is meant
 abbrev pub OnNamed : ProofNames → List Text → (List ℕ → ℕ → List ℕ → Type 0) → Type 0
@@ -70,9 +71,17 @@ UsageEndsInMemory Memory old new = new.written ≡ old.written
 UsageEndsInMemory WriteFault old new = GrowsByPrefix old new usage × LacksRoom old longest_line
 UsageEndsInMemory _ old new = ⊥
 
+-- how a run of a script that is made ends, by its status
+abbrev pub GenEndsInMemory : Status → ℕ → SinkState → SinkState → Type 0
+GenEndsInMemory Done n old new = (line : List ℕ) × IsLineOf n line × WritesBytes old new line
+GenEndsInMemory Memory n old new = new.written ≡ old.written
+GenEndsInMemory WriteFault n old new = (line : List ℕ) × IsLineOf n line × GrowsByPrefix old new line
+GenEndsInMemory _ n old new = ⊥
+
 -- how a run ends, by what its arguments ask for and its status
 abbrev pub EndsInMemory : Status → Option Asked → List Text → SinkState → SinkState → Type 0
 EndsInMemory status None texts old new = UsageEndsInMemory status old new
 EndsInMemory status (Some (checks n)) texts old new = CheckEndsInMemory status n texts old new
+EndsInMemory status (Some (generates n)) texts old new = GenEndsInMemory status n old new
 EndsInMemory status (Some (runs mode name conflicts)) texts old new =
     ScriptEndsInMemory status (record { mode = mode; name = name; limits = limits_by conflicts }) texts old new

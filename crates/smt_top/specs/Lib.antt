@@ -1,6 +1,7 @@
 -- The definitions that contracts cite.
 pub mod Arguments
 pub mod Output
+pub mod Generated
 pub mod RunMeans
 pub mod Calls
 pub mod InMemory

@@ -8,7 +8,8 @@ use Rattle.spec_models.specs.Replies.{error_text}
 abbrev pub usage : List ℕ
 usage = (codes "usage: smt_cli solve [--conflicts N] [NAME]\n"
     ++ codes "       smt_cli certify [--conflicts N] [NAME]\n"
-    ++ codes "       smt_cli check [--at K] SCRIPT PROOF\n")
+    ++ codes "       smt_cli check [--at K] SCRIPT PROOF\n"
+    ++ codes "       smt_cli gen N\n")
 
 -- the proof is accepted
 abbrev pub valid : List ℕ

@@ -11,8 +11,9 @@ use Rattle.script_run.specs.declared.status.Status.{Status}
 use Rattle.script_run.specs.declared.status.Status.TheVariants.{Done, Refused, Words, Memory, ReadFault, WriteFault}
 use Rattle.smt_session.specs.Sessions.{Delivers}
 use Rattle.script_run.specs.Scripts.{Holdings, TakesText, ScriptMeans, ReadsSoFar}
-use Rattle.smt_top.specs.Arguments.{ProofNames, Asked, runs, checks, limits_by}
+use Rattle.smt_top.specs.Arguments.{ProofNames, Asked, runs, checks, generates, limits_by}
 use Rattle.smt_top.specs.Output.{usage, valid, error_line, output_of, longest_line}
+use Rattle.smt_top.specs.Generated.{GenMeans}
 
 -- a sink with a buffer before it, by how the sink is seen
 abbrev pub through : {K : Type 0} → (K → SinkView) → BufferedSink K → SinkView
@@ -89,21 +90,31 @@ is_answered _ = false
 abbrev pub RunMeans : Status → Option Asked → Holdings → SinkView → SinkView → Type 0
 RunMeans status None holds old new = CheckMeans status None holds old new
 RunMeans status (Some (checks n)) holds old new = CheckMeans status (Some n) holds old new
+RunMeans status (Some (generates n)) holds old new = GenMeans status n old new
 RunMeans status (Some (runs mode name conflicts)) holds old new =
     ScriptMeans status (record { mode = mode; name = name; limits = limits_by conflicts }) holds old new
 
 -- where a read fails: what was written is exactly the responses to the commands that were read; for a proof to judge
--- nothing was
+-- nothing was; where a script is made none fails
 abbrev pub AnswersSoFar : Option Asked → Holdings → (before left : Option (List ℕ)) → SinkView → SinkView → Type 0
 AnswersSoFar None holds before left old new = ⊤
 AnswersSoFar (Some (checks n)) holds before left old new = new ≡ old
+AnswersSoFar (Some (generates n)) holds before left old new = ⊥
 AnswersSoFar (Some (runs mode name conflicts)) holds before left old new =
     ReadsSoFar (record { mode = mode; name = name; limits = limits_by conflicts }) (holds name) before left old new
+
+-- no text is asked for
+abbrev pub AsksNoText : Option Asked → Type 0
+AsksNoText None = ⊤
+AsksNoText (Some (generates n)) = ⊤
+AsksNoText (Some (checks n)) = ⊥
+AsksNoText (Some (runs mode name conflicts)) = ⊥
 
 -- the texts that are asked for are held
 abbrev pub AreHeld : Option Asked → Holdings → Type 0
 AreHeld None holds = ⊤
 AreHeld (Some (checks n)) holds = BothHold (Some n) holds
+AreHeld (Some (generates n)) holds = ⊤
 AreHeld (Some (runs mode name conflicts)) holds = IsSome (holds name)
 
 -- the run ended, and nothing was written: the shelf failed, or memory ran out
@@ -115,4 +126,5 @@ IsUnread status old new = ((status ≡ ReadFault) ⊎ (status ≡ Memory)) × (n
 abbrev pub LastIsRead : Option Asked → Holdings → Option (List ℕ) → Type 0
 LastIsRead None holds left = ⊤
 LastIsRead (Some (checks n)) holds left = ProofIsLast (Some n) holds left
+LastIsRead (Some (generates n)) holds left = ⊤
 LastIsRead (Some (runs mode name conflicts)) holds left = TakesText (holds name) left

@@ -5,7 +5,7 @@ ghost use Rattle.clap.specs.Words.{app_of, rule_of, FailsBy, fault_of, first_of,
 ghost use Rattle.clap.specs.declared.builder.command.Command.TheViews.{out-Command};
 ghost use Rattle.smt_session.specs.Sessions.{mode_meant};
 ghost use Rattle.smt_top.specs.Calls.{names_of, asked_by, Asks};
-ghost use Rattle.smt_top.specs.Arguments.{asked, asked_in, IsNumber, number_of, number_or, run_in, names_in, option_named, required_argument, run_app, check_app, bare_app, smt_app};
+ghost use Rattle.smt_top.specs.Arguments.{asked, asked_in, IsNumber, number_of, number_or, run_in, names_in, size_of, size_in, option_named, required_argument, run_app, check_app, gen_app, bare_app, app_with_runs, smt_app};
 
 use clap::error::ErrorKind;
 use clap::{Arg, ArgMatches, Command, Error};
@@ -17,7 +17,10 @@ use std::alloc::{AllocError, Global};
 const MOST_NUMBER: u64 = 1_000_000_000;
 
 /// How many conflicts a search may learn from where no argument says so.
-const USUAL_CONFLICTS: u64 = 1_000_000;
+pub(crate) const USUAL_CONFLICTS: u64 = 1_000_000;
+
+/// No script that is made has a greater size.
+const MOST_SIZE: u64 = 10_000;
 
 /// Holds the names of the two texts.
 #[derive(Clone, Copy)]
@@ -55,6 +58,8 @@ pub(crate) enum Request<'a> {
     Run(RunRequest<'a>),
     /// A proof is to be judged against a script.
     Check(CheckRequest<'a>),
+    /// The script of this size, from 1 to 10,000, is to be made and run.
+    Generate(u64),
 }
 
 /// Tells why arguments give no request.
@@ -66,12 +71,12 @@ pub(crate) enum ArgumentsStop {
     Memory,
 }
 
-/// Gives what the arguments after the program's name ask for: `solve [--conflicts N] [NAME]`, `certify` with the same, or
-/// `check [--at K] SCRIPT PROOF`.
+/// Gives what the arguments after the program's name ask for: `solve [--conflicts N] [NAME]`, `certify` with the same,
+/// `check [--at K] SCRIPT PROOF`, or `gen SIZE`.
 ///
-/// N and K are from 1 to 1,000,000,000, in decimal digits. Where they are not given, a search may learn from 1,000,000 conflicts,
-/// K is 1, and NAME is empty. `Wrong` comes for all other arguments. `Memory` comes only where an allocation was refused,
-/// whatever the arguments are.
+/// N and K are from 1 to 1,000,000,000, SIZE is from 1 to 10,000, in decimal digits. Where they are not given, a search may
+/// learn from 1,000,000 conflicts, K is 1, and NAME is empty. `Wrong` comes for all other arguments. `Memory` comes only where
+/// an allocation was refused, whatever the arguments are.
 pub(crate) fn request_from<'a>(
     alloc: Global,
     arguments: &'a [String],
@@ -136,6 +141,16 @@ fn check_command<'a>(alloc: Global) -> Result<Command<'a>, AllocError>
         .arg(required_argument(alloc, "proof"))
 }
 
+/// Makes the command `gen`.
+///
+/// `AllocError` comes where an allocation was refused.
+fn gen_command<'a>(alloc: Global) -> Result<Command<'a>, AllocError>
+    ensures app { IfOk result (λ c. app_of c ≡ gen_app) }
+    ensures own { IfOk result (λ c. (out-Command c).has_globals ≡ false) }
+{
+    Command::new(alloc, "gen").arg(required_argument(alloc, "size"))
+}
+
 /// Makes the program's command without those below it.
 fn bare_command<'a>(alloc: Global) -> Command<'a>
     ensures { app_of result ≡ bare_app }
@@ -147,19 +162,28 @@ fn bare_command<'a>(alloc: Global) -> Command<'a>
         .subcommand_required(true)
 }
 
-/// Makes the program's command, with `solve`, `certify` and `check` below it.
+/// Makes the program's command with `solve` and `certify` below it.
+///
+/// `AllocError` comes where an allocation was refused.
+fn command_with_runs<'a>(alloc: Global) -> Result<Command<'a>, AllocError>
+    ensures { IfOk result (λ c. app_of c ≡ app_with_runs) }
+{
+    let solve = run_command(alloc, "solve")?;
+    let certify = run_command(alloc, "certify")?;
+    bare_command(alloc).subcommand(solve)?.subcommand(certify)
+}
+
+/// Makes the program's command, with `solve`, `certify`, `check` and `gen` below it.
 ///
 /// `AllocError` comes where an allocation was refused.
 fn whole_command<'a>(alloc: Global) -> Result<Command<'a>, AllocError>
     ensures { IfOk result (λ c. app_of c ≡ smt_app) }
 {
-    let solve = run_command(alloc, "solve")?;
-    let certify = run_command(alloc, "certify")?;
     let check = check_command(alloc)?;
-    bare_command(alloc)
-        .subcommand(solve)?
-        .subcommand(certify)?
-        .subcommand(check)
+    let generate = gen_command(alloc)?;
+    command_with_runs(alloc)?
+        .subcommand(check)?
+        .subcommand(generate)
 }
 
 /// Reads the arguments by the program's command.
@@ -183,7 +207,7 @@ fn request_of<'a>(matches: &ArgMatches<'a>) -> Option<Request<'a>>
     request_in(name, found)
 }
 
-/// Gives what a command of this name asks for by its matches, and `None` where it is none of the three, or a value is missing or
+/// Gives what a command of this name asks for by its matches, and `None` where it is none of the four, or a value is missing or
 /// is no number.
 fn request_in<'a>(name: &str, found: &ArgMatches<'a>) -> Option<Request<'a>>
     ensures { option_map asked_by result ≡ asked_in (name.now, rows_of (found_of found.now)) }
@@ -192,6 +216,7 @@ fn request_in<'a>(name: &str, found: &ArgMatches<'a>) -> Option<Request<'a>>
         "solve" => Some(Request::Run(run_in(Mode::Solve, found)?)),
         "certify" => Some(Request::Run(run_in(Mode::Certify, found)?)),
         "check" => Some(Request::Check(check_in(found)?)),
+        "gen" => Some(Request::Generate(size_in(found)?)),
         _ => None,
     }
 }
@@ -220,6 +245,21 @@ fn check_in<'a>(found: &ArgMatches<'a>) -> Option<CheckRequest<'a>>
         names: Names { script, proof },
         at,
     })
+}
+
+/// Gives the size that the matches of `gen` ask for, and `None` where the value is missing or is no size.
+fn size_in<'a>(found: &ArgMatches<'a>) -> Option<u64>
+    ensures { result ≡ size_in (rows_of (found_of found.now)) }
+{
+    size_of(value_of(found, "size")?)
+}
+
+/// Gives the size from 1 to 10,000 of which a word is the decimal digits, as `number_of` does, and `None` where there is none.
+fn size_of(word: &str) -> Option<u64>
+    ensures { result ≡ size_of word.now }
+{
+    let n = number_of(word)?;
+    if n <= MOST_SIZE { Some(n) } else { None }
 }
 
 /// Gives the value of an argument, where it has one.

@@ -1,9 +1,9 @@
 //! A run through a buffer before a sink.
 
-ghost use Rattle.std.specs.Prelude.{◌≡◌, ◌≢◌, ◌≤◌, ◌⊎◌, ℕ, List, [], None, IsSome};
+ghost use Rattle.std.specs.Prelude.{◌≡◌, ◌≢◌, ◌≤◌, ◌⊎◌, ℕ, List, [], IsSome};
 ghost use Rattle.world_io.specs.Outside.{Rose};
 ghost use Rattle.smt_top.specs.Arguments.{asked};
-ghost use Rattle.smt_top.specs.RunMeans.{RunMeans, AnswersSoFar, AreHeld, LastIsRead, IsUnread, is_answered, through};
+ghost use Rattle.smt_top.specs.RunMeans.{RunMeans, AnswersSoFar, AsksNoText, AreHeld, LastIsRead, IsUnread, is_answered, through};
 
 use crate::run;
 use script_run::Status;
@@ -31,7 +31,7 @@ pub fn run_buffered<F: Shelf, K: Sink + Drop>(
         → result ≢ Status.ReadFault }
     ensures order { result ≢ Status.Memory → result ≢ Status.ReadFault
         → LastIsRead (asked arguments.now) (F.holds shelf.old) (F.left shelf.new) }
-    ensures unasked { asked arguments.now ≡ None → shelf.new ≡ shelf.old }
+    ensures unasked { AsksNoText (asked arguments.now) → shelf.new ≡ shelf.old }
     ensures found { ((s : F) → IsSome (F.left s)) → AreHeld (asked arguments.now) (F.holds shelf.old)
         ⊎ IsUnread result (through K.state out.old) (through K.state out.new) }
     ensures same { (n : List ℕ) → F.holds shelf.new n ≡ F.holds shelf.old n }

@@ -4,10 +4,11 @@ ghost use Rattle.std.specs.Prelude.{◌≡◌, ◌≢◌, ℕ, ◌≤◌, ◌⊎
 ghost use Rattle.world_io.specs.Outside.{Rose};
 ghost use Rattle.smt_top.specs.Arguments.{asked};
 ghost use Rattle.smt_top.specs.Calls.{names_of, run_of};
-ghost use Rattle.smt_top.specs.RunMeans.{BothHold, ProofIsLast, CheckMeans, RunMeans, AnswersSoFar, AreHeld, LastIsRead, IsUnread};
+ghost use Rattle.smt_top.specs.RunMeans.{BothHold, ProofIsLast, CheckMeans, RunMeans, AnswersSoFar, AsksNoText, AreHeld, LastIsRead, IsUnread};
 ghost use Rattle.script_run.specs.Scripts.{Holdings, TakesText, ScriptMeans, ReadsSoFar};
 
 use crate::arguments::{ArgumentsStop, CheckRequest, Request, RunRequest, request_from};
+use crate::generated::run_generated;
 use crate::output::write_usage;
 use crate::read::read_both;
 use crate::verdict::{judge, report};
@@ -96,11 +97,15 @@ fn run_usage<K: Sink>(out: &mut K) -> Status
 ///   responses to all that are were written and passed on.
 /// - `check [--at K] SCRIPT PROOF` judges the proof against the script's K-th check, from 1, or the first where K is not
 ///   given: it writes `valid`, or the proof's first fault with its line and column.
+/// - `gen SIZE` makes the script of that size, runs it as `certify` does, and writes a line: the size, the answer of its one
+///   check, how many clauses were learned and pivots made, and of how many bytes the evidence is. The proof is judged
+///   before, if `check` would read it.
 /// - All other arguments give the usage text, and `Words`.
 ///
-/// `Done` and `Refused` tell of a script whether something in it was refused, of a proof whether it is accepted. `Memory`
-/// comes where an allocation was refused, `ReadFault` where the shelf failed. Of a script exactly the responses to the commands
-/// are written then that the bytes hold which were read: a shelf may fail at each read, so this is so where each read begins.
+/// `Done` and `Refused` tell of a script whether something in it was refused, of a proof whether it is accepted. `Refused`
+/// never comes of a script that is made. `Memory` comes where an allocation was refused, `ReadFault` where the shelf failed.
+/// Of a script exactly the responses to the commands are written then that the bytes hold which were read: a shelf may fail
+/// at each read, so this is so where each read begins.
 /// `WriteFault` comes where the sink failed: what was written is a prefix of what was to be written for the commands that were
 /// run, or of the line, and the sink had no room for all of it.
 ///
@@ -121,7 +126,7 @@ pub fn run<F: Shelf, K: Sink>(
         → result ≢ Status.ReadFault }
     ensures order { result ≢ Status.Memory → result ≢ Status.ReadFault
         → LastIsRead (asked arguments.now) (F.holds shelf.old) (F.left shelf.new) }
-    ensures unasked { asked arguments.now ≡ None → shelf.new ≡ shelf.old }
+    ensures unasked { AsksNoText (asked arguments.now) → shelf.new ≡ shelf.old }
     ensures found { ((s : F) → IsSome (F.left s)) → AreHeld (asked arguments.now) (F.holds shelf.old)
         ⊎ IsUnread result (K.state out.old) (K.state out.new) }
     ensures same { (n : List ℕ) → F.holds shelf.new n ≡ F.holds shelf.old n }
@@ -131,6 +136,7 @@ pub fn run<F: Shelf, K: Sink>(
     match request_from(alloc, arguments) {
         Ok(Request::Check(request)) => run_check(alloc, request, shelf, out),
         Ok(Request::Run(request)) => run_script(alloc, request, shelf, out),
+        Ok(Request::Generate(size)) => run_generated(alloc, size, out),
         Err(ArgumentsStop::Wrong) => run_usage(out),
         Err(ArgumentsStop::Memory) => Status::Memory,
     }

@@ -1,19 +1,24 @@
-//! One run over the whole language: it reads the arguments, and runs a script, or judges a proof against one.
+//! One run over the whole language: it reads the arguments, and runs a script, or judges a proof against one, or makes a
+//! script and runs it.
 #![tactic(auto)]
 
+mod answered;
 mod arguments;
 mod buffered;
 mod check_run;
 mod command_line;
+mod generated;
 mod in_memory;
 mod output;
 mod program;
 mod read;
+mod vec_sink;
 mod verdict;
 
 pub use buffered::run_buffered;
 pub use check_run::run;
 pub use command_line::{CommandLine, HostCommandLine, UnreadArguments, arguments_of};
+pub use generated::gen_line;
 pub use in_memory::run_in_memory;
 pub use program::{ProgramEnd, exit_code, run_command_line, run_program};
 pub use script_run::{Status, run_text};

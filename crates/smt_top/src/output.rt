@@ -13,7 +13,7 @@ use world_io::{Failed, Sink, write_all};
 
 /// The usage text.
 const USAGE: &[u8] =
-    b"usage: smt_cli solve [--conflicts N] [NAME]\n       smt_cli certify [--conflicts N] [NAME]\n       smt_cli check [--at K] SCRIPT PROOF\n";
+    b"usage: smt_cli solve [--conflicts N] [NAME]\n       smt_cli certify [--conflicts N] [NAME]\n       smt_cli check [--at K] SCRIPT PROOF\n       smt_cli gen N\n";
 
 /// The line of a proof that is accepted.
 const VALID: &[u8] = b"valid\n";
