@@ -17,6 +17,7 @@ stages        how long `solve`, the printing of a proof and `check` take, on the
 growing       scripts and proofs that grow tenfold, and texts that have to be refused at once
 closure       congruence closure alone
 simplex       simplex alone
+gen           scripts that `gen` makes
 
 Times are those of a processor, in the program and in the system for it, so that other work on the machine counts
 little. Memory is the most that was resident. The status is 1 where something is wrong or too long, which is then
@@ -33,6 +34,7 @@ sys.path[:0] = [os.path.join(FOLDER, *parts) for parts in (("race",), ("race", "
 
 import closure
 import formulas
+import generated
 import growing_texts
 import number_formulas
 import real_scripts
@@ -51,6 +53,7 @@ GROUPS = {
     "growing": growing_texts.GROUP,
     "closure": closure.GROUP,
     "simplex": simplex.GROUP,
+    "gen": generated.GROUP,
 }
 
 
