@@ -65,7 +65,7 @@ module _ (p q : Problem) (terms : terms_of_problem p ≡ terms_of_problem q) (in
       (clauses (at_first q) (at_first p) (λ t. subst (λ (ts : List Term). Contains ts t) (sym terms)) fewer)
 
   -- so what could be learned next of the first problem could be of the second, and stands apart
-  conflict_too : (d : Derivation) (cs : List (List Literal)) (x : CanLearnMore p d cs) → StandsApart p x.clause → (y : CanLearnMore q d cs) × StandsApart q y.clause
+  conflict_too : (d : Derivation) (cs : List (List Literal)) (x : CanLearnMore p d [] cs) → StandsApart p x.clause → (y : CanLearnMore q d [] cs) × StandsApart q y.clause
   conflict_too d cs x apart =
       let new = more_joined (map literals_of (first_clauses q)) cs (map literals_of (first_clauses p)) cs firsts (λ u i. i) in (
         record {
@@ -90,7 +90,7 @@ module _ (p q : Problem) (terms : terms_of_problem p ≡ terms_of_problem q) (in
   pub spent_too : (limit carried : ℕ) (d : Derivation) (learned : List (List Literal)) → IsSpentOn p limit carried d learned → IsSpentOn q limit carried d learned
   spent_too limit carried d learned h =
       let conflict = conflict_too d learned h.conflict h.conflict_apart in record {
-        spent = record { full = h.spent.full; carries = h.spent.carries; learns = learned_of q p terms interface fewer d learned h.spent.learns };
+        spent = record { full = h.spent.full; carries = h.spent.carries; learns = learned_of q p terms interface fewer d [] learned h.spent.learns };
         conflict = conflict.0;
         apart = all_apart_too learned h.apart;
         conflict_apart = conflict.1;
@@ -100,7 +100,7 @@ module _ (p q : Problem) (terms : terms_of_problem p ≡ terms_of_problem q) (in
   pub kept_too : (limits : Limits) (k : Kept) → IsKeptOf limits p k → IsKeptOf limits q k
   kept_too limits k h = record {
     learned = h.learned;
-    learns = learned_of q p terms interface fewer k.derivation k.learned h.learns;
+    learns = learned_of q p terms interface fewer k.derivation [] k.learned h.learns;
     apart = all_apart_too k.learned h.apart;
   }
 

@@ -39,7 +39,7 @@ texts_true g i xs same each = λ k d lt.
     same k d lt ∙ ap (value_at i []) (sym (get_or-map (λ (a : Assertion). a.term) xs k d (d.term) lt)) ∙ each k d.term (omega (arith, length-map xs (λ (a : Assertion). a.term), lt))
 
 module _ (limits : Limits) (t : TableView) (c : Check) (symbols : symbols_in (signature_of c.stack) ≡ t.symbols) (o : Outcome) where
-  pub model_shown : ((i : Interpretation) → All (HasValue (signature_of c.stack) i) (asked c)) → (interp : Interp) → o.answer ≡ Sat interp → (interface : List Term) → HasEvidence t (all_asserted c interface) o.log o.budget (Sat interp) → IsShown limits t c (found.Model interp) o
+  pub model_shown : ((i : Interpretation) → All (HasValue (signature_of c.stack) i) (asked c)) → (interp : Interp) → o.answer ≡ Sat interp → (interface : List Term) → HasEvidence t (all_asserted c interface) o.log [] o.budget (Sat interp) → IsShown limits t c (found.Model interp) o
   model_shown values interp is interface h =
       let i = h.interpretation.0 in
       let represents = h.interpretation.1 in
@@ -76,7 +76,7 @@ module _ (limits : Limits) (t : TableView) (c : Check) (symbols : symbols_in (si
     problem_is : IsProblemOf c problem
     problem_is = record { interface = d.interface; equalities = subst (λ ts. All (IsInterfaceEquality (subterms_of ts)) d.interface) (same_terms c []) d.equalities; is = refl }
 
-    conflicts_shown : (n : ℕ) → o.answer ≡ Unknown (reasons.Conflicts n) → HasEvidence t decided o.log o.budget (Unknown (reasons.Conflicts n)) → IsShown limits t c (found.Reason (reasons.Conflicts n)) o
+    conflicts_shown : (n : ℕ) → o.answer ≡ Unknown (reasons.Conflicts n) → HasEvidence t decided o.log [] o.budget (Unknown (reasons.Conflicts n)) → IsShown limits t c (found.Reason (reasons.Conflicts n)) o
     conflicts_shown n is h =
         let e = derivation_in t o.log in
         let learned = map (map (literal_at t)) o.budget.learned in
@@ -99,7 +99,7 @@ module _ (limits : Limits) (t : TableView) (c : Check) (symbols : symbols_in (si
       apart = d.justified.learning.apart;
     })
 
-    pub reason_shown : AreOverflows → ((a : Ratio) → fits (fraction a) ≡ true) → (r : Reason) → o.answer ≡ Unknown r → HasEvidence t decided o.log o.budget (Unknown r) → IsShown limits t c (found.Reason r) o
+    pub reason_shown : AreOverflows → ((a : Ratio) → fits (fraction a) ≡ true) → (r : Reason) → o.answer ≡ Unknown r → HasEvidence t decided o.log [] o.budget (Unknown r) → IsShown limits t c (found.Reason r) o
     reason_shown overflows bounded (reasons.Conflicts n) is h = conflicts_shown n is h
     reason_shown overflows bounded (reasons.Overflow x) is h =
         let es = o.budget.exchanges in

@@ -2,14 +2,14 @@
 use Rattle.std.proofs.Common.{◌≡◌, ◌≢◌, ℕ, ◌<◌, ◌≤◌, Bool, true, false, List, [], ◌++◌, length, get_or, take, map, Contains, inl, inr, refl, sym, ◌∙◌, subst, arith}
 use Rattle.std.specs.Prelude.{None}
 use Rattle.std.proofs.lemmas.List.{get_or_default}
-use Rattle.std.proofs.lemmas.List.Elements.{Contains-append_cases}
+use Rattle.std.proofs.lemmas.List.Elements.{Contains-append_left, Contains-append_right, Contains-append_cases}
 use Rattle.spec_text.proofs.Members.{from_image, none as no_element}
 use Rattle.spec_sorts.specs.Literals.{Clause, Literal, complement, literals_of}
 use Rattle.spec_derivations.specs.Problems.{Problem}
 use Rattle.spec_derivations.specs.Derivations.{Derivation}
 use Rattle.spec_derivations.specs.Orders.{whole_terms, whole_clauses, first_clauses}
 use Rattle.spec_derivations.specs.Learned.{IsNew}
-use Rattle.spec_derivations.specs.Spent.{IsAtomOf}
+use Rattle.spec_derivations.specs.Spent.{IsAtomOf, at_start}
 use Rattle.spec_derivations.proofs.Grown.{first_whole}
 use Rattle.spec_derivations.proofs.Learned.{decide_literals}
 use Rattle.spec_derivations.proofs.Quiet.{derived_holds}
@@ -33,7 +33,7 @@ use Rattle.search_loop.proofs.SearchNew.{image_back, quiet_images, consistent_im
 use Rattle.search_loop.proofs.SearchAtoms.{is_atom}
 
 module _ (t : TableView) (differ : AreDifferent t.terms) (x : Search) (r : SearchFits t x) (once : VariablesAreApart x.trail.literals) (leveled : IsLeveled x.trail) (consistent : IsConsistent x.trail.literals)
-    (problem : Problem) (d : Derivation) (learned : List (List Literal)) (h : HasDerived problem d (images t x.store.clauses) learned) (w : HasWholeClauses problem d (images t x.store.clauses)) where
+    (problem : Problem) (d : Derivation) (earlier learned : List (List Literal)) (h : HasDerived problem d (images t x.store.clauses) earlier learned) (w : HasWholeClauses problem d (images t x.store.clauses)) where
   -- each clause that a search begins with, and what was learned, is a clause of the store
   from_store : (c : List Literal) → Contains (images t x.store.clauses) c → (e : List Lit) × Contains x.store.clauses e × (map (literal_at t) e ≡ c)
   from_store c i = from_image (map (literal_at t)) x.store.clauses c i
@@ -41,10 +41,13 @@ module _ (t : TableView) (differ : AreDifferent t.terms) (x : Search) (r : Searc
   from_search : (c : Clause) → Contains (whole_clauses problem) c → (e : List Lit) × Contains x.store.clauses e × (map (literal_at t) e ≡ literals_of c)
   from_search c i = from_store (literals_of c) (w.base c i)
 
-  from_clauses : (c : List Literal) → Contains (map literals_of (first_clauses problem) ++ learned) c → (e : List Lit) × Contains x.store.clauses e × (map (literal_at t) e ≡ c)
-  from_clauses c i = elim (Contains-append_cases (map literals_of (first_clauses problem)) learned c i) [
-    | inl b ↦ let u = from_image literals_of (first_clauses problem) c b in let e = from_search u.0 (first_whole problem u.0 u.1) in (e.0, e.1, e.2 ∙ u.2)
-    | inr l ↦ from_store c (h.kept c l)
+  from_clauses : (c : List Literal) → Contains (at_start problem earlier ++ learned) c → (e : List Lit) × Contains x.store.clauses e × (map (literal_at t) e ≡ c)
+  from_clauses c i = elim (Contains-append_cases (at_start problem earlier) learned c i) [
+    | inl a ↦ elim (Contains-append_cases earlier (map literals_of (first_clauses problem)) c a) [
+      | inl e ↦ from_store c (h.kept c (Contains-append_left earlier learned c e))
+      | inr b ↦ let u = from_image literals_of (first_clauses problem) c b in let e = from_search u.0 (first_whole problem u.0 u.1) in (e.0, e.1, e.2 ∙ u.2)
+    ]
+    | inr l ↦ from_store c (h.kept c (Contains-append_right earlier learned c l))
   ]
 
   -- a clause is new whose literals but one are false before a decision
@@ -53,8 +56,8 @@ module _ (t : TableView) (differ : AreDifferent t.terms) (x : Search) (r : Searc
     in_all l i = let e = early_place x.trail.literals p l (omega (arith, within)) i in (e.0, e.2, sym (get_or_default x.trail.literals e.0 no_lit l e.2) ∙ e.3)
 
     new_before : (clause : List Lit) (one : Lit) → IsIn t one.term → Contains clause one → (Contains (take p x.trail.literals) one → ⊥) → ((m : Lit) → Contains clause m → m ≢ one → Contains (take p x.trail.literals) (lit_complement m))
-        → IsNew (map literals_of (first_clauses problem) ++ learned) (map (literal_at t) clause)
-    new_before clause one one_in has_one not_held others = new_at t differ x.store.clauses (clauses_in t x r) (map literals_of (first_clauses problem) ++ learned) from_clauses
+        → IsNew (at_start problem earlier ++ learned) (map (literal_at t) clause)
+    new_before clause one one_in has_one not_held others = new_at t differ x.store.clauses (clauses_in t x r) (at_start problem earlier ++ learned) from_clauses
         (take p x.trail.literals) (λ l i. held_in t x r l (in_all l i)) (λ l i j. consistent l (in_all l i) (in_all (lit_complement l) j)) (r.decided.quiet p within none) clause one one_in has_one not_held others
 
   -- of a literal that is false since a level above 0
@@ -109,7 +112,7 @@ module _ (t : TableView) (differ : AreDifferent t.terms) (x : Search) (r : Searc
           neither true (image_back t differ front there one false_in holds)
 
   -- a clause with one literal of a level above 0 and others of levels below is new
-  pub one_is_new : (clause : List Lit) (n level : ℕ) → HasOneAt x.trail clause n level → 0 < n → IsNew (map literals_of (first_clauses problem) ++ learned) (map (literal_at t) clause)
+  pub one_is_new : (clause : List Lit) (n level : ℕ) → HasOneAt x.trail clause n level → 0 < n → IsNew (at_start problem earlier ++ learned) (map (literal_at t) clause)
   one_is_new clause n level o above =
       let p = decision_of x.trail once leveled n above (topped o.one n o.of_level) in
       new_before p.0 p.1 p.2 clause o.one (false_in o.one n o.of_level) o.there (not_before x.trail once leveled p.0 p.1 p.2 consistent o.one n o.of_level)

@@ -41,7 +41,7 @@ abbrev budget_of : Limits → BudgetView
 budget_of limits = record { limit = limits.conflicts; learned = []; exchanges = [] }
 
 module _ (begun : (s : StoreView) (v : TrailView) → v.propagated ≡ 0 → HasSeen s v) (implied : (s : StoreView) → AreImplied s no_trail) (right : (t : TableView) → IsLogOf t [])
-    (limits : Limits) (x : Search) (log : x.log ≡ []) (store : x.store ≡ no_clauses) (trail : x.trail ≡ no_trail) (terms : x.terms.items ≡ []) (atoms : x.atoms.items ≡ []) (decider : x.decider ≡ []) (budget : x.budget ≡ budget_of limits) (fed : x.fed ≡ 0) where
+    (limits : Limits) (x : Search) (log : x.log ≡ []) (store : x.store ≡ no_clauses) (trail : x.trail ≡ no_trail) (terms : x.terms.items ≡ []) (atoms : x.atoms.items ≡ []) (decider : x.decider ≡ []) (budget : x.budget ≡ budget_of limits) (fed : x.fed ≡ 0) (since : x.since ≡ 0) where
   fits : (t : TableView) → SearchFits t x
   fits t = record {
     right = subst (IsLogOf t) (sym log) (right t);
@@ -60,7 +60,7 @@ module _ (begun : (s : StoreView) (v : TrailView) → v.propagated ≡ 0 → Has
 
   pub empty_search : IsEmptySearch limits x
   empty_search = record {
-    blank = record { log = log; clauses = ap (λ (s : StoreView). s.clauses) store; terms = terms; learned = ap (λ (b : BudgetView). b.learned) budget };
+    blank = record { log = log; clauses = ap (λ (s : StoreView). s.clauses) store; terms = terms; learned = ap (λ (b : BudgetView). b.learned) budget; since = since };
     ready = fits;
     empty = ap (λ (v : TrailView). v.literals) trail;
     level = ap (λ (v : TrailView). v.level) trail;

@@ -23,16 +23,16 @@ use Rattle.proof_log.specs.Theories.{IsTermIn, IsAtomIn, DerivesLemmas}
 use Rattle.proof_log.proofs.Tables.{grown_same}
 use Rattle.search_loop.specs.declared.search.Search.{Search}
 use Rattle.search_loop.specs.Search.{images, AreAllOf, AreAtomsOf, SearchFits}
-use Rattle.search_loop.specs.Rounds.{HasDerived, HasWholeClauses, IsSearch, Continues}
+use Rattle.search_loop.specs.Rounds.{HasDerived, BeganAfter, HasWholeClauses, IsSearch, Continues}
 use Rattle.search_loop.proofs.SearchLists.{of_kept, images_kept}
-use Rattle.search_loop.proofs.SearchLogs.{derived_lemmas, whole_on}
+use Rattle.search_loop.proofs.SearchLogs.{derived_lemmas, whole_on, began_onward}
 use Rattle.search_loop.proofs.SearchReady.{clauses_in}
 use Rattle.search_loop.proofs.SearchStored.{derives_on}
 use Rattle.search_loop.proofs.SearchApart.{apart_on}
 
 -- the terms of a search are those that it speaks of
-pub spoken : (t : TableView) (x : Search) (problem : Problem) → IsSearch t problem x → AreAmong (clause_at t x.terms.items) (whole_terms problem)
-spoken t x problem s = s.listed.only
+pub spoken : (t : TableView) (x : Search) (problem : Problem) (earlier : List (List Literal)) → IsSearch t problem earlier x → AreAmong (clause_at t x.terms.items) (whole_terms problem)
+spoken t x problem earlier s = s.listed.only
 
 module _ (t u : TableView) (g : Extends t u) (declared : declared_in u ≡ declared_in t) where
   symbols : u.symbols ≡ t.symbols
@@ -108,21 +108,21 @@ module _ (t u : TableView) (g : Extends t u) (declared : declared_in u ≡ decla
     is : derivation_in u log ≡ derivation_in t x.log ++ map (inference_of u) more
     is = ap (derivation_in u) last ∙ map-append (inference_of u) x.log more ∙ ap (λ (d : Derivation). d ++ map (inference_of u) more) same
 
-    module _ (lemmas : All (λ (l : Logged). IsLemma (clause_at t x.terms.items) (derivation_in u log) (length x.log) (inference_of u l)) more) (problem : Problem) (s : IsSearch t problem x) where
+    module _ (lemmas : All (λ (l : Logged). IsLemma (clause_at t x.terms.items) (derivation_in u log) (length x.log) (inference_of u l)) more) (problem : Problem) (earlier : List (List Literal)) (s : IsSearch t problem earlier x) where
       lemmas_of : All (IsLemma (whole_terms problem) (derivation_in t x.log ++ map (inference_of u) more) (length (derivation_in t x.log))) (map (inference_of u) more)
       lemmas_of = subst (λ (e : Derivation). All (IsLemma (whole_terms problem) e (length (derivation_in t x.log))) (map (inference_of u) more)) is
           (subst (λ (n : ℕ). All (IsLemma (whole_terms problem) (derivation_in u log) n) (map (inference_of u) more)) (sym (length-map x.log (inference_of t)))
           (All-map (IsLemma (whole_terms problem) (derivation_in u log) (length x.log)) (inference_of u) more
-          (λ k d lt. lemma_more (clause_at t x.terms.items) (whole_terms problem) (spoken t x problem s) (derivation_in u log) (length x.log) (inference_of u (get_or more k d)) (lemmas k d lt))))
+          (λ k d lt. lemma_more (clause_at t x.terms.items) (whole_terms problem) (spoken t x problem earlier s) (derivation_in u log) (length x.log) (inference_of u (get_or more k d)) (lemmas k d lt))))
 
-      derived : HasDerived problem (derivation_in t x.log ++ map (inference_of u) more) (images t x.store.clauses) (images t x.budget.learned)
-      derived = derived_lemmas problem (derivation_in t x.log) (images t x.store.clauses) (images t x.budget.learned) s.derived (map (inference_of u) more) (subst IsDerivation is right.right) lemmas_of
+      derived : HasDerived problem (derivation_in t x.log ++ map (inference_of u) more) (images t x.store.clauses) earlier (images t x.budget.learned)
+      derived = derived_lemmas problem (derivation_in t x.log) (images t x.store.clauses) earlier (images t x.budget.learned) s.derived (map (inference_of u) more) (subst IsDerivation is right.right) lemmas_of
 
       whole : HasWholeClauses problem (derivation_in t x.log ++ map (inference_of u) more) (images t x.store.clauses)
       whole = subst (HasWholeClauses problem (derivation_in t x.log ++ map (inference_of u) more)) (append-nil (images t x.store.clauses))
           (whole_on problem (derivation_in t x.log) (map (inference_of u) more) (images t x.store.clauses) [] s.whole)
 
-      pub search_grown : IsSearch u problem (record x { log = log; fed = n })
+      pub search_grown : IsSearch u problem earlier (record x { log = log; fed = n })
       search_grown =
           record {
             roots = s.roots;
@@ -132,9 +132,11 @@ module _ (t u : TableView) (g : Extends t u) (declared : declared_in u ≡ decla
             meant = problem_kept t u g s.roots s.interface s.roots_in s.interface_in ∙ s.meant;
             answered = s.answered;
             listed = listed_kept problem x.terms.items s.listed;
-            derived = subst (λ (e : Derivation). HasDerived problem e (images u x.store.clauses) (images u x.budget.learned)) (sym is)
-                (subst (λ (cs : List (List Literal)). HasDerived problem (derivation_in t x.log ++ map (inference_of u) more) cs (images u x.budget.learned)) (sym (images_kept t u g x.store.clauses stored_in))
-                (subst (λ (ls : List (List Literal)). HasDerived problem (derivation_in t x.log ++ map (inference_of u) more) (images t x.store.clauses) ls) (sym (images_kept t u g x.budget.learned r.learned)) derived));
+            derived = subst (λ (e : Derivation). HasDerived problem e (images u x.store.clauses) earlier (images u x.budget.learned)) (sym is)
+                (subst (λ (cs : List (List Literal)). HasDerived problem (derivation_in t x.log ++ map (inference_of u) more) cs earlier (images u x.budget.learned)) (sym (images_kept t u g x.store.clauses stored_in))
+                (subst (λ (ls : List (List Literal)). HasDerived problem (derivation_in t x.log ++ map (inference_of u) more) (images t x.store.clauses) earlier ls) (sym (images_kept t u g x.budget.learned r.learned)) derived));
+            began = subst (λ (e : Derivation). BeganAfter problem x.since e earlier) (sym is)
+                (began_onward problem x.since (derivation_in t x.log) (map (inference_of u) more) earlier s.began);
             whole = subst (λ (e : Derivation). HasWholeClauses problem e (images u x.store.clauses)) (sym is)
                 (subst (HasWholeClauses problem (derivation_in t x.log ++ map (inference_of u) more)) (sym (images_kept t u g x.store.clauses stored_in)) whole);
           }
@@ -149,7 +151,7 @@ module _ (t u : TableView) (g : Extends t u) (declared : declared_in u ≡ decla
       vars = refl;
       terms = refl;
       search = search_grown lemmas;
-      apart = λ problem s a. apart_on t u x (record x { log = log; fed = n }) (λ c i. subst (λ (cs : List (List Literal)). Contains cs c) (sym (images_kept t u g x.store.clauses stored_in)) i) problem a (images_kept t u g x.budget.learned r.learned);
+      apart = λ problem earlier s a. apart_on t u x (record x { log = log; fed = n }) (λ c i. subst (λ (cs : List (List Literal)). Contains cs c) (sym (images_kept t u g x.store.clauses stored_in)) i) problem earlier a (images_kept t u g x.budget.learned r.learned);
     }
 
   -- with terms alone

@@ -45,10 +45,11 @@ use Rattle.conflict_learn.proofs.Meanings.{bare_in}
 use Rattle.search_loop.specs.declared.search.Search.{Search}
 use Rattle.search_loop.specs.Waiting.{AreWaiting}
 use Rattle.search_loop.specs.Search.{images, AreAllOf, DerivesClauses, AreAtomsAmong, AreAtomsOf, AreCovered, AreDecided, SearchFits, Reaches}
-use Rattle.search_loop.specs.Rounds.{AreSteps, stating, ComesFrom, HasDerived, HasWholeClauses, IsSearch, HoldsApart}
+use Rattle.search_loop.specs.Rounds.{AreSteps, stating, ComesFrom, HasDerived, BeganAfter, HasWholeClauses, IsSearch, HoldsApart}
 use Rattle.search_loop.specs.Growing.{StoresAll}
 use Rattle.search_loop.proofs.SearchLists.{of_kept, images_kept}
 use Rattle.search_loop.proofs.SearchStored.{derives_on}
+use Rattle.search_loop.proofs.SearchLogs.{began_onward}
 use Rattle.search_loop.proofs.SearchApart.{apart_grown}
 use Rattle.search_loop.proofs.SearchGrown.{term_kept, atoms_kept}
 use Rattle.search_loop.proofs.SearchParts.{IsHad, IsPart, among_whole, among_roots}
@@ -72,8 +73,9 @@ pub record Came (t u : TableView) (x y : Search) (roots interface : List TermId)
   pub grows : Grows roots t u x.log y.log
   pub stores : StoresAll u y.log steps x.store y.store
   pub terms_are : y.terms.items ≡ x.terms.items ++ terms
-  -- nothing was learned
+  -- nothing was learned, in the same check
   pub learned : y.budget.learned ≡ x.budget.learned
+  pub since : y.since ≡ x.since
 
 -- pairs of two lists
 pairs_append : {A : Type 0} (R : A → A → Type 0) (xs ys : List A) → AllPairs R xs → AllPairs R ys → ((x y : A) → Contains xs x → Contains ys y → R x y) → AllPairs R (xs ++ ys)
@@ -279,11 +281,11 @@ module _ (t u : TableView) (x y : Search) (roots interface : List TermId) (h : C
   learned_are = ap (images u) h.learned ∙ images_kept t u h.grows.table x.budget.learned h.ready.learned
 
   -- and equalities of shared numbers leave facts as they are
-  pub apart_wider : (q : Problem) → HoldsApart t q x → (more : List Term) → All (IsSharedEquality (subterms_in q)) more → HoldsApart u (speaking_of q more) y
-  apart_wider q holds more shared = apart_grown t u x y
-      (λ c i. subst (λ (cs : List (List Literal)). Contains cs c) (sym images_are) (Contains-append_left (images t x.store.clauses) (images u clauses) c i)) q holds more shared learned_are
+  pub apart_wider : (q : Problem) (earlier : List (List Literal)) → HoldsApart t q earlier x → (more : List Term) → All (IsSharedEquality (subterms_in q)) more → HoldsApart u (speaking_of q more) earlier y
+  apart_wider q earlier holds more shared = apart_grown t u x y
+      (λ c i. subst (λ (cs : List (List Literal)). Contains cs c) (sym images_are) (Contains-append_left (images t x.store.clauses) (images u clauses) c i)) q earlier holds more shared learned_are
 
-  module _ (p : Problem) (part : IsPart t x roots interface p) where
+  module _ (p : Problem) (earlier : List (List Literal)) (part : IsPart t x roots interface earlier p) where
     abbrev d : Derivation
     d = derivation_in t x.log
 
@@ -304,29 +306,29 @@ module _ (t u : TableView) (x y : Search) (roots interface : List TermId) (h : C
         (All-map (AssumesAmong (terms_of_problem p)) (inference_of u) h.grows.more (λ k e lt. among_asserted u roots (get_or h.grows.more k e) (terms_of_problem p)
         (λ w i. Contains-append_left p.asserted p.assumed w (part.asserted w (subst (λ (ts : List Term). Contains ts w) roots_same i))) (h.grows.assumes k e lt)))
 
-    comes_before : (c : List Literal) → ComesFrom p d learned c → ComesFrom p (d ++ came) learned c
+    comes_before : (c : List Literal) → ComesFrom p d (earlier ++ learned) c → ComesFrom p (d ++ came) (earlier ++ learned) c
     comes_before c from = elim from [ inl i ↦ inl i | inr l ↦ inr (has_lemma_onward d came (whole_terms p) c l) ]
 
-    comes_now : (c : List Literal) → Contains (images u clauses) c → ComesFrom p (d ++ came) learned c
+    comes_now : (c : List Literal) → Contains (images u clauses) c → ComesFrom p (d ++ came) (earlier ++ learned) c
     comes_now c i =
         let e = from_image (map (literal_at u)) clauses c i in
         let k : ℕ = e.1.0 in
         let same : get_or clauses k [] ≡ e.0 = get_or_default clauses k [] e.0 e.1.1 ∙ e.1.2 in
         let is : literals_of (stated u y.log (get_or h.steps k no_step)) ≡ c = sym (image_of k e.1.1) ∙ ap (map (literal_at u)) same ∙ e.2 in
-        inl (Contains-append_left (map literals_of (whole_clauses p)) learned c
+        inl (Contains-append_left (map literals_of (whole_clauses p)) (earlier ++ learned) c
         (subst (Contains (map literals_of (whole_clauses p))) is
         (to_image literals_of (whole_clauses p) (stated u y.log (get_or h.steps k no_step)) (says_whole p part.asserted part.more (get_or h.steps k no_step) (step_in k e.1.1)))))
 
-    derived_now : HasDerived p (d ++ came) (old ++ images u clauses) learned
+    derived_now : HasDerived p (d ++ came) (old ++ images u clauses) earlier learned
     derived_now = record {
       assumes = assumes;
       only = λ c i. elim (Contains-append_cases old (images u clauses) c i) [ inl a ↦ comes_before c (part.derived.only c a) | inr b ↦ comes_now c b ];
       kept = λ c i. Contains-append_left old (images u clauses) c (part.derived.kept c i);
-      derived = All-weaker (IsLearnedFrom p d) (IsLearnedFrom p (d ++ came)) (learned_onward d came h.ready.right.right p) learned part.derived.derived;
+      derived = All-weaker (IsLearnedFrom p d) (IsLearnedFrom p (d ++ came)) (learned_onward d came h.ready.right.right p) (earlier ++ learned) part.derived.derived;
       atoms = part.derived.atoms;
       new = part.derived.new;
-      exact = resolvents_more complement (IsInput p d) (IsInput p (d ++ came)) (input_onward d came p) learned part.derived.exact;
-      steps = steps_stating p d came learned part.derived.steps states_whole;
+      exact = resolvents_more complement (IsInput p d) (IsInput p (d ++ came)) (input_onward d came p) (earlier ++ learned) part.derived.exact;
+      steps = steps_stating p d came (earlier ++ learned) part.derived.steps states_whole;
     }
 
     -- each clause of the problem is there
@@ -385,7 +387,7 @@ module _ (t u : TableView) (x y : Search) (roots interface : List TermId) (h : C
             (λ a b a_in b_in e. h.new.new b b_in (subst (Contains x.terms.items) e a_in))
 
     -- so the search is one of the problem
-    pub search_grown : IsSearch u p y
+    pub search_grown : IsSearch u p earlier y
     search_grown =
         let wide : Widens t u = record { terms = h.grows.table; declared = h.grows.declared } in
         record {
@@ -396,9 +398,11 @@ module _ (t u : TableView) (x y : Search) (roots interface : List TermId) (h : C
           meant = problem_kept t u h.grows.table part.all part.beside part.all_in part.beside_in ∙ part.meant;
           answered = part.answered;
           listed = subst (AreSearchTerms u p) (sym h.terms_are) listed;
-          derived = subst (λ (e : Derivation). HasDerived p e (images u y.store.clauses) (images u y.budget.learned)) (sym log_is)
-              (subst (λ (cs : List (List Literal)). HasDerived p (d ++ came) cs (images u y.budget.learned)) (sym images_are)
-              (subst (λ (ls : List (List Literal)). HasDerived p (d ++ came) (old ++ images u clauses) ls) (sym learned_are) derived_now));
+          derived = subst (λ (e : Derivation). HasDerived p e (images u y.store.clauses) earlier (images u y.budget.learned)) (sym log_is)
+              (subst (λ (cs : List (List Literal)). HasDerived p (d ++ came) cs earlier (images u y.budget.learned)) (sym images_are)
+              (subst (λ (ls : List (List Literal)). HasDerived p (d ++ came) (old ++ images u clauses) earlier ls) (sym learned_are) derived_now));
+          began = subst (λ (e : Derivation). BeganAfter p y.since e earlier) (sym log_is)
+              (subst (λ (n : ℕ). BeganAfter p n (d ++ came) earlier) (sym h.since) (began_onward p x.since d came earlier part.began));
           whole = subst (λ (e : Derivation). HasWholeClauses p e (images u y.store.clauses)) (sym log_is)
               (subst (λ (cs : List (List Literal)). HasWholeClauses p (d ++ came) cs) (sym images_are)
               (record { base = λ c i. (there c i).0; stated = λ c i. (there c i).1 }));

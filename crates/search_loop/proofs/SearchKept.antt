@@ -75,8 +75,8 @@ module _ (t : TableView) (x : Search) (r : SearchFits t x) (step : StepId) (held
   still c i = subst (λ (cs : List (List Literal)). Contains cs c) (sym image)
       (Contains-append_left (images t x.store.clauses) (literals_of (conclusion_at (derivation_in t x.log) step.0) ∷ []) c i)
 
-  search_kept : (problem : Problem) → IsSearch t problem x → IsSearch t problem (record x { store = s })
-  search_kept problem z = record {
+  search_kept : (problem : Problem) (earlier : List (List Literal)) → IsSearch t problem earlier x → IsSearch t problem earlier (record x { store = s })
+  search_kept problem earlier z = record {
     roots = z.roots;
     roots_in = z.roots_in;
     interface = z.interface;
@@ -84,11 +84,12 @@ module _ (t : TableView) (x : Search) (r : SearchFits t x) (step : StepId) (held
     meant = z.meant;
     answered = z.answered;
     listed = z.listed;
-    derived = subst (λ (cs : List (List Literal)). HasDerived problem (derivation_in t x.log) cs (images t x.budget.learned)) (sym image)
-        (derived_stored problem (derivation_in t x.log) (images t x.store.clauses) (images t x.budget.learned) z.derived step.0 (rw length-map clash.in_log));
+    derived = subst (λ (cs : List (List Literal)). HasDerived problem (derivation_in t x.log) cs earlier (images t x.budget.learned)) (sym image)
+        (derived_stored problem (derivation_in t x.log) (images t x.store.clauses) earlier (images t x.budget.learned) z.derived step.0 (rw length-map clash.in_log));
+    began = z.began;
     whole = record { base = λ c i. still (literals_of c) (z.whole.base c i); stated = z.whole.stated };
   }
 
   -- it goes on
   pub continues_kept : Continues t t x (record x { store = s })
-  continues_kept = record { table = Extends-self t; declared = refl; limit = refl; more = []; learned = sym (append-nil x.budget.learned); vars = refl; terms = refl; search = search_kept; apart = λ problem z a. apart_on t t x (record x { store = s }) still problem a refl }
+  continues_kept = record { table = Extends-self t; declared = refl; limit = refl; more = []; learned = sym (append-nil x.budget.learned); vars = refl; terms = refl; search = search_kept; apart = λ problem earlier z a. apart_on t t x (record x { store = s }) still problem earlier a refl }

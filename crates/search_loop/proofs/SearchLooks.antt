@@ -47,7 +47,7 @@ module _ (t : TableView) (x : Search) (r : SearchFits t x) (v : TheoryView) (ask
   pub looked_after : HasLooked (state t x) (state t after) v
   looked_after = record {
     ready = ready_after;
-    continues = continues_same t x after refl same.clauses refl adds.vars refl;
+    continues = continues_same t x after refl same.clauses refl adds.vars refl refl;
     asked = record { keeps = keeps_after; terms = asked.terms; fed = asked.fed };
     budget = spends_nothing x.budget;
     literals = more_literals;
@@ -75,7 +75,7 @@ module _ (t : TableView) (x : Search) (r : SearchFits t x) (v : TheoryView) (ask
   stopped_checked b spends n = record {
     right = r.right;
     continues = continues_on t t t x after (record after { log = x.log; fed = n; budget = b }) looked_after.continues
-        (continues_on t t t after (record after { fed = n }) (record after { log = x.log; fed = n; budget = b }) (continues_same t after (record after { fed = n }) refl refl refl refl refl)
+        (continues_on t t t after (record after { fed = n }) (record after { log = x.log; fed = n; budget = b }) (continues_same t after (record after { fed = n }) refl refl refl refl refl refl)
         (continues_spent t (record after { fed = n }) b spends));
     terms = asked.terms;
   }

@@ -1,5 +1,5 @@
 -- What was derived of a problem, is derived of one with more interface equalities.
-use Rattle.std.proofs.Common.{◌≡◌, List, ◌++◌, length, map, All, Contains, inl, inr, sym, subst}
+use Rattle.std.proofs.Common.{◌≡◌, ℕ, List, ◌++◌, length, map, take, All, Contains, inl, inr, sym, subst}
 use Rattle.std.proofs.lemmas.List.Elements.{All-weaker, Contains-append_left, Contains-append_right, Contains-append_cases}
 use Rattle.spec_sorts.specs.Terms.{Term}
 use Rattle.spec_sorts.specs.Subsets.{AreAmong}
@@ -14,7 +14,7 @@ use Rattle.spec_derivations.specs.Learned.{AreNew}
 use Rattle.spec_derivations.specs.Spent.{IsLearnedFrom, IsOverAtoms}
 use Rattle.spec_derivations.proofs.Exact.{resolvents_more}
 use Rattle.spec_derivations.proofs.Grown.{more_images, has_lemma_more, whole, over, lemma, clauses, inputs_more}
-use Rattle.search_loop.specs.Rounds.{AreSteps, nothing, stating, lemmas as some_lemmas, learning, ComesFrom, HasDerived}
+use Rattle.search_loop.specs.Rounds.{AreSteps, nothing, stating, lemmas as some_lemmas, learning, ComesFrom, HasDerived, BeganAfter}
 
 -- the same terms are asserted and assumed, and more are known
 module _ (p q : Problem) (asserted : q.asserted ≡ p.asserted) (assumed : q.assumed ≡ p.assumed) (known : AreAmong (known_terms p) (known_terms q)) where
@@ -58,14 +58,18 @@ module _ (p q : Problem) (asserted : q.asserted ≡ p.asserted) (assumed : q.ass
   }
 
   -- and what was derived is derived of it
-  pub derived_of_more : (d : Derivation) (cs ls : List (List Literal)) → HasDerived p d cs ls → HasDerived q d cs ls
-  derived_of_more d cs ls h = record {
+  pub derived_of_more : (d : Derivation) (cs earlier ls : List (List Literal)) → HasDerived p d cs earlier ls → HasDerived q d cs earlier ls
+  derived_of_more d cs earlier ls h = record {
     assumes = subst (λ (ts : List Term). All (AssumesAmong ts) d) (sym terms_same) h.assumes;
-    only = λ c i. comes_of_more d ls c (h.only c i);
+    only = λ c i. comes_of_more d (earlier ++ ls) c (h.only c i);
     kept = h.kept;
-    derived = All-weaker (IsLearnedFrom p d) (IsLearnedFrom q d) (learned_of_more d) ls h.derived;
-    atoms = All-weaker (IsOverAtoms p) (IsOverAtoms q) (over p q known) ls h.atoms;
-    new = subst (λ (bs : List Clause). AreNew (map literals_of bs) ls) (sym first_same) h.new;
-    exact = resolvents_more complement (IsInput p d) (IsInput q d) (inputs_more p q known terms_among d) ls h.exact;
-    steps = steps_of_more d ls h.steps;
+    derived = All-weaker (IsLearnedFrom p d) (IsLearnedFrom q d) (learned_of_more d) (earlier ++ ls) h.derived;
+    atoms = All-weaker (IsOverAtoms p) (IsOverAtoms q) (over p q known) (earlier ++ ls) h.atoms;
+    new = subst (λ (bs : List Clause). AreNew (earlier ++ map literals_of bs) ls) (sym first_same) h.new;
+    exact = resolvents_more complement (IsInput p d) (IsInput q d) (inputs_more p q known terms_among d) (earlier ++ ls) h.exact;
+    steps = steps_of_more d (earlier ++ ls) h.steps;
   }
+
+  -- a check of it began where it did
+  pub began_of_more : (n : ℕ) (d : Derivation) (earlier : List (List Literal)) → BeganAfter p n d earlier → BeganAfter q n d earlier
+  began_of_more n d earlier h = record { there = h.there; steps = steps_of_more (take n d) earlier h.steps }

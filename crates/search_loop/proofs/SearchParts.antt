@@ -1,5 +1,5 @@
 -- What a search has before it grows is of the problem to which it grows.
-use Rattle.std.proofs.Common.{◌≡◌, List, [], ◌∷◌, ◌++◌, map, Contains, ◌⊎◌, inl, inr, refl, sym, ap, ◌∙◌, subst}
+use Rattle.std.proofs.Common.{◌≡◌, ℕ, List, [], ◌∷◌, ◌++◌, map, Contains, ◌⊎◌, inl, inr, refl, sym, ap, ◌∙◌, subst, arith}
 use Rattle.std.specs.Prelude.{flat_map}
 use Rattle.std.proofs.lemmas.List.{append-nil, map-append}
 use Rattle.std.proofs.lemmas.List.Elements.{All-nil, All-append, All-contains, All-contains_itself, All-weaker, Contains-append_left, Contains-append_right, Contains-append_cases}
@@ -8,7 +8,7 @@ use Rattle.spec_sorts.specs.Terms.{Term}
 use Rattle.spec_numbers.specs.Bounds.{Overflow}
 use Rattle.spec_arithmetic.specs.Numbers.{IsLinear}
 use Rattle.spec_sorts.specs.Subsets.{AreAmong}
-use Rattle.spec_sorts.specs.Literals.{Clause, literals_of}
+use Rattle.spec_sorts.specs.Literals.{Clause, Literal, literals_of}
 use Rattle.spec_derivations.specs.Problems.{Problem, known_terms, terms_of_problem}
 use Rattle.spec_derivations.specs.Examples.{speaking}
 use Rattle.spec_derivations.specs.Derivations.{conclusion, AssumesAmong}
@@ -25,9 +25,9 @@ use Rattle.clausify.proofs.Overflowing.{among_more}
 use Rattle.search_loop.specs.declared.search.Search.{Search}
 use Rattle.search_loop.specs.Answered.{AreAnswered}
 use Rattle.search_loop.specs.Search.{images}
-use Rattle.search_loop.specs.Rounds.{nothing, HasDerived, IsSearch}
+use Rattle.search_loop.specs.Rounds.{nothing, HasDerived, BeganAfter, IsSearch}
 use Rattle.search_loop.specs.Growing.{IsBlank, GrowsTo, begins, goes_on}
-use Rattle.search_loop.proofs.SearchMore.{derived_of_more}
+use Rattle.search_loop.proofs.SearchMore.{derived_of_more, began_of_more}
 use Rattle.search_loop.proofs.SearchJoined.{whole_joined}
 
 -- the clause is one of the search's, and stated in its log
@@ -35,7 +35,7 @@ abbrev pub IsHad : TableView → Search → Clause → Type 0
 IsHad t x c = Contains (images t x.store.clauses) (literals_of c) × Contains (map conclusion (derivation_in t x.log)) c
 
 -- What a search has is of a problem, but for what terms bring that come in.
-pub record IsPart (t : TableView) (x : Search) (roots interface : List TermId) (p : Problem) : Type 0 where
+pub record IsPart (t : TableView) (x : Search) (roots interface : List TermId) (earlier : List (List Literal)) (p : Problem) : Type 0 where
   -- the terms of the problem are in the table, by these numbers
   pub all : List TermId
   pub all_in : AreFormulasIn t all
@@ -47,7 +47,8 @@ pub record IsPart (t : TableView) (x : Search) (roots interface : List TermId) (
   -- the roots are among those that are asserted
   pub asserted : AreAmong (clause_at t roots) p.asserted
   -- so much is derived
-  pub derived : HasDerived p (derivation_in t x.log) (images t x.store.clauses) (images t x.budget.learned)
+  pub derived : HasDerived p (derivation_in t x.log) (images t x.store.clauses) earlier (images t x.budget.learned)
+  pub began : BeganAfter p x.since (derivation_in t x.log) earlier
   -- what the search speaks of, and what comes in, is spoken of, and no more
   pub spoken : AreAmong (clause_at t x.terms.items) (whole_terms p)
   pub more : AreAmong (whole_terms (problem_in t roots interface)) (whole_terms p)
@@ -69,7 +70,7 @@ pub answered_both : (ts bs : List Term) → AreAnswered ts → AreAnswered bs �
 answered_both ts bs own others = All-append IsLinear bs (ts ++ []) others (subst AreAnswered (sym (append-nil ts)) own)
 
 -- nothing is derived of a problem yet
-derived_nothing : (p : Problem) → HasDerived p [] [] []
+derived_nothing : (p : Problem) → HasDerived p [] [] [] []
 derived_nothing p = record {
   assumes = All-nil (AssumesAmong (terms_of_problem p));
   only = λ c i. absurd (none c i);
@@ -86,7 +87,7 @@ module _ (t : TableView) (x : Search) (roots interface : List TermId) (roots_in 
   more = problem_in t roots interface
 
   -- a search that spoke of nothing
-  part_begins : IsBlank x → IsPart t x roots interface more
+  part_begins : IsBlank x → IsPart t x roots interface [] more
   part_begins b = record {
     all = roots;
     all_in = roots_in;
@@ -96,9 +97,10 @@ module _ (t : TableView) (x : Search) (roots interface : List TermId) (roots_in 
     answered = answered_both (clause_at t roots) (clause_at t interface) answered answered_interface;
     asserted = λ w i. i;
     derived =
-        subst (λ (xs : List Logged). HasDerived more (derivation_in t xs) (images t x.store.clauses) (images t x.budget.learned)) (sym b.log)
-        (subst (λ (cs : List (List Lit)). HasDerived more [] (images t cs) (images t x.budget.learned)) (sym b.clauses)
-        (subst (λ (ls : List (List Lit)). HasDerived more [] [] (images t ls)) (sym b.learned) (derived_nothing more)));
+        subst (λ (xs : List Logged). HasDerived more (derivation_in t xs) (images t x.store.clauses) [] (images t x.budget.learned)) (sym b.log)
+        (subst (λ (cs : List (List Lit)). HasDerived more [] (images t cs) [] (images t x.budget.learned)) (sym b.clauses)
+        (subst (λ (ls : List (List Lit)). HasDerived more [] [] [] (images t ls)) (sym b.learned) (derived_nothing more)));
+    began = subst (λ (n : ℕ). BeganAfter more n (derivation_in t x.log) []) (sym b.since) (record { there = omega arith; steps = nothing });
     spoken = λ w i. absurd (no_term w i);
     more = λ w i. i;
     each = λ w i. inr i;
@@ -110,7 +112,7 @@ module _ (t : TableView) (x : Search) (roots interface : List TermId) (roots_in 
       no_term w i = none w (subst (λ (ids : List TermId). Contains (clause_at t ids) w) b.terms i)
 
   -- one that was asked a problem
-  module _ (q : Problem) (z : IsSearch t q x) (no_roots : roots ≡ []) where
+  module _ (q : Problem) (earlier : List (List Literal)) (z : IsSearch t q earlier x) (no_roots : roots ≡ []) where
     abbrev with_more : Problem
     with_more = record { asserted = q.asserted; assumed = q.assumed; interface = q.interface ++ clause_at t interface }
 
@@ -151,7 +153,7 @@ module _ (t : TableView) (x : Search) (roots interface : List TermId) (roots_in 
     had : (c : Clause) → Contains (whole_clauses q) c → IsHad t x c
     had c i = (z.whole.base c i, z.whole.stated c i)
 
-    part_goes_on : IsPart t x roots interface with_more
+    part_goes_on : IsPart t x roots interface earlier with_more
     part_goes_on = record {
       all = z.roots;
       all_in = z.roots_in;
@@ -160,7 +162,8 @@ module _ (t : TableView) (x : Search) (roots interface : List TermId) (roots_in 
       meant = meant;
       answered = both_answered;
       asserted = λ w i. absurd (no_root w i);
-      derived = derived_of_more q with_more refl refl first_known (derivation_in t x.log) (images t x.store.clauses) (images t x.budget.learned) z.derived;
+      derived = derived_of_more q with_more refl refl first_known (derivation_in t x.log) (images t x.store.clauses) earlier (images t x.budget.learned) z.derived;
+      began = began_of_more q with_more refl refl first_known x.since (derivation_in t x.log) earlier z.began;
       spoken = λ w i. whole q with_more first_known w (z.listed.only w i);
       more = whole more with_more more_known;
       each = λ w i. elim (whole_joined with_more q more both_known w i) [ inl a ↦ inl (z.listed.each w a) | inr b ↦ inr b ];
@@ -169,10 +172,10 @@ module _ (t : TableView) (x : Search) (roots interface : List TermId) (roots_in 
     }
 
   -- what the search has is of each problem to which it grows
-  pub part_of : (p : Problem) → GrowsTo t x roots interface p → IsPart t x roots interface p
-  part_of p (begins b e) = subst (IsPart t x roots interface) (sym e) (part_begins b)
-  part_of p (goes_on q z no_roots e) = subst (IsPart t x roots interface) (sym e) (part_goes_on q z no_roots)
+  pub part_of : (p : Problem) (earlier : List (List Literal)) → GrowsTo t x roots interface earlier p → IsPart t x roots interface earlier p
+  part_of p earlier (begins b none_earlier e) = subst (λ (cs : List (List Literal)). IsPart t x roots interface cs p) (sym none_earlier) (subst (IsPart t x roots interface []) (sym e) (part_begins b))
+  part_of p earlier (goes_on q z no_roots e) = subst (IsPart t x roots interface earlier) (sym e) (part_goes_on q earlier z no_roots)
 
   -- what leaves the bound among what comes in, leaves it in each of these problems
-  pub wide_of : (o : Overflow) → IsOrderOverflow more o → (p : Problem) → GrowsTo t x roots interface p → IsOrderOverflow p o
-  wide_of o h p grows = among_more (whole_terms more) (whole_terms p) (part_of p grows).more o h
+  pub wide_of : (o : Overflow) → IsOrderOverflow more o → (p : Problem) (earlier : List (List Literal)) → GrowsTo t x roots interface earlier p → IsOrderOverflow p o
+  wide_of o h p earlier grows = among_more (whole_terms more) (whole_terms p) (part_of p earlier grows).more o h

@@ -19,13 +19,13 @@ use Rattle.search_loop.specs.declared.cdcl.End.TheVariants.{Saturated, Refuted, 
 use Rattle.search_loop.specs.Asking.{state, ResolvesConflict, EndsSearch}
 use Rattle.proof_log.specs.Theories.{TheoryView}
 use Rattle.search_loop.specs.Search.{images}
-use Rattle.search_loop.specs.Rounds.{HasDerived, HasWholeClauses, Continues, ShowsAnswer}
+use Rattle.search_loop.specs.Rounds.{HasDerived, BeganAfter, HasWholeClauses, Continues, ShowsAnswer}
 use Rattle.search_loop.proofs.SearchReady.{Ids}
 use Rattle.search_loop.proofs.SearchApart.{apart_on}
 
 -- the log, the clauses and what was learned are the same
-pub continues_same : (t : TableView) (x y : Search) → y.log ≡ x.log → y.store.clauses ≡ x.store.clauses → y.budget ≡ x.budget → y.trail.vars ≡ x.trail.vars → y.terms ≡ x.terms → Continues t t x y
-continues_same t x y log clauses budget vars terms = record {
+pub continues_same : (t : TableView) (x y : Search) → y.log ≡ x.log → y.store.clauses ≡ x.store.clauses → y.budget ≡ x.budget → y.trail.vars ≡ x.trail.vars → y.terms ≡ x.terms → y.since ≡ x.since → Continues t t x y
+continues_same t x y log clauses budget vars terms since = record {
   table = Extends-self t;
   declared = refl;
   limit = ap (λ (b : BudgetView). b.limit) budget;
@@ -33,7 +33,7 @@ continues_same t x y log clauses budget vars terms = record {
   learned = ap (λ (b : BudgetView). b.learned) budget ∙ sym (append-nil x.budget.learned);
   vars = vars;
   terms = terms;
-  search = λ problem s. record {
+  search = λ problem earlier s. record {
     roots = s.roots;
     roots_in = s.roots_in;
     interface = s.interface;
@@ -41,13 +41,15 @@ continues_same t x y log clauses budget vars terms = record {
     meant = s.meant;
     answered = s.answered;
     listed = subst (λ (ids : Ids). AreSearchTerms t problem ids.items) (sym terms) s.listed;
-    derived = subst (λ (l : List Logged). HasDerived problem (derivation_in t l) (images t y.store.clauses) (images t y.budget.learned)) (sym log)
-        (subst (λ (cs : List (List Lit)). HasDerived problem (derivation_in t x.log) (images t cs) (images t y.budget.learned)) (sym clauses)
-        (subst (λ (b : BudgetView). HasDerived problem (derivation_in t x.log) (images t x.store.clauses) (images t b.learned)) (sym budget) s.derived));
+    derived = subst (λ (l : List Logged). HasDerived problem (derivation_in t l) (images t y.store.clauses) earlier (images t y.budget.learned)) (sym log)
+        (subst (λ (cs : List (List Lit)). HasDerived problem (derivation_in t x.log) (images t cs) earlier (images t y.budget.learned)) (sym clauses)
+        (subst (λ (b : BudgetView). HasDerived problem (derivation_in t x.log) (images t x.store.clauses) earlier (images t b.learned)) (sym budget) s.derived));
+    began = subst (λ (l : List Logged). BeganAfter problem y.since (derivation_in t l) earlier) (sym log)
+        (subst (λ (n : ℕ). BeganAfter problem n (derivation_in t x.log) earlier) (sym since) s.began);
     whole = subst (λ (l : List Logged). HasWholeClauses problem (derivation_in t l) (images t y.store.clauses)) (sym log)
         (subst (λ (cs : List (List Lit)). HasWholeClauses problem (derivation_in t x.log) (images t cs)) (sym clauses) s.whole);
   };
-  apart = λ problem s a. apart_on t t x y (λ c i. subst (λ (cs : List (List Lit)). Contains (images t cs) c) (sym clauses) i) problem a (ap (λ (b : BudgetView). images t b.learned) budget);
+  apart = λ problem earlier s a. apart_on t t x y (λ c i. subst (λ (cs : List (List Lit)). Contains (images t cs) c) (sym clauses) i) problem earlier a (ap (λ (b : BudgetView). images t b.learned) budget);
 }
 
 -- one after the other
@@ -60,8 +62,8 @@ continues_on s t u a b c h k = record {
   learned = k.learned ∙ ap (λ (ls : List (List Lit)). ls ++ k.more) h.learned ∙ append_assoc a.budget.learned h.more k.more;
   vars = k.vars ∙ h.vars;
   terms = k.terms ∙ h.terms;
-  search = λ problem x. k.search problem (h.search problem x);
-  apart = λ problem x e. k.apart problem (h.search problem x) (h.apart problem x e);
+  search = λ problem earlier x. k.search problem earlier (h.search problem earlier x);
+  apart = λ problem earlier x e. k.apart problem earlier (h.search problem earlier x) (h.apart problem earlier x e);
 }
 
 -- propagation went on, and it was looked for a decision
@@ -70,14 +72,14 @@ propagated x s v ws = record x { store = s; trail = v; decider = ws }
 
 module _ (t u : TableView) (a x : Search) (s : StoreView) (v : TrailView) (h : Continues t u a x) (same : HasSameClauses x.store s) (adds : AddsImplied x.store x.trail v) where
   pub propagated_on : (ws : List Bool) → Continues t u a (propagated x s v ws)
-  propagated_on ws = continues_on t u u a x (propagated x s v ws) h (continues_same u x (propagated x s v ws) refl same.clauses refl adds.vars refl)
+  propagated_on ws = continues_on t u u a x (propagated x s v ws) h (continues_same u x (propagated x s v ws) refl same.clauses refl adds.vars refl refl)
 
   pub decided_on : (l : Lit) (r : Option ℕ) (n : ℕ) (w : TrailView) (ws : List Bool) → IsPushed v l r n w → Continues t u a (propagated x s w ws)
-  decided_on l r n w ws p = continues_on t u u a (propagated x s v ws) (propagated x s w ws) (propagated_on ws) (continues_same u (propagated x s v ws) (propagated x s w ws) refl refl refl p.vars refl)
+  decided_on l r n w ws p = continues_on t u u a (propagated x s v ws) (propagated x s w ws) (propagated_on ws) (continues_same u (propagated x s v ws) (propagated x s w ws) refl refl refl p.vars refl refl)
 
 -- what an answer shows later on, it shows of the beginning
 pub shows_on : (s t u : TableView) (a b c : Search) (x : Answer) → Continues s t a b → ShowsAnswer t u b c x → ShowsAnswer s u a c x
-shows_on s t u a b c x h shows problem z e = shows problem (h.search problem z) (h.apart problem z e)
+shows_on s t u a b c x h shows problem earlier z e = shows problem earlier (h.search problem earlier z) (h.apart problem earlier z e)
 
 -- so it is with what comes of a conflict that ends the search
 pub ends_on : (s t u : TableView) (a b c : Search) (v : TheoryView) (search_saturated : Type 0) (end : End) → Continues s t a b → ResolvesConflict (state t b) (state u c) v (Some end) → EndsSearch (state s a) (state u c) search_saturated end

@@ -48,7 +48,7 @@ module _ (t : TableView) (x : Search) (b : BudgetView) (spends : Spends x.budget
     learned = ap (λ (y : BudgetView). y.learned) spends.1 ∙ sym (append-nil x.budget.learned);
     vars = refl;
     terms = refl;
-    search = λ problem s. record {
+    search = λ problem earlier s. record {
       roots = s.roots;
       roots_in = s.roots_in;
       interface = s.interface;
@@ -56,11 +56,12 @@ module _ (t : TableView) (x : Search) (b : BudgetView) (spends : Spends x.budget
       meant = s.meant;
       answered = s.answered;
       listed = s.listed;
-      derived = subst (λ (ls : List (List Lit)). HasDerived problem (derivation_in t x.log) (images t x.store.clauses) (images t ls))
+      derived = subst (λ (ls : List (List Lit)). HasDerived problem (derivation_in t x.log) (images t x.store.clauses) earlier (images t ls))
           (sym (ap (λ (y : BudgetView). y.learned) spends.1)) s.derived;
+      began = s.began;
       whole = s.whole;
     };
-    apart = λ problem s a. apart_on t t x (record x { budget = b }) (λ c i. i) problem a (ap (λ (y : BudgetView). images t y.learned) spends.1);
+    apart = λ problem earlier s a. apart_on t t x (record x { budget = b }) (λ c i. i) problem earlier a (ap (λ (y : BudgetView). images t y.learned) spends.1);
   }
 
 -- what is shown of a stop is shown of a result that hands it on

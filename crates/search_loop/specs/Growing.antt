@@ -1,5 +1,6 @@
 -- How a search grows: terms come in of which it did not speak, with their clauses.
 use Rattle.std.specs.Prelude.{◌≡◌, List, [], ◌++◌, length, All}
+use Rattle.spec_sorts.specs.Literals.{Literal}
 use Rattle.spec_derivations.specs.Problems.{Problem, subterms_in}
 use Rattle.spec_causes.specs.Shared.{IsSharedEquality}
 use Rattle.spec_interfaces.specs.Interfaces.{speaking_of}
@@ -27,6 +28,8 @@ pub record IsBlank (x : Search) : Type 0 where
   pub terms : x.terms.items ≡ []
   -- and nothing was learned
   pub learned : x.budget.learned ≡ []
+  -- no check was before
+  pub since : x.since ≡ 0
 
 -- An empty search, under these limits.
 pub record IsEmptySearch (limits : Limits) (x : Search) : Type 0 where
@@ -43,8 +46,8 @@ pub record IsEmptySearch (limits : Limits) (x : Search) : Type 0 where
   -- no exchange was made
   pub unspent : x.budget.exchanges ≡ []
 
--- A search that is asked a problem begins.
-pub record IsBegun (t : TableView) (p : Problem) (x : Search) : Type 0 where
+-- A search that is asked a problem begins, after what earlier checks learned.
+pub record IsBegun (t : TableView) (p : Problem) (earlier : List (List Literal)) (x : Search) : Type 0 where
   -- it fits together
   pub ready : SearchFits t x
   -- it has no literals yet
@@ -52,19 +55,21 @@ pub record IsBegun (t : TableView) (p : Problem) (x : Search) : Type 0 where
   pub level : x.trail.level ≡ 0
   pub fed : x.fed ≡ 0
   -- it is asked the problem
-  pub search : IsSearch t p x
+  pub search : IsSearch t p earlier x
   -- nothing was learned, and no exchange made
   pub unlearned : x.budget.learned ≡ []
   pub unspent : x.budget.exchanges ≡ []
 
--- The problem of a search that grows by roots, which are asserted, and by interface equalities.
-pub data GrowsTo (t : TableView) (x : Search) (roots interface : List TermId) (p : Problem) : Type 0 where
+-- The problem of a search that grows by roots, which are asserted, and by interface equalities; what earlier checks
+-- learned stays.
+pub data GrowsTo (t : TableView) (x : Search) (roots interface : List TermId) (earlier : List (List Literal))
+    (p : Problem) : Type 0 where
   -- it spoke of nothing
-  begins : IsBlank x → p ≡ problem_in t roots interface → GrowsTo t x roots interface p
+  begins : IsBlank x → earlier ≡ [] → p ≡ problem_in t roots interface → GrowsTo t x roots interface earlier p
   -- it was asked a problem, and grows by interface equalities alone
-  goes_on : (q : Problem) → IsSearch t q x → roots ≡ []
+  goes_on : (q : Problem) → IsSearch t q earlier x → roots ≡ []
       → p ≡ speaking_of q (clause_at t interface)
-      → GrowsTo t x roots interface p
+      → GrowsTo t x roots interface earlier p
 
 -- Terms came into a search, and their clauses; what was learned stays, and so do the literals.
 pub record HasGrown (old new : SearchState) (roots interface : List TermId) : Type 0 where
@@ -86,11 +91,13 @@ pub record HasGrown (old new : SearchState) (roots interface : List TermId) : Ty
   pub more : List TermId
   pub terms : new.search.terms.items ≡ old.search.terms.items ++ more
   -- it is asked the problem that it grew to
-  pub search : (p : Problem) → GrowsTo old.table old.search roots interface p → IsSearch new.table p new.search
+  pub search : (p : Problem) (earlier : List (List Literal))
+      → GrowsTo old.table old.search roots interface earlier p → IsSearch new.table p earlier new.search
   -- where only equalities of shared numbers came, its facts stay
-  pub apart : (q : Problem) → IsSearch old.table q old.search → HoldsApart old.table q old.search → roots ≡ []
+  pub apart : (q : Problem) (earlier : List (List Literal)) → IsSearch old.table q earlier old.search
+      → HoldsApart old.table q earlier old.search → roots ≡ []
       → All (IsSharedEquality (subterms_in q)) (clause_at old.table interface)
-      → HoldsApart new.table (speaking_of q (clause_at old.table interface)) new.search
+      → HoldsApart new.table (speaking_of q (clause_at old.table interface)) earlier new.search
 
 -- The clauses of steps came into a store, last, in their order.
 pub record StoresAll (t : TableView) (log : List Logged) (steps : List StepId) (old new : StoreView) : Type 0 where

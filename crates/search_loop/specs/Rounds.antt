@@ -1,5 +1,5 @@
 -- What the rounds of a search keep, and what its answers show.
-use Rattle.std.specs.Prelude.{◌≡◌, ◌⊎◌, ◌+◌, true, List, [], ◌∷◌, ◌++◌, length, map, All, Contains}
+use Rattle.std.specs.Prelude.{◌≡◌, ◌⊎◌, ◌+◌, ◌≤◌, ℕ, true, List, [], ◌∷◌, ◌++◌, length, take, map, All, Contains}
 use Rattle.spec_sorts.specs.Terms.{Term}
 use Rattle.spec_sorts.specs.Literals.{Clause, Literal, complement, literals_of}
 use Rattle.spec_proofs.specs.Resolution.{Derives, IsWithin}
@@ -8,16 +8,17 @@ use Rattle.spec_derivations.specs.Problems.{Problem, terms_of_problem, subterms_
 use Rattle.search_loop.specs.Answered.{AreAnswered}
 use Rattle.spec_derivations.specs.Derivations.{Inference, «assumption», by_rule, Derivation, conclusion}
 use Rattle.spec_derivations.specs.Derivations.{AssumesAmong, IsDerivedFrom}
-use Rattle.spec_derivations.specs.Orders.{whole_terms, whole_clauses, first_clauses}
+use Rattle.spec_derivations.specs.Orders.{whole_terms, whole_clauses}
 use Rattle.spec_derivations.specs.Lemmas.{IsLemma, HasLemma}
 use Rattle.spec_derivations.specs.Inputs.{IsInput}
 use Rattle.spec_derivations.specs.ExactChains.{IsExactFrom, AreExactResolvents}
 use Rattle.spec_derivations.specs.Learned.{AreNew}
-use Rattle.spec_derivations.specs.Spent.{IsLearnedFrom, IsOverAtoms, AreLearned, IsConflictBudgetSpent, CanLearnMore}
+use Rattle.spec_derivations.specs.Spent.{IsLearnedFrom, IsOverAtoms, at_start, AreLearned, IsConflictBudgetSpent}
+use Rattle.spec_derivations.specs.Spent.{CanLearnMore}
 use Rattle.spec_interfaces.specs.Interfaces.{IsElementEquality, AreInterfaceEqualities, StandsApart}
 use Rattle.term_core.specs.declared.ids.TermId.{TermId}
 use Rattle.term_core.specs.declared.ids.Lit.{Lit}
-use Rattle.term_core.specs.Tables.{TableView, declared_in, literal_at, Extends}
+use Rattle.term_core.specs.Tables.{TableView, declared_in, Extends}
 use Rattle.proof_log.specs.declared.premises.StepId.{StepId}
 use Rattle.proof_log.specs.Logs.{Logged, inference_of, derivation_in, stated, AreFormulasIn}
 use Rattle.term_clauses.specs.SpokenTerms.{problem_in}
@@ -71,24 +72,32 @@ pub record HasSteps (p : Problem) (d : Derivation) (clauses : List (List Literal
 abbrev pub ComesFrom : Problem → Derivation → List (List Literal) → List Literal → Type 0
 ComesFrom p d learned c = Contains (map literals_of (whole_clauses p) ++ learned) c ⊎ HasLemma (whole_terms p) d c
 
--- What was derived of a problem: the clauses by their literals, and those that were learned.
-pub record HasDerived (p : Problem) (d : Derivation) (clauses learned : List (List Literal)) : Type 0 where
+-- What was derived of a problem: the clauses by their literals, and those that were learned in earlier checks and in
+-- this one.
+pub record HasDerived (p : Problem) (d : Derivation) (clauses earlier learned : List (List Literal)) : Type 0 where
   -- the derivation assumes the problem's terms alone
   pub assumes : All (AssumesAmong (terms_of_problem p)) d
   -- each clause is one with which a search begins, or was learned, or is that of a lemma
-  pub only : (c : List Literal) → Contains clauses c → ComesFrom p d learned c
+  pub only : (c : List Literal) → Contains clauses c → ComesFrom p d (earlier ++ learned) c
   -- what was learned is among the clauses
-  pub kept : IsWithin learned clauses
+  pub kept : IsWithin (earlier ++ learned) clauses
   -- each learned clause is derived from the problem's terms
-  pub derived : All (IsLearnedFrom p d) learned
+  pub derived : All (IsLearnedFrom p d) (earlier ++ learned)
   -- it is over its atoms
-  pub atoms : All (IsOverAtoms p) learned
-  -- it was new
-  pub new : AreNew (map literals_of (first_clauses p)) learned
-  -- and is what a chain of resolutions gives, and no more
-  pub exact : AreExactResolvents complement (IsInput p d) learned
+  pub atoms : All (IsOverAtoms p) (earlier ++ learned)
+  -- what this check learned was new
+  pub new : AreNew (at_start p earlier) learned
+  -- each is what a chain of resolutions gives, and no more
+  pub exact : AreExactResolvents complement (IsInput p d) (earlier ++ learned)
   -- the derivation states clauses with which a search begins, lemmas, and what was learned
-  pub steps : AreSteps p d learned
+  pub steps : AreSteps p d (earlier ++ learned)
+
+-- A check began after so many steps of a derivation: the clauses that were learned in these are the earlier ones.
+pub record BeganAfter (p : Problem) (since : ℕ) (d : Derivation) (earlier : List (List Literal)) : Type 0 where
+  -- there are so many steps
+  pub there : since ≤ length d
+  -- the steps are those of a search of the problem, which learned these
+  pub steps : AreSteps p (take since d) earlier
 
 -- All clauses with which a search of a problem begins are derived, and among these.
 pub record HasWholeClauses (p : Problem) (d : Derivation) (clauses : List (List Literal)) : Type 0 where
@@ -97,8 +106,8 @@ pub record HasWholeClauses (p : Problem) (d : Derivation) (clauses : List (List 
   -- and is stated
   pub stated : IsWithin (whole_clauses p) (map conclusion d)
 
--- What is in hand is that of a search that is asked a problem.
-pub record IsSearch (t : TableView) (p : Problem) (x : Search) : Type 0 where
+-- What is in hand is that of a search that is asked a problem, where earlier checks learned clauses.
+pub record IsSearch (t : TableView) (p : Problem) (earlier : List (List Literal)) (x : Search) : Type 0 where
   -- its terms are formulas of the table, by their numbers
   pub roots : List TermId
   pub roots_in : AreFormulasIn t roots
@@ -112,7 +121,9 @@ pub record IsSearch (t : TableView) (p : Problem) (x : Search) : Type 0 where
   -- its terms are those that a search of the problem speaks of
   pub listed : AreSearchTerms t p x.terms.items
   -- so much is derived of it
-  pub derived : HasDerived p (derivation_in t x.log) (images t x.store.clauses) (images t x.budget.learned)
+  pub derived : HasDerived p (derivation_in t x.log) (images t x.store.clauses) earlier (images t x.budget.learned)
+  -- the earlier clauses are those that were learned before the check began
+  pub began : BeganAfter p x.since (derivation_in t x.log) earlier
   -- and all with which it begins
   pub whole : HasWholeClauses p (derivation_in t x.log) (images t x.store.clauses)
 
@@ -121,14 +132,14 @@ abbrev pub IsFact : List (List Literal) → Term → Type 0
 IsFact clauses t = Derives complement clauses [] (record { atom = t; positive = true })
 
 -- Of the interface equalities of a search's problem those of elements are facts, of which no learned clause speaks.
-pub record HoldsApart (t : TableView) (p : Problem) (x : Search) : Type 0 where
+pub record HoldsApart (t : TableView) (p : Problem) (earlier : List (List Literal)) (x : Search) : Type 0 where
   -- each is an equality of shared numbers, or of elements
   pub equalities : AreInterfaceEqualities p
   -- the latter follow from the clauses
   pub facts : (e : Term) → Contains p.interface e → IsElementEquality (subterms_in p) e
       → IsFact (images t x.store.clauses) e
   -- and what was learned is over other atoms
-  pub apart : All (StandsApart p) (images t x.budget.learned)
+  pub apart : All (StandsApart p) (earlier ++ images t x.budget.learned)
 
 -- the budget has the limit of a search on conflicts
 abbrev pub HasLimit : Limits → BudgetView → Type 0
@@ -145,18 +156,17 @@ added_by (Unsat step) learned = learned ++ [] ∷ []
 added_by (Sat interp) learned = learned
 added_by (Unknown reason) learned = learned
 
--- what an answer shows of a problem: tables under which its terms are true; a clause without literals that is derived
--- from them; that an
--- operation leaves the bound on fractions; or that the budget is spent at a further conflict
-abbrev pub HasEvidence : TableView → Problem → List Logged → BudgetView → Answer → Type 0
-HasEvidence t p log budget (Sat interp) = IsModel t (terms_of_problem p) interp
-HasEvidence t p log budget (Unsat step) = (stated t log step ≡ [])
+-- what an answer shows of a problem, where earlier checks learned clauses: tables under which its terms are true; a
+-- clause without literals that is derived from them; that an operation leaves the bound on fractions; or that the
+-- budget is spent at a further conflict
+abbrev pub HasEvidence : TableView → Problem → List Logged → List (List Literal) → BudgetView → Answer → Type 0
+HasEvidence t p log earlier budget (Sat interp) = IsModel t (terms_of_problem p) interp
+HasEvidence t p log earlier budget (Unsat step) = (stated t log step ≡ [])
     × IsDerivedFrom (terms_of_problem p) (derivation_in t log) step.0
-HasEvidence t p log budget (Unknown (Overflow s)) = IsOverflowed p (length budget.learned) budget.exchanges s
-HasEvidence t p log budget (Unknown (Conflicts n)) =
-    IsConflictBudgetSpent p (derivation_in t log) budget.limit n (map (map (literal_at t)) budget.learned)
-    × ((more : CanLearnMore p (derivation_in t log) (map (map (literal_at t)) budget.learned))
-    × StandsApart p more.clause)
+HasEvidence t p log earlier budget (Unknown (Overflow s)) = IsOverflowed p (length budget.learned) budget.exchanges s
+HasEvidence t p log earlier budget (Unknown (Conflicts n)) =
+    IsConflictBudgetSpent p (derivation_in t log) budget.limit n earlier (images t budget.learned)
+    × ((more : CanLearnMore p (derivation_in t log) earlier (images t budget.learned)) × StandsApart p more.clause)
 
 -- where an answer is no overflow, whose evidence names them, the exchanges of the budget were made, in few runs
 abbrev pub HasMade : Problem → BudgetView → Answer → Type 0
@@ -169,18 +179,18 @@ abbrev pub HasLogged : Problem → Derivation → Answer → List (List Literal)
 HasLogged p d (Unknown (Overflow s)) learned = AreSteps p d learned
 HasLogged p d a learned = HasSteps p d (added_by a learned)
 
--- What goes with each answer: the log assumes the problem's terms alone, what was learned may be, and is what the
--- search added to the log.
-pub record IsLearning (t : TableView) (p : Problem) (log : List Logged) (a : Answer) (learned : List (List Lit)) : Type
-    0 where
+-- What goes with each answer: the log assumes the problem's terms alone, what was learned may be, and with what earlier
+-- checks learned is what the search added to the log.
+pub record IsLearning (t : TableView) (p : Problem) (log : List Logged) (earlier : List (List Literal)) (a : Answer)
+    (learned : List (List Lit)) : Type 0 where
   -- the log assumes the problem's terms alone
   pub assumes : All (λ l. AssumesAmong (terms_of_problem p) (inference_of t l)) log
   -- the clauses may be learned
-  pub learns : AreLearned p (derivation_in t log) (map (map (literal_at t)) learned)
+  pub learns : AreLearned p (derivation_in t log) earlier (images t learned)
   -- and speak of no equality of elements that is beside the terms
-  pub apart : All (StandsApart p) (map (map (literal_at t)) learned)
+  pub apart : All (StandsApart p) (earlier ++ images t learned)
   -- they are what came into the log beside first clauses and lemmas, but for the answer's own
-  pub logged : HasLogged p (derivation_in t log) a (map (map (literal_at t)) learned)
+  pub logged : HasLogged p (derivation_in t log) a (earlier ++ images t learned)
 
 -- the clause is learned last
 abbrev pub IsNoted : List Lit → BudgetView → BudgetView → Type 0
@@ -209,9 +219,10 @@ pub record Continues (t u : TableView) (old new : Search) : Type 0 where
   -- it speaks of the same terms
   pub terms : new.terms ≡ old.terms
   -- it is asked the same
-  pub search : (p : Problem) → IsSearch t p old → IsSearch u p new
+  pub search : (p : Problem) (earlier : List (List Literal)) → IsSearch t p earlier old → IsSearch u p earlier new
   -- and its facts stay
-  pub apart : (p : Problem) → IsSearch t p old → HoldsApart t p old → HoldsApart u p new
+  pub apart : (p : Problem) (earlier : List (List Literal)) → IsSearch t p earlier old → HoldsApart t p earlier old
+      → HoldsApart u p earlier new
 
 -- the clause of a step of the log came into the store, and all else is as it was
 abbrev pub HasKept : TableView → StepId → Search → Search → Type 0
@@ -226,7 +237,8 @@ pub record HasLearned (t u : TableView) (old new : Search) : Type 0 where
   -- a clause more is learned
   pub learned : length new.budget.learned ≡ length old.budget.learned + 1
 
--- the answer shows what it should of the problem that the search is asked
+-- the answer shows what it should of the problem that the search is asked, after what earlier checks learned
 abbrev pub ShowsAnswer : TableView → TableView → Search → Search → Answer → Type 0
-ShowsAnswer t u old new a = (p : Problem) → IsSearch t p old → HoldsApart t p old
-    → HasEvidence u p new.log new.budget a × IsLearning u p new.log a new.budget.learned
+ShowsAnswer t u old new a = (p : Problem) (earlier : List (List Literal)) → IsSearch t p earlier old
+    → HoldsApart t p earlier old
+    → HasEvidence u p new.log earlier new.budget a × IsLearning u p new.log earlier a new.budget.learned

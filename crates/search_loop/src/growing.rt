@@ -1,6 +1,7 @@
 //! How a search begins, and how it grows: terms come in of which it did not speak, with their clauses.
 
-ghost use Rattle.std.specs.Prelude.{◌≡◌, IfErr, OnOk, MatchResult};
+ghost use Rattle.std.specs.Prelude.{◌≡◌, List, IfErr, OnOk, MatchResult};
+ghost use Rattle.spec_sorts.specs.Literals.{Literal};
 ghost use Rattle.search_loop.specs.Answered.{AreAnswered};
 ghost use Rattle.spec_derivations.specs.Problems.{Problem};
 ghost use Rattle.term_core.specs.Tables.{declared_in, Extends, clause_at};
@@ -81,6 +82,7 @@ impl Search {
             restarts: Restarts::new(),
             budget,
             fed: 0,
+            since: 0,
         })
     }
 
@@ -108,8 +110,8 @@ impl Search {
             roots.now interface.now) }
         ensures same { IfErr result (OnClauseOverflow
             (λ _. (table.new ≡ table.old) × (self.new ≡ self.old))) }
-        ensures wide { IfErr result (OnClauseOverflow (λ o. (p : Problem)
-            → GrowsTo table.old self.old roots.now interface.now p → IsOrderOverflow p o)) }
+        ensures wide { IfErr result (OnClauseOverflow (λ o. (p : Problem) (earlier : List (List Literal))
+            → GrowsTo table.old self.old roots.now interface.now earlier p → IsOrderOverflow p o)) }
     {
         what_is_marked_was_seen();
         reasons_stay_right();

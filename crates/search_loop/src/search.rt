@@ -32,4 +32,6 @@ pub struct Search {
     pub budget: Budget,
     /// How many of the oldest literals that hold the theory holds.
     pub fed: u64,
+    /// How many steps the log had when the present check began: what these learned, earlier checks did.
+    pub since: u64,
 }

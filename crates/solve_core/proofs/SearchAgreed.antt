@@ -265,7 +265,7 @@ module _ (t : TableView) (differ : AreDifferent t.terms) (x : Search) (v : Theor
     -- by the classes of the terms
     by_classes : (u w : Term) → Contains terms u → Contains terms w → (class_in terms classes u ≡ class_in terms classes w) ↔ Congruent u w
     by_classes u w i j =
-        let both = related t differ x v agreed h consistent fine classes tell p a.asked place linear_in number reduced kept u w i j in
+        let both = related t differ x v agreed h consistent fine classes tell p [] a.asked place linear_in number reduced kept u w i j in
         let terms_are : terms_watched t v ≡ terms = ap (clause_at t) h.asked.terms in
         let held_are : literals_held t v ≡ map (literal_at t) x.trail.literals = ap (map (literal_at t)) h.held in
         subst (λ (ts : List Term). (class_in terms classes u ≡ class_in terms classes w) ↔ IsCongruent ts (literals_held t v) u w) (sym terms_are)
@@ -284,8 +284,8 @@ module _ (t : TableView) (differ : AreDifferent t.terms) (x : Search) (v : Theor
         → (b.class s ≡ b.class u) ↔ (number_at b.number s ≡ number_at b.number u))
         → (u w : Term) → Contains (clause_at t ids) u → Contains (clause_at t ids) w → Contains (whole_terms p) (pair Equal u w) → (number u ≡ number w) ↔ Congruent u w
     spoken_together law u w i j spoken =
-        let saturated_here = saturated_apart t differ x v agreed h consistent fine classes tell p a.asked place linear_in number reduced kept in
-        let both = law t.symbols p terms (map (literal_at t) x.trail.literals) (given t differ x v agreed h consistent fine classes tell p a.asked place linear_in number reduced kept) saturated_here u w
+        let saturated_here = saturated_apart t differ x v agreed h consistent fine classes tell p [] a.asked place linear_in number reduced kept in
+        let both = law t.symbols p terms (map (literal_at t) x.trail.literals) (given t differ x v agreed h consistent fine classes tell p [] a.asked place linear_in number reduced kept) saturated_here u w
         (a.asked.listed.each (pair Equal u w) spoken) (shared_number (subterms_in p) u (a.shared.only u i)) in
         let other = by_classes u w (shared_listed u i) (shared_listed w j) in (
           λ e. other.0 (both.1 (sym (heads u i) ∙ e ∙ heads w j)),

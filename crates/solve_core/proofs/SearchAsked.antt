@@ -42,9 +42,9 @@ shared_kept t u grows ts ids h =
 
 -- so a search that went on is asked of them still
 pub asked_on : (t u : TableView) (ids : List TermId) (p : Problem) (x y : Search) → Continues t u x y → IsAskedOf t ids p x → IsAskedOf u ids p y
-asked_on t u ids p x y on h = record { asked = on.search p h.asked; shared = shared_kept t u on.table (subterms_in p) ids h.shared; apart = on.apart p h.asked h.apart }
+asked_on t u ids p x y on h = record { asked = on.search p [] h.asked; shared = shared_kept t u on.table (subterms_in p) ids h.shared; apart = on.apart p [] h.asked h.apart }
 
-module _ (t : TableView) (x : Search) (p : Problem) (s : IsSearch t p x) where
+module _ (t : TableView) (x : Search) (p : Problem) (s : IsSearch t p [] x) where
   -- subterms are over the table's symbols
   subterm_sorted : (u : Term) → Contains (subterms_in p) u → IsWellSorted t.symbols [] u
   subterm_sorted u i =
@@ -113,7 +113,7 @@ asked_for_on ts ids t u x y on a = record { interface = a.interface; asked = ask
 
 -- and it is asked of them with more equalities
 pub asked_for_more : (ts : List Term) (ids : List TermId) (t u : TableView) (x y : Search) → Extends t u → (a : IsAskedFor ts ids (state t x)) (more : List Term)
-    → IsSearch u (speaking ts (a.interface ++ more)) y → HoldsApart u (speaking ts (a.interface ++ more)) y → IsAskedFor ts ids (state u y)
+    → IsSearch u (speaking ts (a.interface ++ more)) [] y → HoldsApart u (speaking ts (a.interface ++ more)) [] y → IsAskedFor ts ids (state u y)
 asked_for_more ts ids t u x y grows a more search apart = record {
   interface = a.interface ++ more;
   asked = record {

@@ -166,7 +166,7 @@ below_asked : (ts : List Term) (p : Problem) → p.asserted ≡ ts → AreAmong 
 below_asked ts p is = more_subterms ts (p.asserted ++ p.assumed) (λ t i. Contains-append_left p.asserted p.assumed t (subst (λ (us : List Term). Contains us t) (sym is) i))
 
 -- a search of roots that begins, where lemmas came into its log
-module _ (ts : List Term) (t u : TableView) (x : Search) (roots : List TermId) (formulas : AreFormulasIn t roots) (asked : ts ≡ clause_at t roots) (b : IsBegun t (speaking ts []) x) (log : List Logged)
+module _ (ts : List Term) (t u : TableView) (x : Search) (roots : List TermId) (formulas : AreFormulasIn t roots) (asked : ts ≡ clause_at t roots) (b : IsBegun t (speaking ts []) [] x) (log : List Logged)
     (derives : DerivesLemmas (asserted_below t roots) (derived t x.log) (derived u log)) where
   abbrev pub at_first : Problem
   at_first = speaking ts []
@@ -180,7 +180,7 @@ module _ (ts : List Term) (t u : TableView) (x : Search) (roots : List TermId) (
   pub related_in : HasRelated t u x lemmas_in
   related_in = related_lemmas t u x log (clause_at t x.terms.items) refl b.ready (derives_more (asserted_below t roots) (clause_at t x.terms.items) spoken (derived t x.log) (derived u log) derives)
 
-  pub begun_in : IsBegun u at_first lemmas_in
+  pub begun_in : IsBegun u at_first [] lemmas_in
   begun_in = begun_related t u at_first x lemmas_in related_in b
 
   roots_in : AreIn t roots
@@ -211,10 +211,10 @@ module _ (ts : List Term) (t u : TableView) (x : Search) (roots : List TermId) (
     abbrev pub with_cases : Problem
     with_cases = speaking ts (clause_at u ids)
 
-    pub searched : IsSearch w with_cases y
-    searched = grown.search with_cases (goes_on at_first begun_in.search refl refl)
+    pub searched : IsSearch w with_cases [] y
+    searched = grown.search with_cases [] (goes_on at_first begun_in.search refl refl)
 
-    pub begun_grown : IsBegun w with_cases y
+    pub begun_grown : IsBegun w with_cases [] y
     begun_grown = record {
       ready = grown.ready;
       empty = grown.trail.literals ∙ begun_in.empty;
@@ -293,8 +293,8 @@ module _ (ts : List Term) (t u : TableView) (x : Search) (roots : List TermId) (
 
     -- and where their clauses were kept, it begins with them as facts
     module _ (found : List CaseEquality) (are : ids ≡ map (λ (z : CaseEquality). z.equality) found) (each : All (IsCaseEquality u log roots) found) (z : Search) (related : HasRelated w w y z) (stored : All (IsStored w z) found) where
-      all_search : IsSearch w with_cases z
-      all_search = related.continues.search with_cases searched
+      all_search : IsSearch w with_cases [] z
+      all_search = related.continues.search with_cases [] searched
 
       abbrev clauses : List (List Literal)
       clauses = images w z.store.clauses

@@ -61,7 +61,7 @@ module _ (ts : List Term) (ids : List TermId) (t : TableView) (x : Search) (a : 
   atoms_more = ap (counted_among w) terms ∙ among_both w x.terms.items more ∙ ap (λ us. length (arithmetic_in us) + counted_among w more) (clause_at-kept t w grows x.terms.items there)
 
   -- by the equalities of pairs that were open
-  module _ (pairs : List (TermId × TermId)) (opened : AreOpen t ids (speaking ts a.interface) pairs) (new : List Term) (are : new ≡ map (equality_in t) pairs) (s : IsSearch w (speaking ts (a.interface ++ new)) y) where
+  module _ (pairs : List (TermId × TermId)) (opened : AreOpen t ids (speaking ts a.interface) pairs) (new : List Term) (are : new ≡ map (equality_in t) pairs) (s : IsSearch w (speaking ts (a.interface ++ new)) [] y) where
     abbrev one : TermId × TermId
     one = get_or pairs 0 (no_id, no_id)
 

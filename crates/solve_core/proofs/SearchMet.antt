@@ -46,11 +46,11 @@ has_model t ls ids classes numbers values problem interp m interpretation by int
 }
 
 -- nothing is assumed
-pub nothing_assumed : (t : TableView) (x : Search) (problem : Problem) (s : IsSearch t problem x) (truths : Truths) → All (λ u. term_true_by truths u ≡ true) problem.assumed
-nothing_assumed t x problem s truths = subst (λ (p : Problem). All (λ u. term_true_by truths u ≡ true) p.assumed) s.meant (All-nil (λ u. term_true_by truths u ≡ true))
+pub nothing_assumed : (t : TableView) (x : Search) (problem : Problem) (earlier : List (List Literal)) (s : IsSearch t problem earlier x) (truths : Truths) → All (λ u. term_true_by truths u ≡ true) problem.assumed
+nothing_assumed t x problem earlier s truths = subst (λ (p : Problem). All (λ u. term_true_by truths u ≡ true) p.assumed) s.meant (All-nil (λ u. term_true_by truths u ≡ true))
 
 module _ (t : TableView) (differ : AreDifferent t.terms) (x : Search) (v : TheoryView) (agreed : Type 0) (h : HasSaturated t x v agreed) (consistent : IsConsistent x.trail.literals)
-    (problem : Problem) (s : IsSearch t problem x) where
+    (problem : Problem) (earlier : List (List Literal)) (s : IsSearch t problem earlier x) where
   abbrev ids : List TermId
   ids = x.terms.items
 

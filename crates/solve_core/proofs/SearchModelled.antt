@@ -27,7 +27,7 @@ use Rattle.search_loop.specs.Asking.{HasSaturated}
 use Rattle.solve_core.proofs.SearchMet.{formulas, met, atom_held}
 
 module _ (t : TableView) (differ : AreDifferent t.terms) (x : Search) (v : TheoryView) (agreed : Type 0) (h : HasSaturated t x v agreed) (consistent : IsConsistent x.trail.literals)
-    (fine : IsFine (terms_watched t v) (literals_held t v)) (classes : List ℕ) (tell : TellClasses (AreEqualBy t v) x.terms.items classes) (problem : Problem) (s : IsSearch t problem x) where
+    (fine : IsFine (terms_watched t v) (literals_held t v)) (classes : List ℕ) (tell : TellClasses (AreEqualBy t v) x.terms.items classes) (problem : Problem) (earlier : List (List Literal)) (s : IsSearch t problem earlier x) where
   abbrev ids : List TermId
   ids = x.terms.items
 
@@ -68,12 +68,12 @@ module _ (t : TableView) (differ : AreDifferent t.terms) (x : Search) (v : Theor
     -- where it is saturated, whether its theories agree or not
     pub saturated_apart : IsSaturatedWithNumbers t.symbols problem terms held given
     saturated_apart = record {
-      formulas = formulas t differ x v agreed h consistent problem s;
+      formulas = formulas t differ x v agreed h consistent problem earlier s;
       listed = s.listed.each;
       only = s.listed.only;
       linear = λ u i. linear_in problem s.answered u (s.listed.only u i);
-      met = met t differ x v agreed h consistent problem s;
-      truths = atom_held t differ x v agreed h consistent problem s;
+      met = met t differ x v agreed h consistent problem earlier s;
+      truths = atom_held t differ x v agreed h consistent problem earlier s;
       fine = subst (λ (ts : List Term). IsFine ts held) (ap (clause_at t) h.asked.terms) (subst (IsFine (terms_watched t v)) (ap (map (literal_at t)) h.held) fine);
       classes = related;
       reduced = reduced;

@@ -36,8 +36,8 @@ module _ (t : TableView) (roots : List TermId) (limits : Limits) (x : Search) (e
   asked = clause_at t roots
 
   -- a search that speaks of nothing grows to them
-  pub grows_to : GrowsTo t x roots [] (asserting asked)
-  grows_to = begins e.blank refl
+  pub grows_to : GrowsTo t x roots [] [] (asserting asked)
+  grows_to = begins e.blank refl refl
 
   -- an operation left the bound before that
   pub decided_overflow : IsLogOf t [] → (w : Wide) (d : Outcome) → IsOverflowedBy limits w d → FindsOverflow t (asserting asked) None → IsOverflowAmong (whole_terms (asserting asked)) (overflow w) → HasDecision t asked limits d
@@ -55,13 +55,13 @@ module _ (t : TableView) (roots : List TermId) (limits : Limits) (x : Search) (e
     same_asked = clause_at-kept t w grown.table roots (formulas_in t roots formulas)
 
     -- so it begins
-    pub begun : IsBegun w (speaking (clause_at w roots) []) y
+    pub begun : IsBegun w (speaking (clause_at w roots) []) [] y
     begun = record {
       ready = grown.ready;
       empty = grown.trail.literals ∙ e.empty;
       level = grown.trail.level ∙ e.level;
       fed = grown.fed ∙ e.fed;
-      search = grown.search (speaking (clause_at w roots) []) (begins e.blank (ap (λ (ts : List Term). speaking ts []) same_asked));
+      search = grown.search (speaking (clause_at w roots) []) [] (begins e.blank refl (ap (λ (ts : List Term). speaking ts []) same_asked));
       unlearned = ap (λ (b : BudgetView). b.learned) grown.budget ∙ e.blank.learned;
       unspent = ap (λ (b : BudgetView). b.exchanges) grown.budget ∙ e.unspent;
     }

@@ -28,7 +28,7 @@ use Rattle.solve_core.proofs.SearchForms.{overflows_first}
 
 module _ (t : TableView) (p : Problem) (limits : Limits) (empty : IsLogOf t []) where
   -- nothing was logged or learned
-  nothing_learned : (s : Strain) → IsLearning t p [] (Unknown (Overflow s)) []
+  nothing_learned : (s : Strain) → IsLearning t p [] [] (Unknown (Overflow s)) []
   nothing_learned s = record {
     assumes = All-nil (λ (l : Logged). AssumesAmong (terms_of_problem p) (inference_of t l));
     learns = record {
@@ -56,9 +56,9 @@ module _ (t : TableView) (p : Problem) (limits : Limits) (empty : IsLogOf t []) 
         limit_is = ap (λ (b : BudgetView). b.limit) h.budget;
         learned_within = omega (arith, ap length none);
         forms = elim cause [ inl f ↦ inr (w, f, h) | inr o ↦ inl o.0 ];
-        evidence = subst (HasEvidence t p d.log d.budget) (sym h.answer) shown;
-        learning = subst (λ (a : Answer). IsLearning t p d.log a d.budget.learned) (sym h.answer)
-            (subst (λ (log : List Logged). IsLearning t p log (Unknown (Overflow h.strain)) d.budget.learned) (sym h.log)
-            (subst (IsLearning t p [] (Unknown (Overflow h.strain))) (sym none) (nothing_learned h.strain)));
+        evidence = subst (HasEvidence t p d.log [] d.budget) (sym h.answer) shown;
+        learning = subst (λ (a : Answer). IsLearning t p d.log [] a d.budget.learned) (sym h.answer)
+            (subst (λ (log : List Logged). IsLearning t p log [] (Unknown (Overflow h.strain)) d.budget.learned) (sym h.log)
+            (subst (IsLearning t p [] [] (Unknown (Overflow h.strain))) (sym none) (nothing_learned h.strain)));
         exchanged = subst (HasMade p d.budget) (sym h.answer) tt;
       }

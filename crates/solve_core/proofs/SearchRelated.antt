@@ -30,7 +30,7 @@ use Rattle.solve_core.specs.Relating.{HasRelated}
 
 -- nothing came
 pub related_same : (t : TableView) (x : Search) → SearchFits t x → HasRelated t t x x
-related_same t x ready = record { continues = continues_same t x x refl refl refl refl refl; ready = ready; same = refl }
+related_same t x ready = record { continues = continues_same t x x refl refl refl refl refl refl; ready = ready; same = refl }
 
 -- one after the other
 pub related_on : (s t u : TableView) (a b c : Search) → HasRelated s t a b → HasRelated t u b c → HasRelated s u a c
@@ -76,25 +76,25 @@ pub pair_later : (t u : TableView) (x y : Search) (p : BoundPair) → HasRelated
 pair_later t u x y p h pair = subst (λ (ids : Ids). IsPairOf ids.items p) (sym (ap (λ (s : Search). s.atoms) h.same)) pair
 
 -- a search that begins does so still
-pub begun_related : (t u : TableView) (p : Problem) (x y : Search) → HasRelated t u x y → IsBegun t p x → IsBegun u p y
+pub begun_related : (t u : TableView) (p : Problem) (x y : Search) → HasRelated t u x y → IsBegun t p [] x → IsBegun u p [] y
 begun_related t u p x y h b = record {
   ready = h.ready;
   empty = ap (λ (s : Search). s.trail.literals) h.same ∙ b.empty;
   level = ap (λ (s : Search). s.trail.level) h.same ∙ b.level;
   fed = ap (λ (s : Search). s.fed) h.same ∙ b.fed;
-  search = h.continues.search p b.search;
+  search = h.continues.search p [] b.search;
   unlearned = ap (λ (s : Search). s.budget.learned) h.same ∙ b.unlearned;
   unspent = ap (λ (s : Search). s.budget.exchanges) h.same ∙ b.unspent;
 }
 
 -- so it does over a table that has more
-pub begun_wider : (t u : TableView) → Extends t u → declared_in u ≡ declared_in t → (p : Problem) (x : Search) → IsLogOf u x.log → derivation_in u x.log ≡ derivation_in t x.log → IsBegun t p x → IsBegun u p x
+pub begun_wider : (t u : TableView) → Extends t u → declared_in u ≡ declared_in t → (p : Problem) (x : Search) → IsLogOf u x.log → derivation_in u x.log ≡ derivation_in t x.log → IsBegun t p [] x → IsBegun u p [] x
 begun_wider t u g declared p x right same b = record {
   ready = ready_wider t u g declared x right same b.ready;
   empty = b.empty;
   level = b.level;
   fed = b.fed;
-  search = (continues_wider t u g declared x right same b.ready).search p b.search;
+  search = (continues_wider t u g declared x right same b.ready).search p [] b.search;
   unlearned = b.unlearned;
   unspent = b.unspent;
 }
@@ -103,16 +103,16 @@ begun_wider t u g declared p x right same b = record {
 pub begun_for_related : (ts : List Term) (t u : TableView) (x y : Search) → HasRelated t u x y → IsBegunFor ts (state t x) → IsBegunFor ts (state u y)
 begun_for_related ts t u x y h b =
     let p = speaking ts b.interface in
-    record { interface = b.interface; begun = begun_related t u p x y h b.begun; apart = h.continues.apart p b.begun.search b.apart }
+    record { interface = b.interface; begun = begun_related t u p x y h b.begun; apart = h.continues.apart p [] b.begun.search b.apart }
 
 pub begun_for_wider : (ts : List Term) (t u : TableView) → Extends t u → declared_in u ≡ declared_in t → (x : Search) → IsLogOf u x.log → derivation_in u x.log ≡ derivation_in t x.log → IsBegunFor ts (state t x) → IsBegunFor ts (state u x)
 begun_for_wider ts t u g declared x right same b =
     let p = speaking ts b.interface in
     let on = continues_wider t u g declared x right same b.begun.ready in
-    record { interface = b.interface; begun = begun_wider t u g declared p x right same b.begun; apart = on.apart p b.begun.search b.apart }
+    record { interface = b.interface; begun = begun_wider t u g declared p x right same b.begun; apart = on.apart p [] b.begun.search b.apart }
 
 -- a search without interface equalities begins with no facts
-pub begun_for_none : (ts : List Term) (t : TableView) (x : Search) → IsBegun t (speaking ts []) x → IsBegunFor ts (state t x)
+pub begun_for_none : (ts : List Term) (t : TableView) (x : Search) → IsBegun t (speaking ts []) [] x → IsBegunFor ts (state t x)
 begun_for_none ts t x b =
     let p = speaking ts [] in
     record {

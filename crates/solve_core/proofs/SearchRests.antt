@@ -1,6 +1,6 @@
 -- What a search with both theories shows where it ends, and that it can go on where it rests.
 use Rattle.std.specs.Prelude.{Result, Ok, Err, IsErrAnd, MatchResult}
-use Rattle.std.proofs.Common.{◌≡◌, ◌+◌, ◌≤◌, ℕ, List, length, sym, ap, ◌∙◌, subst, arith}
+use Rattle.std.proofs.Common.{◌≡◌, ◌+◌, ◌≤◌, ℕ, List, [], length, sym, ap, ◌∙◌, subst, arith}
 use Rattle.spec_sorts.specs.Terms.{Term}
 use Rattle.spec_sorts.specs.Subsets.{AreAmong}
 use Rattle.spec_derivations.specs.Orders.{whole_terms}
@@ -120,7 +120,7 @@ stopped_in ts ids t w x y v z h differ limit limit_is P Q (stops.Strained e) sto
     let l = length y.budget.learned in
     let m = paid_by w y r (atoms_of w y) in
     let few : m ≤ 1 + paid (atoms_of t x) l r (atoms_of t x) = subst (λ a. m ≤ 1 + paid a l r a) atoms (omega arith) in
-    strained_by ts limit w y h.terms.interface h.terms.asked.apart.equalities (images w y.store.clauses) (on.search p s).derived (on.apart p s h.terms.asked.apart).apart stopped.1.right (on.limit ∙ limit_is) (stops.Strained e)
+    strained_by ts limit w y h.terms.interface h.terms.asked.apart.equalities (images w y.store.clauses) (on.search p [] s).derived (on.apart p [] s h.terms.asked.apart).apart stopped.1.right (on.limit ∙ limit_is) (stops.Strained e)
     (stop_shown t differ x h.ready p s.listed.only r grew (Q (whole_terms p)) w z.simplex l m y.budget.exchanges (terms_watched w (theory_of z.congruence)) among few (stops.Strained e)
     (came (whole_terms p) s.listed.only) strain)
 stopped_in ts ids t w x y v z h differ limit limit_is P Q stops.Memory stopped strain r grew came = tt

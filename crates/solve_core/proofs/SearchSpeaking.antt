@@ -74,10 +74,10 @@ module _ (ts : List Term) (ids : List TermId) (t : TableView) (x : Search) (v : 
   abbrev pub before : Problem
   before = speaking ts interface
 
-  pub asked : IsSearch t before x
+  pub asked : IsSearch t before [] x
   asked = h.searching.terms.asked.asked
 
-  pub facts : HoldsApart t before x
+  pub facts : HoldsApart t before [] x
   facts = h.searching.terms.asked.apart
 
   pub comparable : All (IsComparable t) pairs
@@ -103,7 +103,7 @@ module _ (ts : List Term) (ids : List TermId) (t : TableView) (x : Search) (v : 
     spoken u i = whole before after (known_more ts interface new) u (asked.listed.only u i)
 
     -- it stops where an order of an equality leaves the bound
-    module _ (differ : AreDifferent t.terms) (u : TableView) (y : Search) (on : IsSearch u before y) (on_facts : HoldsApart u before y) (right : IsLogOf u y.log) (budget : y.budget ≡ x.budget) (limit : ℕ) (limit_is : y.budget.limit ≡ limit)
+    module _ (differ : AreDifferent t.terms) (u : TableView) (y : Search) (on : IsSearch u before [] y) (on_facts : HoldsApart u before [] y) (right : IsLogOf u y.log) (budget : y.budget ≡ x.budget) (limit : ℕ) (limit_is : y.budget.limit ≡ limit)
         (z : SimplexView) (came : (us : List Term) (n : ℕ) → CameBy t us n x.budget.exchanges v.simplex → CameBy t us n x.budget.exchanges z) where
       paid : IsPaid (λ n. CameBy t (whole_terms after) n x.budget.exchanges z) (1 + paid_by t x h.searching.grown (atoms_of t x))
       paid = let p = h.searching.paid (whole_terms after) spoken in (p.0, omega (arith, p.1), came (whole_terms after) p.0 p.2)
@@ -125,12 +125,12 @@ module _ (ts : List Term) (ids : List TermId) (t : TableView) (x : Search) (v : 
       pub order_stops : (w : Wide) → IsOverflowAmong (whole_terms after) (overflow w) → (stop : Stop) → StopsBy (λ s. (s.wide ≡ w) × IsBasisOf z.assignment s.basis) stop → IsStoppedBy ts limit (state u y) stop
       order_stops w order stop by =
           strained_by ts limit u y (interface ++ new) all_equalities (images u y.store.clauses)
-          (derived_of_more before after refl refl (known_more ts interface new) (derivation_in u y.log) (images u y.store.clauses) (images u y.budget.learned) on.derived)
+          (derived_of_more before after refl refl (known_more ts interface new) (derivation_in u y.log) (images u y.store.clauses) [] (images u y.budget.learned) on.derived)
           (All-weaker (StandsApart before) (StandsApart after) (apart_more before new) (images u y.budget.learned) on_facts.apart) right limit_is stop
           (subst (λ (b : BudgetView). StopsBy (IsOverflowed after (length b.learned) b.exchanges) stop) (sym budget) (overflowed w order stop by))
 
     -- where it grew
-    module _ (u : TableView) (grows : Extends t u) (y : Search) (more : List TermId) (terms : y.terms.items ≡ x.terms.items ++ more) (on : IsSearch u after y) (on_facts : HoldsApart u after y) (budget : y.budget ≡ x.budget) (ready : SearchFits u y) where
+    module _ (u : TableView) (grows : Extends t u) (y : Search) (more : List TermId) (terms : y.terms.items ≡ x.terms.items ++ more) (on : IsSearch u after [] y) (on_facts : HoldsApart u after [] y) (budget : y.budget ≡ x.budget) (ready : SearchFits u y) where
       there : AreIn t x.terms.items
       there = λ k d lt. (h.searching.ready.atoms_are.there k d lt).0
 
@@ -178,30 +178,30 @@ module _ (ts : List Term) (ids : List TermId) (t : TableView) (x : Search) (v : 
   on_wider : Continues t u x x
   on_wider = continues_wider t u wider.terms wider.declared x right same h.searching.ready
 
-  pub resting : IsSearch u (before ts ids t x v pairs h) at
-  resting = back.search (before ts ids t x v pairs h) (on_wider.search (before ts ids t x v pairs h) (asked ts ids t x v pairs h))
+  pub resting : IsSearch u (before ts ids t x v pairs h) [] at
+  resting = back.search (before ts ids t x v pairs h) [] (on_wider.search (before ts ids t x v pairs h) [] (asked ts ids t x v pairs h))
 
-  pub resting_facts : HoldsApart u (before ts ids t x v pairs h) at
+  pub resting_facts : HoldsApart u (before ts ids t x v pairs h) [] at
   resting_facts =
       let p = before ts ids t x v pairs h in
       let own = asked ts ids t x v pairs h in
-      back.apart p (on_wider.search p own) (on_wider.apart p own (facts ts ids t x v pairs h))
+      back.apart p [] (on_wider.search p [] own) (on_wider.apart p [] own (facts ts ids t x v pairs h))
 
   -- it grows to the problem with these equalities
-  pub grows_to : GrowsTo u at [] new (after ts ids t x v pairs h (clause_at u new) are)
+  pub grows_to : GrowsTo u at [] new [] (after ts ids t x v pairs h (clause_at u new) are)
   grows_to = by_interface (before ts ids t x v pairs h) resting refl refl
 
   module _ (w : TableView) (z : Search) (grown_by : HasGrown (state u at) (state w z) [] new) (r : TableView) (y : Search) (related : HasRelated w r z y) where
     pub grown_table : Extends t r
     grown_table = Extends-trans t u r wider.terms (Extends-trans u w r grown_by.table related.continues.table)
 
-    pub grown_search : IsSearch r (after ts ids t x v pairs h (clause_at u new) are) y
-    grown_search = related.continues.search (after ts ids t x v pairs h (clause_at u new) are) (grown_by.search (after ts ids t x v pairs h (clause_at u new) are) grows_to)
+    pub grown_search : IsSearch r (after ts ids t x v pairs h (clause_at u new) are) [] y
+    grown_search = related.continues.search (after ts ids t x v pairs h (clause_at u new) are) [] (grown_by.search (after ts ids t x v pairs h (clause_at u new) are) [] grows_to)
 
-    pub grown_facts : HoldsApart r (after ts ids t x v pairs h (clause_at u new) are) y
+    pub grown_facts : HoldsApart r (after ts ids t x v pairs h (clause_at u new) are) [] y
     grown_facts =
         let p = after ts ids t x v pairs h (clause_at u new) are in
-        related.continues.apart p (grown_by.search p grows_to) (grown_by.apart (before ts ids t x v pairs h) resting resting_facts refl (shared ts ids t x v pairs h (clause_at u new) are))
+        related.continues.apart p [] (grown_by.search p [] grows_to) (grown_by.apart (before ts ids t x v pairs h) [] resting resting_facts refl (shared ts ids t x v pairs h (clause_at u new) are))
 
     pub grown_budget : y.budget ≡ x.budget
     grown_budget = ap (λ (s : Search). s.budget) related.same ∙ grown_by.budget ∙ unspent

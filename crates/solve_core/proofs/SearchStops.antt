@@ -52,10 +52,10 @@ front_among t ids more watched k is u i =
     subst (Contains (clause_at t (ids ++ more))) n.2 (to_image (term_at t) (ids ++ more) n.0 there)
 
 -- an answer is shown of terms that are asserted, with interface equalities of which the search was asked
-pub answered_by : (ts : List Term) (limit : ℕ) (t w : TableView) (x y : Search) (interface : List Term) → IsSearch t (speaking ts interface) x → HoldsApart t (speaking ts interface) x
+pub answered_by : (ts : List Term) (limit : ℕ) (t w : TableView) (x y : Search) (interface : List Term) → IsSearch t (speaking ts interface) [] x → HoldsApart t (speaking ts interface) [] x
     → IsLogOf w y.log → y.budget.limit ≡ limit → (a : Answer) → ShowsAnswer t w x y a → HasMade (speaking ts interface) y.budget a → IsAnswered ts limit (state w y) a
 answered_by ts limit t w x y interface s apart right limit_is a shows made =
-    let shown = shows (speaking ts interface) s apart in
+    let shown = shows (speaking ts interface) [] s apart in
     record {
       right = right;
       limit_is = limit_is;
@@ -68,7 +68,7 @@ answered_by ts limit t w x y interface s apart right limit_is a shows made =
 
 -- such an overflow is shown of the terms
 pub strained_by : (ts : List Term) (limit : ℕ) (t : TableView) (x : Search) (interface : List Term) → AreInterfaceEqualities (speaking ts interface) → (cs : List (List Literal))
-    → HasDerived (speaking ts interface) (derivation_in t x.log) cs (images t x.budget.learned) → All (StandsApart (speaking ts interface)) (images t x.budget.learned) → IsLogOf t x.log → x.budget.limit ≡ limit → (stop : Stop)
+    → HasDerived (speaking ts interface) (derivation_in t x.log) cs [] (images t x.budget.learned) → All (StandsApart (speaking ts interface)) (images t x.budget.learned) → IsLogOf t x.log → x.budget.limit ≡ limit → (stop : Stop)
     → StopsBy (IsOverflowed (speaking ts interface) (length x.budget.learned) x.budget.exchanges) stop → IsStoppedBy ts limit (state t x) stop
 strained_by ts limit t x interface equalities cs derived apart right limit_is (stops.Strained e) h = record {
   right = right;
@@ -76,7 +76,7 @@ strained_by ts limit t x interface equalities cs derived apart right limit_is (s
   interface = interface;
   equalities = equalities;
   evidence = h;
-  learning = derived_shows t (speaking ts interface) x.log cs x.budget.learned (Unknown (reasons.Overflow e)) right derived apart derived.steps;
+  learning = derived_shows t (speaking ts interface) x.log cs [] x.budget.learned (Unknown (reasons.Overflow e)) right derived apart derived.steps;
   exchanged = tt;
 }
 strained_by ts limit t x interface equalities cs derived apart right limit_is stops.Memory h = tt

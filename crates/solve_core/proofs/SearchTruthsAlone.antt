@@ -12,6 +12,7 @@ use Rattle.spec_derivations.specs.Problems.{Problem}
 use Rattle.spec_valuations.specs.Propositional.{AppliesNothing, IsPropositional, IsPropositionallySaturated}
 use Rattle.term_core.specs.declared.ids.TermId.{TermId}
 use Rattle.term_core.specs.Tables.{TableView, AreDifferent, Extends, term_at, clause_at}
+use Rattle.spec_sorts.specs.Literals.{Literal}
 use Rattle.clause_literals.specs.Literals.{IsConsistent}
 use Rattle.proof_log.specs.Theories.{TheoryView}
 use Rattle.search_model.specs.Models.{truths_of, TakeNumbersOf}
@@ -69,12 +70,12 @@ pub takes_none : (terms : List Term) → All IsPropositional terms → TakeNumbe
 takes_none terms plain s ts u i j e = absurd (none u (subst (λ (us : List Term). Contains us u) (All-contains IsPropositional terms (app (Apply s) ts) plain i).bare j))
 
 module _ (t : TableView) (differ : AreDifferent t.terms) (x : Search) (v : TheoryView) (agreed : Type 0) (h : HasSaturated t x v agreed) (consistent : IsConsistent x.trail.literals)
-    (problem : Problem) (s : IsSearch t problem x) where
+    (problem : Problem) (earlier : List (List Literal)) (s : IsSearch t problem earlier x) where
   pub saturated_here : All IsPropositional (clause_at t x.terms.items) → IsPropositionallySaturated t.symbols problem (clause_at t x.terms.items) (truths_of t x.trail.literals)
   saturated_here plain = record {
-    formulas = formulas t differ x v agreed h consistent problem s;
+    formulas = formulas t differ x v agreed h consistent problem earlier s;
     listed = s.listed.each;
     only = s.listed.only;
     propositional = plain;
-    met = met t differ x v agreed h consistent problem s;
+    met = met t differ x v agreed h consistent problem earlier s;
   }

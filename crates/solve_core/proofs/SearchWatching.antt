@@ -14,7 +14,7 @@ use Rattle.search_loop.specs.Growing.{IsBegun}
 use Rattle.search_loop.proofs.SearchTheories.{keeps_begun}
 
 -- a theory that holds nothing keeps up with a search that begins
-pub asked_begun : (t : TableView) (p : Problem) (x : Search) (v : TheoryView) → IsBegun t p x → v.held ≡ [] → v.watched ≡ x.terms.items → v.marks ≡ [] → IsAsked v x
+pub asked_begun : (t : TableView) (p : Problem) (x : Search) (v : TheoryView) → IsBegun t p [] x → v.held ≡ [] → v.watched ≡ x.terms.items → v.marks ≡ [] → IsAsked v x
 asked_begun t p x v b held watched marks = record {
   keeps = keeps_begun v x.trail held marks b.empty b.level;
   terms = watched;

@@ -1,5 +1,5 @@
 -- What a search shows with its theories, from the beginning to an answer.
-use Rattle.std.specs.Prelude.{◌≡◌, ◌↔◌, ℕ, true, List, length, map, All, Contains, Result, Ok, Err}
+use Rattle.std.specs.Prelude.{◌≡◌, ◌↔◌, ℕ, true, List, [], length, map, All, Contains, Result, Ok, Err}
 use Rattle.spec_numbers.specs.Fractions.{Fraction, IsReduced}
 use Rattle.spec_sorts.specs.Terms.{Number, Term, sort_of}
 use Rattle.spec_derivations.specs.Problems.{subterms_in}
@@ -83,9 +83,9 @@ pub record IsAnswered (ts : List Term) (limit : ℕ) (s : SearchState) (a : Answ
   pub interface : List Term
   pub equalities : All (IsInterfaceEquality (subterms_in (asserting ts))) interface
   -- it shows what it should of the terms
-  pub evidence : HasEvidence s.table (speaking ts interface) s.search.log s.search.budget a
+  pub evidence : HasEvidence s.table (speaking ts interface) s.search.log [] s.search.budget a
   -- and so do the log and what was learned
-  pub learning : IsLearning s.table (speaking ts interface) s.search.log a s.search.budget.learned
+  pub learning : IsLearning s.table (speaking ts interface) s.search.log [] a s.search.budget.learned
   -- the exchanges are those of the search
   pub exchanged : HasMade (speaking ts interface) s.search.budget a
 

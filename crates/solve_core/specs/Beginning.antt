@@ -17,9 +17,9 @@ pub record IsBegunFor (ts : List Term) (s : SearchState) : Type 0 where
   -- the equalities
   pub interface : List Term
   -- it begins
-  pub begun : IsBegun s.table (speaking ts interface) s.search
+  pub begun : IsBegun s.table (speaking ts interface) [] s.search
   -- with these facts
-  pub apart : HoldsApart s.table (speaking ts interface) s.search
+  pub apart : HoldsApart s.table (speaking ts interface) [] s.search
 
 -- the disjunction and the equality to which its cases lead are atoms
 abbrev pub IsOverAtomsOf : List TermId → CaseEquality → Type 0

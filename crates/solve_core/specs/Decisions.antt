@@ -41,9 +41,9 @@ pub record IsJustified (t : TableView) (p : Problem) (limits : Limits) (d : Outc
   -- each atom has a form; or the answer is the overflow of the first that has none, and nothing else was done
   pub forms : FindsOverflow t p None ⊎ ((w : Wide) × FindsOverflow t p (Some w) × IsOverflowedBy limits w d)
   -- the answer shows what it should
-  pub evidence : HasEvidence t p d.log d.budget d.answer
+  pub evidence : HasEvidence t p d.log [] d.budget d.answer
   -- and so do the log and what was learned
-  pub learning : IsLearning t p d.log d.answer d.budget.learned
+  pub learning : IsLearning t p d.log [] d.answer d.budget.learned
   -- the exchanges are those of the check
   pub exchanged : HasMade p d.budget d.answer
 

@@ -57,11 +57,11 @@ pub record AddsSharedTerms (t : TableView) (old new : List TermId) (ts : List Te
 -- A search is asked a problem with interface equalities, and the numbers are those of the shared terms.
 pub record IsAskedOf (t : TableView) (ids : List TermId) (p : Problem) (x : Search) : Type 0 where
   -- it is asked the problem
-  pub asked : IsSearch t p x
+  pub asked : IsSearch t p [] x
   -- these are shared
   pub shared : AreSharedOf t (subterms_in p) ids
   -- and of the interface equalities those of elements are facts
-  pub apart : HoldsApart t p x
+  pub apart : HoldsApart t p [] x
 
 -- Two of the numbers, of different terms, of whose equality a search of a problem does not speak.
 pub record IsOpen (t : TableView) (ids : List TermId) (p : Problem) (x : TermId × TermId) : Type 0 where

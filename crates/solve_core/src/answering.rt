@@ -70,7 +70,7 @@ pub(crate) fn answer(
     ghost asked: { List Term }
     requires asked { asked ≡ clause_at table.old roots.now }
     requires roots { AreFormulasIn table.old roots.now }
-    requires begun { IsBegun table.old (speaking asked []) search.old }
+    requires begun { IsBegun table.old (speaking asked []) [] search.old }
     ensures grown { Extends table.old table.new }
     ensures declared { declared_in table.new ≡ declared_in table.old }
     ensures answered { IfOk result (IsAnswered asked search.old.budget.limit (state table.new search.new)) }

@@ -60,7 +60,7 @@ pub(crate) fn speak_of_cases(
     ghost asked: { List Term }
     requires asked { asked ≡ clause_at table.old roots.now }
     requires roots { AreFormulasIn table.old roots.now }
-    requires begun { IsBegun table.old (speaking asked []) search.old }
+    requires begun { IsBegun table.old (speaking asked []) [] search.old }
     ensures grown { Extends table.old table.new }
     ensures declared { declared_in table.new ≡ declared_in table.old }
     ensures limit { OnOk result (KeepsLimit search.old.budget search.new.budget) }

@@ -5,13 +5,12 @@ use Rattle.std.proofs.lemmas.List.Elements.{All-append, All-cons, All-head, All-
 use Rattle.spec_sorts.specs.Terms.{Term}
 use Rattle.spec_sorts.specs.Literals.{Literal, complement, literals_of}
 use Rattle.spec_derivations.specs.Problems.{Problem, terms_of_problem}
-use Rattle.spec_derivations.specs.Orders.{first_clauses}
 use Rattle.spec_derivations.specs.Lemmas.{IsLemma, HasLemma}
 use Rattle.spec_derivations.specs.Inputs.{IsInput}
-use Rattle.spec_derivations.specs.ExactChains.{IsExactResolvent, IsExactFrom}
+use Rattle.spec_derivations.specs.ExactChains.{IsExactResolvent, AreExactResolvents, IsExactFrom}
 use Rattle.spec_derivations.specs.Derivations.{Inference, «assumption», by_rule, Derivation, conclusion, premises_of, no_inference, inference_at, conclusion_at, IsDerivation, DependsOn, itself, by_premise, AssumesAmong, IsDerivedFrom}
 use Rattle.spec_derivations.specs.Learned.{IsNew, AreNew}
-use Rattle.spec_derivations.specs.Spent.{IsLearnedFrom, IsOverAtoms, AreLearned, CanLearnMore}
+use Rattle.spec_derivations.specs.Spent.{IsLearnedFrom, IsOverAtoms, at_start, AreLearned, CanLearnMore}
 use Rattle.spec_derivations.proofs.Derivations.{follows_at}
 use Rattle.spec_derivations.proofs.Exact.{chain_more, resolvents_more, resolvents_pushed}
 use Rattle.spec_derivations.proofs.Spending.{premises_before, depends_there}
@@ -86,18 +85,34 @@ new_pushed premises [] c news new = (subst (λ ps. IsNew ps c) (append-nil premi
 new_pushed premises (l ∷ learned) c news new = (news.0, new_pushed (premises ++ l ∷ []) learned c news.1 (subst (λ ps. IsNew ps c) (sym (append_assoc premises (l ∷ []) learned)) new))
 
 -- the clause of a conflict, after those that were learned
-pub one_more : (p : Problem) (d : Derivation) (learned : List (List Literal)) → AreLearned p d learned → (x : CanLearnMore p d learned) → AreLearned p (d ++ x.more) (learned ++ x.clause ∷ [])
-one_more p d learned h x = record {
-  right = x.right;
-  derived = All-append (IsLearnedFrom p (d ++ x.more)) learned (x.clause ∷ []) (λ k e lt. learned_onward d x.more h.right p _ (h.derived k e lt)) (All-cons (IsLearnedFrom p (d ++ x.more)) x.clause [] x.derived (All-nil (IsLearnedFrom p (d ++ x.more))));
-  atoms = All-append (IsOverAtoms p) learned (x.clause ∷ []) h.atoms (All-cons (IsOverAtoms p) x.clause [] x.atoms (All-nil (IsOverAtoms p)));
-  new = new_pushed (map literals_of (first_clauses p)) learned x.clause h.new x.new;
-  exact = resolvents_pushed complement (IsInput p (d ++ x.more)) learned x.clause
-      (resolvents_more complement (IsInput p d) (IsInput p (d ++ x.more)) (input_onward d x.more p) learned h.exact) (
-        x.exact.0,
-        chain_more complement (λ c. IsInput p d c ⊎ Contains learned c) (λ c. IsInput p (d ++ x.more) c ⊎ Contains learned c) (λ c g. elim g [
-          | inl i ↦ inl (input_onward d x.more p c i)
-          | inr i ↦ inr i
-        ]) x.exact.0 x.clause x.exact.1,
-      );
-}
+pub one_more : (p : Problem) (d : Derivation) (earlier learned : List (List Literal)) → AreLearned p d earlier learned → (x : CanLearnMore p d earlier learned) → AreLearned p (d ++ x.more) earlier (learned ++ x.clause ∷ [])
+one_more p d earlier learned h x =
+    let all : (earlier ++ learned) ++ x.clause ∷ [] ≡ earlier ++ (learned ++ x.clause ∷ []) = append_assoc earlier learned (x.clause ∷ []) in
+    record {
+      right = x.right;
+      derived = subst (λ cs. All (IsLearnedFrom p (d ++ x.more)) cs) all
+          (All-append (IsLearnedFrom p (d ++ x.more)) (earlier ++ learned) (x.clause ∷ []) (λ k e lt. learned_onward d x.more h.right p _ (h.derived k e lt)) (All-cons (IsLearnedFrom p (d ++ x.more)) x.clause [] x.derived (All-nil (IsLearnedFrom p (d ++ x.more)))));
+      atoms = subst (λ cs. All (IsOverAtoms p) cs) all (All-append (IsOverAtoms p) (earlier ++ learned) (x.clause ∷ []) h.atoms (All-cons (IsOverAtoms p) x.clause [] x.atoms (All-nil (IsOverAtoms p))));
+      new = new_pushed (at_start p earlier) learned x.clause h.new x.new;
+      exact = subst (λ cs. AreExactResolvents complement (IsInput p (d ++ x.more)) cs) all
+          (resolvents_pushed complement (IsInput p (d ++ x.more)) (earlier ++ learned) x.clause
+          (resolvents_more complement (IsInput p d) (IsInput p (d ++ x.more)) (input_onward d x.more p) (earlier ++ learned) h.exact) (
+            x.exact.0,
+            chain_more complement (λ c. IsInput p d c ⊎ Contains (earlier ++ learned) c) (λ c. IsInput p (d ++ x.more) c ⊎ Contains (earlier ++ learned) c) (λ c g. elim g [
+              | inl i ↦ inl (input_onward d x.more p c i)
+              | inr i ↦ inr i
+            ]) x.exact.0 x.clause x.exact.1,
+          ));
+    }
+
+-- what was learned before a check that has learned nothing yet
+pub serves : (p : Problem) (d : Derivation) (earlier learned : List (List Literal)) → AreLearned p d earlier learned → AreLearned p d (earlier ++ learned) []
+serves p d earlier learned h =
+    let all : earlier ++ learned ≡ (earlier ++ learned) ++ [] = sym (append-nil (earlier ++ learned)) in
+    record {
+      right = h.right;
+      derived = subst (λ cs. All (IsLearnedFrom p d) cs) all h.derived;
+      atoms = subst (λ cs. All (IsOverAtoms p) cs) all h.atoms;
+      new = tt;
+      exact = subst (λ cs. AreExactResolvents complement (IsInput p d) cs) all h.exact;
+    }

@@ -15,11 +15,10 @@ use Rattle.spec_rules.specs.Schemes.{schemes, clauses_by}
 use Rattle.spec_derivations.specs.Problems.{Problem, terms_of_problem, subterms_in}
 use Rattle.spec_derivations.specs.Derivations.{Inference, assumption, by_rule, Derivation, conclusion, premises_of, no_inference, inference_at, conclusion_at, FollowsFrom, IsDerivation, DependsOn, itself, by_premise, AssumesAmong, IsDerivedFrom}
 use Rattle.spec_derivations.specs.Base.{clauses_of, base_clauses}
-use Rattle.spec_derivations.specs.Orders.{first_clauses}
 use Rattle.spec_derivations.specs.Inputs.{IsInput}
 use Rattle.spec_derivations.specs.ExactChains.{IsExactResolvent}
 use Rattle.spec_derivations.specs.Learned.{IsNew}
-use Rattle.spec_derivations.specs.Spent.{IsLearnedFrom, IsOverAtoms, AreLearned, CanLearnMore}
+use Rattle.spec_derivations.specs.Spent.{IsLearnedFrom, IsOverAtoms, at_start, AreLearned, CanLearnMore}
 use Rattle.spec_derivations.proofs.Derivations.{right_push}
 use Rattle.spec_derivations.proofs.Holding.{has_rule}
 use Rattle.spec_derivations.proofs.Onward.{kept_at, derived_onward}
@@ -138,13 +137,13 @@ module _ (p : Problem) where
       }
 
   -- a clause that follows from both by propagation is that of a conflict
-  pub propagated : (d : Derivation) (learned : List (List Literal)) (clause : Clause) → AreLearned p d learned → IsOverAtoms p (literals_of clause) → Resolves complement (map literals_of (base_clauses p) ++ learned) (literals_of clause) → IsNew (map literals_of (first_clauses p) ++ learned) (literals_of clause)
-      → IsExactResolvent complement (λ c. IsInput p d c ⊎ Contains learned c) (literals_of clause) → CanLearnMore p d learned
-  propagated d learned clause h atoms follows new exact =
+  pub propagated : (d : Derivation) (earlier learned : List (List Literal)) (clause : Clause) → AreLearned p d earlier learned → IsOverAtoms p (literals_of clause) → Resolves complement (map literals_of (base_clauses p) ++ (earlier ++ learned)) (literals_of clause) → IsNew (at_start p earlier ++ learned) (literals_of clause)
+      → IsExactResolvent complement (λ c. IsInput p d c ⊎ Contains (earlier ++ learned) c) (literals_of clause) → CanLearnMore p d earlier learned
+  propagated d earlier learned clause h atoms follows new exact =
       let base = extended d h.right (base_clauses p) (λ c c_in. c_in) in
       let e = d ++ base.more in
-      let old = numbers_onward terms d base.more learned h.right (learned_numbers d learned h.derived) in
-      let all = numbers_both terms e (map literals_of (base_clauses p)) learned base.has old in
+      let old = numbers_onward terms d base.more (earlier ++ learned) h.right (learned_numbers d (earlier ++ learned) h.derived) in
+      let all = numbers_both terms e (map literals_of (base_clauses p)) (earlier ++ learned) base.has old in
       let x = by_rule rules.Resolution all.numbers no_arguments clause in
       let whole : d ++ (base.more ++ x ∷ []) ≡ e ++ x ∷ [] = sym (append_assoc d base.more (x ∷ [])) in
       let right : FollowsFrom e x = ((λ k n lt. (all.derived k n lt).there), subst (λ cs. Resolves complement cs (literals_of clause)) (sym all.same ∙ sym (map_twice e all.numbers)) follows) in

@@ -138,7 +138,7 @@ are_atoms : All (λ (l : Literal). IsAtomOf (asserting eight) l.atom) (literals_
 unfolding literal_of
 are_atoms = All-from_recursion (λ (l : Literal). IsAtomOf (asserting eight) l.atom) (literals_of not_both) (p_is_atom, (q_is_atom, tt))
 
-pub spent : IsConflictBudgetSpent (asserting eight) not_both_derived 1 1 (literals_of not_both ∷ [])
+pub spent : IsConflictBudgetSpent (asserting eight) not_both_derived 1 1 [] (literals_of not_both ∷ [])
 spent = record {
   full = refl;
   carries = refl;

@@ -38,31 +38,35 @@ pub data IsAtomOf (p : Problem) : Term → Type 0 where
 abbrev pub IsOverAtoms : Problem → List Literal → Type 0
 IsOverAtoms p clause = All (λ (l : Literal). IsAtomOf p l.atom) clause
 
--- Clauses that a check of these terms may learn, oldest first, in a derivation.
-pub record AreLearned (p : Problem) (d : Derivation) (learned : List (List Literal)) : Type 0 where
+-- the clauses with which a check of these terms begins: those that earlier checks learned, and those of its terms
+abbrev pub at_start : Problem → List (List Literal) → List (List Literal)
+at_start p earlier = earlier ++ map literals_of (first_clauses p)
+
+-- Clauses that a check of these terms may learn, oldest first, in a derivation that has those of earlier checks, too.
+pub record AreLearned (p : Problem) (d : Derivation) (earlier learned : List (List Literal)) : Type 0 where
   -- each step of the derivation is right
   pub right : IsDerivation d
-  -- each clause is derived from the check's terms
-  pub derived : All (IsLearnedFrom p d) learned
+  -- each clause is derived from the check's terms, the earlier ones too
+  pub derived : All (IsLearnedFrom p d) (earlier ++ learned)
   -- its literals are over the check's atoms
-  pub atoms : All (IsOverAtoms p) learned
-  -- it has a literal that was not given by the clauses with which a search begins and those learned before it
-  pub new : AreNew (map literals_of (first_clauses p)) learned
+  pub atoms : All (IsOverAtoms p) (earlier ++ learned)
+  -- it has a literal that was not given by the clauses with which the check begins and those learned before it
+  pub new : AreNew (at_start p earlier) learned
   -- it is what a chain of resolutions gives, and no more, over clauses of the terms, lemmas, and those before it
-  pub exact : AreExactResolvents complement (IsInput p d) learned
+  pub exact : AreExactResolvents complement (IsInput p d) (earlier ++ learned)
 
 -- The budget is spent on a check of these terms: the list of learned clauses has its length, which the reason carries.
 pub record IsConflictBudgetSpent (p : Problem) (d : Derivation) (limit carried : ℕ)
-    (learned : List (List Literal)) : Type 0 where
+    (earlier learned : List (List Literal)) : Type 0 where
   -- the list has so many clauses as the budget allows
   pub full : length learned ≡ limit
   -- the reason says so
   pub carries : carried ≡ limit
   -- they were learned
-  pub learns : AreLearned p d learned
+  pub learns : AreLearned p d earlier learned
 
--- After clauses that were learned in a derivation one more could be.
-pub record CanLearnMore (p : Problem) (d : Derivation) (learned : List (List Literal)) : Type 0 where
+-- After clauses that were learned in a derivation, in earlier checks and in this one, one more could be.
+pub record CanLearnMore (p : Problem) (d : Derivation) (earlier learned : List (List Literal)) : Type 0 where
   -- what could be learned
   pub clause : List Literal
   -- the steps of its derivation that are not yet there
@@ -73,7 +77,7 @@ pub record CanLearnMore (p : Problem) (d : Derivation) (learned : List (List Lit
   pub derived : IsLearnedFrom p (d ++ more) clause
   -- its literals are over the check's atoms
   pub atoms : IsOverAtoms p clause
-  -- it has a literal that was not given by the clauses with which a search begins and those that were learned
-  pub new : IsNew (map literals_of (first_clauses p) ++ learned) clause
+  -- it has a literal that was not given by the clauses with which the check begins and those that it learned
+  pub new : IsNew (at_start p earlier ++ learned) clause
   -- it is what a chain of resolutions gives, and no more, over clauses of the terms, lemmas, and what was learned
-  pub exact : IsExactResolvent complement (λ c. IsInput p d c ⊎ Contains learned c) clause
+  pub exact : IsExactResolvent complement (λ c. IsInput p d c ⊎ Contains (earlier ++ learned) c) clause

@@ -53,7 +53,7 @@ pub fn copies_come_by_no_chain()
     ensures new_at_first { IsNew (map literals_of (first_clauses (asserting (eight ++ idle_or_not ∷ [])))) copy }
     ensures none_learned { (d : Derivation) (learned : List (List Literal))
         → ((n : ℕ) → n < length d → premises_of (inference_at d n) ≡ [] → IsUnmixed (literals_of (conclusion_at d n)))
-        → AreLearned (asserting (eight ++ idle_or_not ∷ [])) d learned → (c : List Literal) → Contains learned c
+        → AreLearned (asserting (eight ++ idle_or_not ∷ [])) d [] learned → (c : List Literal) → Contains learned c
         → (l m : Literal) → Contains c l → l.atom ≡ idle → Contains c m → IsIdle m.atom }
 {
     resolvents_are_alike();

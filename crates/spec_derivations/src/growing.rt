@@ -71,10 +71,10 @@ pub fn inputs_stay_inputs()
 /// States that what is assumed may be asserted in a search: learned clauses are such of the check that assumes it, and
 /// a conflict more is one of it.
 pub fn assumptions_may_be_asserted()
-    ensures learned { (p q : Problem) (d : Derivation) (cs : List (List Literal))
+    ensures learned { (p q : Problem) (d : Derivation) (earlier cs : List (List Literal))
         → terms_of_problem q ≡ terms_of_problem p → q.interface ≡ p.interface → AreAmong p.asserted q.asserted
-        → AreLearned q d cs → AreLearned p d cs }
-    ensures conflict { (p q : Problem) (d : Derivation) (cs : List (List Literal))
+        → AreLearned q d earlier cs → AreLearned p d earlier cs }
+    ensures conflict { (p q : Problem) (d : Derivation) (earlier cs : List (List Literal))
         → terms_of_problem q ≡ terms_of_problem p → q.interface ≡ p.interface → AreAmong p.asserted q.asserted
-        → CanLearnMore q d cs → CanLearnMore p d cs }
+        → CanLearnMore q d earlier cs → CanLearnMore p d earlier cs }
 {}

@@ -19,7 +19,7 @@ ghost use Rattle.spec_derivations.specs.Orders.{first_clauses};
 ghost use Rattle.spec_derivations.specs.Inputs.{IsInput};
 ghost use Rattle.spec_derivations.specs.ExactChains.{IsExactResolvent};
 ghost use Rattle.spec_derivations.specs.Learned.{IsOpenIn, IsNew};
-ghost use Rattle.spec_derivations.specs.Spent.{IsOverAtoms, AreLearned, IsConflictBudgetSpent, CanLearnMore};
+ghost use Rattle.spec_derivations.specs.Spent.{IsOverAtoms, at_start, AreLearned, IsConflictBudgetSpent, CanLearnMore};
 ghost use Rattle.spec_derivations.specs.Examples.{asserting, eight, not_both, not_both_derived};
 
 /// States that where propagation is quiet and consistent, a clause whose literals but one are false, and whose one
@@ -48,14 +48,14 @@ pub fn first_of_eight_is_new()
 /// none of two or of nothing, and the reason carries no other number than one. In its place no tautology spends the
 /// budget.
 pub fn eight_clauses_spend_a_budget_of_one()
-    ensures spent { IsConflictBudgetSpent (asserting eight) not_both_derived 1 1 (literals_of not_both ∷ []) }
+    ensures spent { IsConflictBudgetSpent (asserting eight) not_both_derived 1 1 [] (literals_of not_both ∷ []) }
     ensures no_other_limit { (limit carried : ℕ) → limit ≢ 1
-        → IsConflictBudgetSpent (asserting eight) not_both_derived limit carried (literals_of not_both ∷ []) → ⊥ }
+        → IsConflictBudgetSpent (asserting eight) not_both_derived limit carried [] (literals_of not_both ∷ []) → ⊥ }
     ensures no_other_number { (carried : ℕ) → carried ≢ 1
-        → IsConflictBudgetSpent (asserting eight) not_both_derived 1 carried (literals_of not_both ∷ []) → ⊥ }
+        → IsConflictBudgetSpent (asserting eight) not_both_derived 1 carried [] (literals_of not_both ∷ []) → ⊥ }
     ensures no_tautology { (l : Literal)
-        → IsConflictBudgetSpent (asserting eight) not_both_derived 1 1 ((l ∷ complement l ∷ []) ∷ []) → ⊥ }
-    ensures not_twice { IsConflictBudgetSpent (asserting eight) not_both_derived 2 2
+        → IsConflictBudgetSpent (asserting eight) not_both_derived 1 1 [] ((l ∷ complement l ∷ []) ∷ []) → ⊥ }
+    ensures not_twice { IsConflictBudgetSpent (asserting eight) not_both_derived 2 2 []
         (literals_of not_both ∷ literals_of not_both ∷ []) → ⊥ }
 {
     learned_clauses_say_something();
@@ -63,38 +63,52 @@ pub fn eight_clauses_spend_a_budget_of_one()
 
 /// States that learned clauses say something. None has a literal with its complement, none has a literal of `true`
 /// or `false`, and none is empty. None has all literals of a clause with which a search of the problem begins, or of a
-/// clause that was learned before it. So a copy of such a clause is not learned.
+/// clause that was learned before it, in this check or an earlier one. So a copy of such a clause is not learned.
 pub fn learned_clauses_say_something()
-    ensures no_tautology { (p : Problem) (d : Derivation) (learned : List (List Literal)) → AreLearned p d learned
+    ensures no_tautology { (p : Problem) (d : Derivation) (earlier learned : List (List Literal))
+        → AreLearned p d earlier learned
         → (c : List Literal) (l : Literal) → Contains learned c → Contains c l → Contains c (complement l) → ⊥ }
-    ensures no_truth_value { (p : Problem) (d : Derivation) (learned : List (List Literal)) → AreLearned p d learned
+    ensures no_truth_value { (p : Problem) (d : Derivation) (earlier learned : List (List Literal))
+        → AreLearned p d earlier learned
         → (c : List Literal) (l : Literal) → Contains learned c → Contains c l
         → (l.atom ≢ of True []) × (l.atom ≢ of False []) }
-    ensures not_empty { (p : Problem) (d : Derivation) (learned : List (List Literal)) → AreLearned p d learned
+    ensures not_empty { (p : Problem) (d : Derivation) (earlier learned : List (List Literal))
+        → AreLearned p d earlier learned
         → (c : List Literal) → Contains learned c → c ≢ [] }
-    ensures no_first_clause { (p : Problem) (d : Derivation) (learned : List (List Literal)) → AreLearned p d learned
+    ensures no_first_clause { (p : Problem) (d : Derivation) (earlier learned : List (List Literal))
+        → AreLearned p d earlier learned
         → (c : List Literal) (b : Clause) → Contains learned c → Contains (first_clauses p) b
         → IsWithin (literals_of b) c → ⊥ }
-    ensures no_earlier_clause { (p : Problem) (d : Derivation) (learned : List (List Literal)) → AreLearned p d learned
-        → (before after : List (List Literal)) (c e : List Literal) → learned ≡ before ++ c ∷ after → Contains before e
-        → IsWithin e c → ⊥ }
+    ensures no_earlier_clause { (p : Problem) (d : Derivation) (earlier learned : List (List Literal))
+        → AreLearned p d earlier learned
+        → (before after : List (List Literal)) (c e : List Literal) → learned ≡ before ++ c ∷ after
+        → Contains (earlier ++ before) e → IsWithin e c → ⊥ }
 {}
 
 /// States that where one clause more can be learned, with it and its steps the check has learned one more than before.
 pub fn one_clause_more_is_learned()
-    ensures { (p : Problem) (d : Derivation) (learned : List (List Literal)) → AreLearned p d learned
-        → (x : CanLearnMore p d learned) → AreLearned p (d ++ x.more) (learned ++ x.clause ∷ []) }
+    ensures { (p : Problem) (d : Derivation) (earlier learned : List (List Literal))
+        → AreLearned p d earlier learned
+        → (x : CanLearnMore p d earlier learned) → AreLearned p (d ++ x.more) earlier (learned ++ x.clause ∷ []) }
+{}
+
+/// States that what a check learned has served it, and serves the next one. With what earlier ones learned, it is what
+/// is learned before a check of the same terms that has learned nothing yet.
+pub fn learned_clauses_serve_the_next_check()
+    ensures { (p : Problem) (d : Derivation) (earlier learned : List (List Literal))
+        → AreLearned p d earlier learned → AreLearned p d (earlier ++ learned) [] }
 {}
 
 /// States when one clause more can be learned: a clause follows by unit propagation from the base clauses and the
-/// learned ones, is over the check's atoms, new, and what a chain of resolutions gives. Further steps derive it.
+/// learned ones, those of earlier checks too. It is over the check's atoms, new, and what a chain of resolutions gives.
+/// Further steps derive it.
 pub fn propagated_clauses_can_be_learned()
-    ensures { (p : Problem) (d : Derivation) (learned : List (List Literal)) (clause : Clause) → AreLearned p d learned
-        → IsOverAtoms p (literals_of clause)
-        → Resolves complement (map literals_of (base_clauses p) ++ learned) (literals_of clause)
-        → IsNew (map literals_of (first_clauses p) ++ learned) (literals_of clause)
-        → IsExactResolvent complement (λ c. IsInput p d c ⊎ Contains learned c) (literals_of clause)
-        → CanLearnMore p d learned }
+    ensures { (p : Problem) (d : Derivation) (earlier learned : List (List Literal)) (clause : Clause)
+        → AreLearned p d earlier learned → IsOverAtoms p (literals_of clause)
+        → Resolves complement (map literals_of (base_clauses p) ++ (earlier ++ learned)) (literals_of clause)
+        → IsNew (at_start p earlier ++ learned) (literals_of clause)
+        → IsExactResolvent complement (λ c. IsInput p d c ⊎ Contains (earlier ++ learned) c) (literals_of clause)
+        → CanLearnMore p d earlier learned }
 {}
 
 /// States that in a derivation a clause is true under an interpretation of the symbols where the assumptions are
@@ -112,10 +126,11 @@ pub fn derivations_are_sound()
 /// an interpretation of the symbols which makes the terms true. The derivation's clauses have formulas over these
 /// symbols.
 pub fn learned_clauses_are_true()
-    ensures { (symbols : List Symbol) (p : Problem) (d : Derivation) (learned : List (List Literal))
-        → (i : Interpretation) → AreLearned p d learned → Interprets i symbols
+    ensures { (symbols : List Symbol) (p : Problem) (d : Derivation) (earlier learned : List (List Literal))
+        → (i : Interpretation) → AreLearned p d earlier learned → Interprets i symbols
         → All (λ x. All (IsFormulaOver symbols) (conclusion x)) d
-        → All (λ t. term_true i t ≡ true) (terms_of_problem p) → (c : List Literal) → Contains learned c
+        → All (λ t. term_true i t ≡ true) (terms_of_problem p)
+        → (c : List Literal) → Contains (earlier ++ learned) c
         → (clause : Clause) × (literals_of clause ≡ c) × (clause_true i clause ≡ true) }
 {
     derivations_are_sound();

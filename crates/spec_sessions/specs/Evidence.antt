@@ -67,9 +67,9 @@ pub record IsProblemOf (c : Check) (p : Problem) : Type 0 where
 -- The budget is spent at a conflict more.
 pub record IsSpentOn (p : Problem) (limit carried : ℕ) (d : Derivation) (learned : List (List Literal)) : Type 0 where
   -- as many clauses were learned as it allows
-  pub spent : IsConflictBudgetSpent p d limit carried learned
+  pub spent : IsConflictBudgetSpent p d limit carried [] learned
   -- and one more would be
-  pub conflict : CanLearnMore p d learned
+  pub conflict : CanLearnMore p d [] learned
   -- all of them stand apart from equalities of elements that are beside the check's terms
   pub apart : All (StandsApart p) learned
   pub conflict_apart : StandsApart p conflict.clause
@@ -79,7 +79,7 @@ pub record IsKeptOf (limits : Limits) (p : Problem) (k : Kept) : Type 0 where
   -- no more clauses were learned than the budget allows
   pub learned : length k.learned ≤ limits.conflicts
   -- and each of them is derived, over the problem's atoms, and was new
-  pub learns : AreLearned p k.derivation k.learned
+  pub learns : AreLearned p k.derivation [] k.learned
   -- and it stands apart from equalities of elements that are beside the check's terms
   pub apart : All (StandsApart p) k.learned
 

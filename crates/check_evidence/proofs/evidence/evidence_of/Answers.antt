@@ -1,5 +1,5 @@
 -- By the answer.
-use Rattle.std.proofs.Common.{map, Contains, refl, sym, subst, arith}
+use Rattle.std.proofs.Common.{[], map, Contains, refl, sym, subst, arith}
 use Rattle.std.proofs.lemmas.List.{append-nil, length-map}
 use Rattle.spec_sorts.specs.Terms.{Term}
 use Rattle.spec_commands.specs.Stack.{signature_of, terms_asserted}
@@ -24,7 +24,7 @@ returns-in-Sat-clause-shown c = λ limits k kept readable symbols h.
     let t = c.args.table.now in
     let o = c.args.outcome in
     model_shown limits t k symbols o (kept_values limits.terms k kept) c.in-Sat.interp c.in-Sat.is
-    h.interface (subst (HasEvidence t (all_asserted k h.interface) o.log o.budget) c.in-Sat.is h.justified.evidence)
+    h.interface (subst (HasEvidence t (all_asserted k h.interface) o.log [] o.budget) c.in-Sat.is h.justified.evidence)
 
 pub returns-in_ok-plan-in-Unsat-clause-shown : goal.returns-in_ok-plan-in-Unsat-clause-shown
 returns-in_ok-plan-in-Unsat-clause-shown c = λ limits k kept readable symbols h.
@@ -38,7 +38,7 @@ returns-in_ok-plan-in-Unsat-clause-shown c = λ limits k kept readable symbols h
     let learned = map (map (literal_at t)) o.budget.learned in
     let problem = all_asserted k h.interface in
     let j = h.justified in
-    let shown = subst (HasEvidence t problem o.log o.budget) c.in-Unsat.is j.evidence in
+    let shown = subst (HasEvidence t problem o.log [] o.budget) c.in-Unsat.is j.evidence in
     let steps = subst (λ a. HasLogged problem d a learned) c.in-Unsat.is j.learning.logged in
     let terms = known_readable ts h.interface (kept_readable limits.terms k kept c.read_numbers_are_decimals.ensures readable) h.equalities in
     let printed : (u : Term) → IsPrinted d n u → IsReadableWhole u =
@@ -66,4 +66,4 @@ returns-in-Unknown-clause-shown c = λ limits k kept readable symbols h.
     let t = c.args.table.now in
     let o = c.args.outcome in
     reason_shown limits t k symbols o h c.causes_are_overflows.ensures.search c.ratios_are_fractions.ensures.bounded c.in-Unknown.reason c.in-Unknown.is
-    (subst (HasEvidence t (all_asserted k h.interface) o.log o.budget) c.in-Unknown.is h.justified.evidence)
+    (subst (HasEvidence t (all_asserted k h.interface) o.log [] o.budget) c.in-Unknown.is h.justified.evidence)

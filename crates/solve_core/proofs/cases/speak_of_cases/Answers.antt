@@ -23,14 +23,14 @@ use Rattle.solve_core.proofs.SearchCases.{begun_in, found_formulas, found_linear
 use Rattle.solve_core.proofs.cases.speak_of_cases.Goals as goal
 
 -- all that was found, over the table and the log as they are then
-all_later : (ts : List Term) (t u : TableView) (x : Search) (roots : List TermId) (formulas : AreFormulasIn t roots) (asked : ts ≡ clause_at t roots) (b : IsBegun t (speaking ts []) x) (log : List Logged)
+all_later : (ts : List Term) (t u : TableView) (x : Search) (roots : List TermId) (formulas : AreFormulasIn t roots) (asked : ts ≡ clause_at t roots) (b : IsBegun t (speaking ts []) [] x) (log : List Logged)
     (derives : DerivesLemmas (asserted_below t roots) (derived t x.log) (derived u log)) (w : TableView) (y : Search) (ids : List TermId) (grown : HasGrown (state u (record x { log = log })) (state w y) [] ids)
     (found : List CaseEquality) → All (IsCaseEquality u log roots) found → All (IsCaseEquality w y.log roots) found
 all_later ts t u x roots formulas asked b log derives w y ids grown found each =
     All-weaker (IsCaseEquality u log roots) (IsCaseEquality w y.log roots) (found_later ts t u x roots formulas asked b log derives w y ids grown) found each
 
 -- and is over the search's atoms
-all_over : (ts : List Term) (t u : TableView) (x : Search) (roots : List TermId) (formulas : AreFormulasIn t roots) (asked : ts ≡ clause_at t roots) (b : IsBegun t (speaking ts []) x) (log : List Logged)
+all_over : (ts : List Term) (t u : TableView) (x : Search) (roots : List TermId) (formulas : AreFormulasIn t roots) (asked : ts ≡ clause_at t roots) (b : IsBegun t (speaking ts []) [] x) (log : List Logged)
     (derives : DerivesLemmas (asserted_below t roots) (derived t x.log) (derived u log)) (w : TableView) (y : Search) (ids : List TermId) (grown : HasGrown (state u (record x { log = log })) (state w y) [] ids) (differ : AreDifferent w.terms)
     (found : List CaseEquality) → ids ≡ map (λ (z : CaseEquality). z.equality) found → All (IsCaseEquality u log roots) found → All (IsOverAtomsOf y.atoms.items) found
 all_over ts t u x roots formulas asked b log derives w y ids grown differ found are each =

@@ -69,20 +69,20 @@ returns c =
     let consistent = c.is_sound.ensures.consistent in
     let tell = k.values.tell in
     let of_numbers = map fraction c.deref-3.result.now in
-    IfOk-weaker c.model_of.result (IsModelOf t ls c.deref.result.now c.deref-2.result.now of_numbers) (λ interp. ShowsAnswer t t x x (Sat interp)) (λ interp m problem s apart.
+    IfOk-weaker c.model_of.result (IsModelOf t ls c.deref.result.now c.deref-2.result.now of_numbers) (λ interp. ShowsAnswer t t x x (Sat interp)) (λ interp m problem earlier s apart.
     let one : IsModelOf t ls ids c.deref-2.result.now of_numbers interp = subst (λ (is : List TermId). IsModelOf t ls is c.deref-2.result.now of_numbers interp) c.deref.ensures.value m in
     let two : IsModelOf t ls ids ns of_numbers interp = subst (λ (is : List ℕ). IsModelOf t ls ids is of_numbers interp) c.deref-2.ensures.value one in
     let good : IsModelOf t ls ids ns (map number terms) interp = subst (λ (qs : List Fraction). IsModelOf t ls ids ns qs interp) (ap (map fraction) c.deref-3.ensures.value ∙ k.values.are) two in
     let place = c.listed_terms_have_their_places_class.ensures in
     let linear = c.terms_of_linear_checks_are_linear.ensures in
-    let g = given t differ x v _ h consistent h.agrees ns tell problem s place linear number k.values.reduced kept in
-    let saturation = saturated_here t differ x v _ h consistent h.agrees ns tell problem s place linear number k.values.reduced kept k.shared k.shares k.heads k.agree in
-    let arguments = taken t differ x v _ h consistent h.agrees ns tell problem s place linear number k.values.reduced kept k.shared k.shares k.heads k.agree in
-    let assumed = nothing_assumed t x problem s (truths_of t ls) in (
+    let g = given t differ x v _ h consistent h.agrees ns tell problem earlier s place linear number k.values.reduced kept in
+    let saturation = saturated_here t differ x v _ h consistent h.agrees ns tell problem earlier s place linear number k.values.reduced kept k.shared k.shares k.heads k.agree in
+    let arguments = taken t differ x v _ h consistent h.agrees ns tell problem earlier s place linear number k.values.reduced kept k.shared k.shares k.heads k.agree in
+    let assumed = nothing_assumed t x problem earlier s (truths_of t ls) in (
       has_model t ls ids ns (map number terms) (values_of g) problem interp good
           (c.made_models_have_interpretations.ensures.represents t ls ids ns (map number terms) interp declared.names_apart good)
           (c.made_models_are_those_of_numbers.ensures t ls ids ns number interp arguments good)
           (λ i by. c.searches_saturated_on_numbers_have_models.ensures.interprets t.symbols problem terms held g i saturation by)
           (λ i by. c.searches_saturated_on_numbers_have_models.ensures.all t.symbols problem terms held g i saturation by assumed),
-      learning_shows t problem x (Sat interp) (λ steps. steps) h.ready.right s apart,
+      learning_shows t problem earlier x (Sat interp) (λ steps. steps) h.ready.right s apart,
     )) c.model_of.ensures

@@ -76,17 +76,17 @@ returns c =
     let of_numbers = map fraction c.deref-3.result.now in
     let all : c.len-count.result ≡ length ids = omega (arith, c.len-count.ensures, c.args.search.now.terms.ok.0) in
     let zeros : of_numbers ≡ map zero_at terms = ap (map fraction) c.deref-3.ensures.value ∙ c.in_ok-numbers.ensures ∙ ap (replicate c.len-count.result) zero_is ∙ zeros_are t ids c.len-count.result all in
-    IfOk-weaker c.model_of.result (IsModelOf t ls c.deref.result.now ns of_numbers) (λ interp. ShowsAnswer t t x x (Sat interp)) (λ interp m problem s apart.
+    IfOk-weaker c.model_of.result (IsModelOf t ls c.deref.result.now ns of_numbers) (λ interp. ShowsAnswer t t x x (Sat interp)) (λ interp m problem earlier s apart.
     let one : IsModelOf t ls ids ns of_numbers interp = subst (λ (is : List TermId). IsModelOf t ls is ns of_numbers interp) c.deref.ensures.value m in
     let good : IsModelOf t ls ids ns (map zero_at terms) interp = subst (λ (qs : List Fraction). IsModelOf t ls ids ns qs interp) zeros one in
     let given : TheoryValues = record { truths = truths_of t ls; class = class_in terms ns; number = zero_at } in
     let point : Term → Fraction = number_at zero_at in
-    let saturation = saturated_here t differ x v _ h consistent problem s plain in
+    let saturation = saturated_here t differ x v _ h consistent problem earlier s plain in
     let laws = c.saturated_propositional_searches_have_models.ensures in (
       has_model t ls ids ns (map zero_at terms) (values_of given) problem interp good
           (c.made_models_have_interpretations.ensures.represents t ls ids ns (map zero_at terms) interp declared.names_apart good)
           (c.made_models_are_those_of_numbers.ensures t ls ids ns zero_at interp (takes_none terms plain) good)
           (λ i by. laws.interprets t.symbols problem terms (truths_of t ls) point (class_in terms ns) i saturation by)
-          (λ i by. laws.all t.symbols problem terms (truths_of t ls) point (class_in terms ns) i saturation by (nothing_assumed t x problem s (truths_of t ls))),
-      learning_shows t problem x (Sat interp) (λ steps. steps) h.ready.right s apart,
+          (λ i by. laws.all t.symbols problem terms (truths_of t ls) point (class_in terms ns) i saturation by (nothing_assumed t x problem earlier s (truths_of t ls))),
+      learning_shows t problem earlier x (Sat interp) (λ steps. steps) h.ready.right s apart,
     )) c.model_of.ensures

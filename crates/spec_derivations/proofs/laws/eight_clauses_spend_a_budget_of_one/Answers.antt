@@ -16,7 +16,7 @@ pub returns-clause-no_other_number : goal.returns-clause-no_other_number
 returns-clause-no_other_number c carried other h = other h.carries
 
 pub returns-clause-no_tautology : goal.returns-clause-no_tautology
-returns-clause-no_tautology c l h = c.learned_clauses_say_something.ensures.no_tautology (asserting eight) not_both_derived ((l ∷ complement l ∷ []) ∷ []) h.learns (l ∷ complement l ∷ []) l (first (l ∷ complement l ∷ []) []) (first l (complement l ∷ [])) (later l (complement l ∷ []) (complement l) (first (complement l) []))
+returns-clause-no_tautology c l h = c.learned_clauses_say_something.ensures.no_tautology (asserting eight) not_both_derived [] ((l ∷ complement l ∷ []) ∷ []) h.learns (l ∷ complement l ∷ []) l (first (l ∷ complement l ∷ []) []) (first l (complement l ∷ [])) (later l (complement l ∷ []) (complement l) (first (complement l) []))
 
 pub returns-clause-not_twice : goal.returns-clause-not_twice
-returns-clause-not_twice c h = c.learned_clauses_say_something.ensures.no_earlier_clause (asserting eight) not_both_derived (literals_of not_both ∷ literals_of not_both ∷ []) h.learns (literals_of not_both ∷ []) [] (literals_of not_both) (literals_of not_both) refl (first (literals_of not_both) []) (λ m i. i)
+returns-clause-not_twice c h = c.learned_clauses_say_something.ensures.no_earlier_clause (asserting eight) not_both_derived [] (literals_of not_both ∷ literals_of not_both ∷ []) h.learns (literals_of not_both ∷ []) [] (literals_of not_both) (literals_of not_both) refl (first (literals_of not_both) []) (λ m i. i)

@@ -1,5 +1,6 @@
 -- How all parts grew.
 use Rattle.std.proofs.Common.{◌≡◌, ◌∙◌, ◌++◌, List, Bool, length, refl, sym, ap, subst}
+use Rattle.spec_sorts.specs.Literals.{Literal}
 use Rattle.spec_derivations.specs.Problems.{Problem}
 use Rattle.term_core.specs.declared.ids.TermId.{TermId}
 use Rattle.term_core.specs.Tables.{clause_at}
@@ -26,7 +27,7 @@ returns-in_err-steps-clause-wide c =
     let x = c.args.self.now in
     let roots = c.args.roots.now in
     let interface = c.args.interface.now in
-    passed_on (IsOrderOverflow (problem_in t roots interface)) (λ o. (p : Problem) → GrowsTo t x roots interface p → IsOrderOverflow p o) c.from_residual.result c.in_err-steps.field-0.0 c.from_residual.ensures.1
+    passed_on (IsOrderOverflow (problem_in t roots interface)) (λ o. (p : Problem) (earlier : List (List Literal)) → GrowsTo t x roots interface earlier p → IsOrderOverflow p o) c.from_residual.result c.in_err-steps.field-0.0 c.from_residual.ensures.1
     (wide_of t x roots interface c.requires.roots c.requires.interface c.requires.answered c.requires.answered_interface) c.in_err-steps.ensures.wide
 
 pub returns-clause-grows : goal.returns-clause-grows
@@ -42,7 +43,7 @@ returns-clause-grows c =
     let steps = c.in_ok-steps.field-0.steps in
     let terms = c.in_ok-steps.field-0.terms.items in
     let atoms = c.in_ok-atoms.atoms.items in
-    let y : Search = record { alloc = x.alloc; log = log; store = store; trail = c.reach.new.trail; terms = c.extend_from_slice.new.self; atoms = c.extend_from_slice-2.new.self; decider = c.affirm.new.self; restarts = x.restarts; budget = x.budget; fed = x.fed } in
+    let y : Search = record { alloc = x.alloc; log = log; store = store; trail = c.reach.new.trail; terms = c.extend_from_slice.new.self; atoms = c.extend_from_slice-2.new.self; decider = c.affirm.new.self; restarts = x.restarts; budget = x.budget; fed = x.fed; since = x.since } in
     let new : AreNewTerms u (problem_in t roots interface) x.terms.items terms = subst (λ (ids : List TermId). AreNewTerms u (problem_in t roots interface) ids terms) c.deref.ensures.value made.terms in
     let chosen : AreAtomsAmong u terms atoms = subst (λ (ids : List TermId). AreAtomsAmong u ids atoms) c.deref-2.ensures.value c.in_ok-atoms.ensures in
     let stored : StoresAll u log steps x.store store = subst (λ (ss : List StepId). StoresAll u log ss x.store store) c.as_slice-2.ensures c.in_ok-store_all.ensures in
@@ -66,6 +67,7 @@ returns-clause-grows c =
       stores = stored;
       terms_are = terms_are;
       learned = refl;
+      since = refl;
     } in
     record {
       table = made.grown.table;
@@ -79,6 +81,6 @@ returns-clause-grows c =
       log = made.grown.log;
       more = terms;
       terms = terms_are;
-      search = λ p grows. search_grown t u x y roots interface came p (part_of t x roots interface c.requires.roots c.requires.interface c.requires.answered c.requires.answered_interface p grows);
-      apart = λ q s holds none shared. apart_wider t u x y roots interface came q holds (clause_at t interface) shared;
+      search = λ p earlier grows. search_grown t u x y roots interface came p earlier (part_of t x roots interface c.requires.roots c.requires.interface c.requires.answered c.requires.answered_interface p earlier grows);
+      apart = λ q earlier s holds none shared. apart_wider t u x y roots interface came q earlier holds (clause_at t interface) shared;
     }

@@ -52,7 +52,7 @@ returns-clause-learns g c =
     let added = c.in_ok-add.ensures in
     let cut = c.go_back.ensures.cut in
     let noted : IsNoted d.clause x.budget c.note.new.budget = subst (λ (ls : List Lit). IsNoted ls x.budget c.note.new.budget) c.as_slice.ensures c.in_ok-note.ensures in
-    let y : Search = record { alloc = x.alloc; log = c.learn.new.log; store = store; trail = trail; terms = x.terms; atoms = x.atoms; decider = ws; restarts = c.level_after-level.new.self; budget = c.note.new.budget; fed = c.len-self.result } in
+    let y : Search = record { alloc = x.alloc; log = c.learn.new.log; store = store; trail = trail; terms = x.terms; atoms = x.atoms; decider = ws; restarts = c.level_after-level.new.self; budget = c.note.new.budget; fed = c.len-self.result; since = x.since } in
     let r = c.requires.going.ready in
     let once = c.is_sound.ensures.once in
     let leveled = c.is_sound.ensures.leveled in
@@ -88,9 +88,9 @@ returns-clause-learns g c =
           vars = cut.vars;
           terms = refl;
           search = search_learned t u c.learn.ensures.grown c.ids_are_unique.ensures c.ids_are_unique-2.ensures c.learn.ensures.declared x y r once leveled c.is_sound.ensures.consistent
-              (c.logs_hold_in_grown_tables.ensures.same t u x.log r.right c.learn.ensures.grown) c.args.clash d l noted added refl;
+              (c.logs_hold_in_grown_tables.ensures.same t u x.log r.right c.learn.ensures.grown) c.args.clash d l noted added refl refl;
           apart = apart_learned t u c.learn.ensures.grown c.ids_are_unique.ensures c.ids_are_unique-2.ensures c.learn.ensures.declared x y r once leveled c.is_sound.ensures.consistent
-              (c.logs_hold_in_grown_tables.ensures.same t u x.log r.right c.learn.ensures.grown) c.args.clash d l noted added refl;
+              (c.logs_hold_in_grown_tables.ensures.same t u x.log r.right c.learn.ensures.grown) c.args.clash d l noted added refl refl;
         };
         learned = ap (λ (b : BudgetView). length b.learned) noted ∙ length-append x.budget.learned (d.clause ∷ []);
       };

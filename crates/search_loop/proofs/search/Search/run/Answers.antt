@@ -30,7 +30,7 @@ rounds-init g c = record {
   came = λ ts r h.
       let a = atoms_of c.args.table.now c.args.self.now in
       (h.0, paid_begun a (length c.args.self.now.budget.learned) r (counted_held c.args.table.now (g.T.Theory.meaning c.args.theory.now).view.held) h.0 h.1, h.2);
-  continues = continues_same c.args.table.now c.args.self.now c.args.self.now refl refl refl refl refl;
+  continues = continues_same c.args.table.now c.args.self.now c.args.self.now refl refl refl refl refl refl;
 }
 
 -- the theory may imply literals
@@ -88,7 +88,7 @@ rounds-preserved-in-Fine g c =
                 (held_since c.rounds.table q x c.rounds.invariant.ready on.table u y l.ready v l.asked l.continues.terms marked.held same),
             c.mark.ensures.keeps.came q ts p.0 s.budget.exchanges (k.came ts p.0 p.2),
           );
-      continues = continues_on t q q c.args.self.now s z (continues_on t c.rounds.table q c.args.self.now x s c.rounds.invariant.continues on) (continues_same q s z refl refl refl pushed.vars refl);
+      continues = continues_on t q q c.args.self.now s z (continues_on t c.rounds.table q c.args.self.now x s c.rounds.invariant.continues on) (continues_same q s z refl refl refl pushed.vars refl refl);
     }
 
 pub rounds-preserved-then-branch : goal.rounds-preserved-then-branch
@@ -222,7 +222,7 @@ returns-in_default g c =
           satisfied = satisfied_by s.atoms.items s.store.clauses s.trail.literals r.covered (quiet_still b s is looks.1) chosen.0;
           agrees = k.agrees looks.3;
         },
-        continues_on t q q x s end on (continues_same q s end refl refl refl refl refl),
+        continues_on t q q x s end on (continues_same q s end refl refl refl refl refl refl),
       );
       came = λ ts r h.
           let n = c.rounds.invariant.came ts r h in
