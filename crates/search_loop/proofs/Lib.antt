@@ -21,6 +21,7 @@ pub mod SearchJoined
 pub mod SearchParts
 pub mod SearchEmpty
 pub mod SearchGrows
+pub mod SearchStarts
 pub mod SearchRounds
 pub mod SearchSpends
 pub mod SearchLooks

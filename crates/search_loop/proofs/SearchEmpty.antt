@@ -1,5 +1,5 @@
 -- That a search that speaks of nothing fits together.
-use Rattle.std.proofs.Common.{◌≡◌, ◌<◌, List, [], Bool, length, All, refl, sym, ap, ◌∙◌, subst, arith}
+use Rattle.std.proofs.Common.{◌≡◌, ◌<◌, ℕ, List, [], Bool, length, All, refl, sym, ap, ◌∙◌, subst, arith}
 use Rattle.std.proofs.lemmas.List.Elements.{All-nil}
 use Rattle.spec_text.proofs.Members.{none}
 use Rattle.term_core.specs.declared.ids.TermId.{TermId}
@@ -10,7 +10,7 @@ use Rattle.proof_log.specs.Logs.{Logged, IsLogOf}
 use Rattle.proof_log.specs.Theories.{IsTermIn, IsAtomIn}
 use Rattle.sat_budget.specs.Budgets.{BudgetView}
 use Rattle.sat_budget.specs.declared.limits.Limits.{Limits}
-use Rattle.sat_trail.specs.Trails.{TrailView, empty as no_trail}
+use Rattle.sat_trail.specs.Trails.{TrailView, unassigned, empty as no_trail}
 use Rattle.clause_store.specs.Stores.{StoreView, empty as no_clauses, LiteralsAreBelow, HasSeen}
 use Rattle.clause_store.specs.Propagating.{AreImplied}
 use Rattle.search_loop.specs.declared.search.Search.{Search}
@@ -24,8 +24,8 @@ derives_none : (t : TableView) (log : List Logged) → DerivesClauses t log no_c
 derives_none t log = record { paired = refl; there = λ k lt. absurd (omega (arith, lt)); same = λ k lt. absurd (omega (arith, lt)) }
 
 -- no literal is decided
-decided_none : (atoms : List TermId) (clauses : List (List Lit)) → AreDecided atoms clauses no_trail
-decided_none atoms clauses = record { quiet = λ p lt no. absurd (omega (arith, lt)); of_atoms = λ p lt no. absurd (omega (arith, lt)) }
+pub decided_none : (atoms : List TermId) (clauses : List (List Lit)) (vars : ℕ) → AreDecided atoms clauses (unassigned vars)
+decided_none atoms clauses vars = record { quiet = λ p lt no. absurd (omega (arith, lt)); of_atoms = λ p lt no. absurd (omega (arith, lt)) }
 
 -- there is no atom
 atoms_none : (t : TableView) → AreAtomsOf t [] []
@@ -37,7 +37,7 @@ atoms_none t = record {
 }
 
 -- with no limit but this
-abbrev budget_of : Limits → BudgetView
+abbrev pub budget_of : Limits → BudgetView
 budget_of limits = record { limit = limits.conflicts; learned = []; exchanges = [] }
 
 module _ (begun : (s : StoreView) (v : TrailView) → v.propagated ≡ 0 → HasSeen s v) (implied : (s : StoreView) → AreImplied s no_trail) (right : (t : TableView) → IsLogOf t [])
@@ -49,7 +49,7 @@ module _ (begun : (s : StoreView) (v : TrailView) → v.propagated ≡ 0 → Has
     known = subst (λ (s : StoreView). LiteralsAreBelow s x.trail.vars) (sym store) (All-nil (All (λ (l : Lit). l.term.0 < x.trail.vars)));
     seen = begun x.store x.trail (ap (λ (v : TrailView). v.propagated) trail);
     implied = subst (AreImplied x.store) (sym trail) (implied x.store);
-    decided = subst (AreDecided x.atoms.items x.store.clauses) (sym trail) (decided_none x.atoms.items x.store.clauses);
+    decided = subst (AreDecided x.atoms.items x.store.clauses) (sym trail) (decided_none x.atoms.items x.store.clauses 0);
     atoms_are = subst (λ (ids : List TermId). AreAtomsOf t ids x.atoms.items) (sym terms) (subst (AreAtomsOf t []) (sym atoms) (atoms_none t));
     variables = subst (All (λ (id : TermId). id.0 < x.trail.vars)) (sym terms) (All-nil (λ (id : TermId). id.0 < x.trail.vars));
     covered = subst (λ (s : StoreView). AreCovered x.atoms.items s.clauses) (sym store) (λ c l i j. absurd (none c i));

@@ -46,11 +46,11 @@ use Rattle.search_loop.specs.declared.search.Search.{Search}
 use Rattle.search_loop.specs.Waiting.{AreWaiting}
 use Rattle.search_loop.specs.Search.{images, AreAllOf, DerivesClauses, AreAtomsAmong, AreAtomsOf, AreCovered, AreDecided, SearchFits, Reaches}
 use Rattle.search_loop.specs.Rounds.{AreSteps, stating, ComesFrom, HasDerived, BeganAfter, HasWholeClauses, IsSearch, HoldsApart}
-use Rattle.search_loop.specs.Growing.{StoresAll}
+use Rattle.search_loop.specs.Growing.{asserting_too, StoresAll}
 use Rattle.search_loop.proofs.SearchLists.{of_kept, images_kept}
 use Rattle.search_loop.proofs.SearchStored.{derives_on}
 use Rattle.search_loop.proofs.SearchLogs.{began_onward}
-use Rattle.search_loop.proofs.SearchApart.{apart_grown}
+use Rattle.search_loop.proofs.SearchApart.{apart_grown, apart_rooted}
 use Rattle.search_loop.proofs.SearchGrown.{term_kept, atoms_kept}
 use Rattle.search_loop.proofs.SearchParts.{IsHad, IsPart, among_whole, among_roots}
 
@@ -284,6 +284,11 @@ module _ (t u : TableView) (x y : Search) (roots interface : List TermId) (h : C
   pub apart_wider : (q : Problem) (earlier : List (List Literal)) → HoldsApart t q earlier x → (more : List Term) → All (IsSharedEquality (subterms_in q)) more → HoldsApart u (speaking_of q more) earlier y
   apart_wider q earlier holds more shared = apart_grown t u x y
       (λ c i. subst (λ (cs : List (List Literal)). Contains cs c) (sym images_are) (Contains-append_left (images t x.store.clauses) (images u clauses) c i)) q earlier holds more shared learned_are
+
+  -- and so do more roots, too
+  pub apart_with_more : (q : Problem) (earlier : List (List Literal)) → HoldsApart t q earlier x → (all more : List Term) → All (IsSharedEquality (subterms_in (asserting_too q all []))) more → HoldsApart u (asserting_too q all more) earlier y
+  apart_with_more q earlier holds all more shared = apart_rooted t u x y
+      (λ c i. subst (λ (cs : List (List Literal)). Contains cs c) (sym images_are) (Contains-append_left (images t x.store.clauses) (images u clauses) c i)) q earlier holds all more shared learned_are
 
   module _ (p : Problem) (earlier : List (List Literal)) (part : IsPart t x roots interface earlier p) where
     abbrev d : Derivation

@@ -13,7 +13,9 @@ use Rattle.spec_derivations.specs.Problems.{Problem, known_terms, terms_of_probl
 use Rattle.spec_derivations.specs.Examples.{speaking}
 use Rattle.spec_derivations.specs.Derivations.{conclusion, AssumesAmong}
 use Rattle.spec_derivations.specs.Orders.{whole_terms, whole_clauses_of, whole_clauses}
-use Rattle.spec_derivations.specs.Spent.{IsLearnedFrom, IsOverAtoms}
+use Rattle.spec_derivations.specs.Learned.{AreNew}
+use Rattle.spec_derivations.specs.Spent.{IsLearnedFrom, IsOverAtoms, at_start}
+use Rattle.spec_interfaces.specs.Interfaces.{speaking_of}
 use Rattle.spec_derivations.proofs.Grown.{whole}
 use Rattle.term_core.specs.declared.ids.TermId.{TermId}
 use Rattle.term_core.specs.declared.ids.Lit.{Lit}
@@ -26,8 +28,8 @@ use Rattle.search_loop.specs.declared.search.Search.{Search}
 use Rattle.search_loop.specs.Answered.{AreAnswered}
 use Rattle.search_loop.specs.Search.{images}
 use Rattle.search_loop.specs.Rounds.{nothing, HasDerived, BeganAfter, IsSearch}
-use Rattle.search_loop.specs.Growing.{IsBlank, GrowsTo, begins, goes_on}
-use Rattle.search_loop.proofs.SearchMore.{derived_of_more, began_of_more}
+use Rattle.search_loop.specs.Growing.{IsBlank, asserting_too, GrowsTo, begins, goes_on, asserts}
+use Rattle.search_loop.proofs.SearchMore.{derived_with, derived_of_more, began_of_more}
 use Rattle.search_loop.proofs.SearchJoined.{whole_joined}
 
 -- the clause is one of the search's, and stated in its log
@@ -111,38 +113,62 @@ module _ (t : TableView) (x : Search) (roots interface : List TermId) (roots_in 
       no_term : (w : Term) → Contains (clause_at t x.terms.items) w → ⊥
       no_term w i = none w (subst (λ (ids : List TermId). Contains (clause_at t ids) w) b.terms i)
 
-  -- one that was asked a problem
-  module _ (q : Problem) (earlier : List (List Literal)) (z : IsSearch t q earlier x) (no_roots : roots ≡ []) where
+  -- one that was asked a problem, of which as much is derived of that with the roots
+  module _ (q : Problem) (earlier : List (List Literal)) (z : IsSearch t q earlier x) where
+    abbrev new_roots : List Term
+    new_roots = clause_at t roots
+
+    abbrev new_interface : List Term
+    new_interface = clause_at t interface
+
     abbrev with_more : Problem
-    with_more = record { asserted = q.asserted; assumed = q.assumed; interface = q.interface ++ clause_at t interface }
+    with_more = asserting_too q new_roots new_interface
+
+    asserted_more : AreAmong q.asserted with_more.asserted
+    asserted_more w i = Contains-append_left q.asserted new_roots w i
+
+    terms_more : AreAmong (terms_of_problem q) (terms_of_problem with_more)
+    terms_more w i = elim (Contains-append_cases q.asserted q.assumed w i) [
+      | inl a ↦ Contains-append_left (q.asserted ++ new_roots) q.assumed w (asserted_more w a)
+      | inr b ↦ Contains-append_right (q.asserted ++ new_roots) q.assumed w b
+    ]
 
     first_known : AreAmong (known_terms q) (known_terms with_more)
     first_known w i = elim (Contains-append_cases q.interface (terms_of_problem q) w i) [
-      | inl a ↦ Contains-append_left (q.interface ++ clause_at t interface) (terms_of_problem q) w (Contains-append_left q.interface (clause_at t interface) w a)
-      | inr b ↦ Contains-append_right (q.interface ++ clause_at t interface) (terms_of_problem q) w b
+      | inl a ↦ Contains-append_left (q.interface ++ new_interface) (terms_of_problem with_more) w (Contains-append_left q.interface new_interface w a)
+      | inr b ↦ Contains-append_right (q.interface ++ new_interface) (terms_of_problem with_more) w (terms_more w b)
     ]
 
-    no_root : (w : Term) → Contains (clause_at t roots) w → ⊥
-    no_root w i = none w (subst (λ (ids : List TermId). Contains (clause_at t ids) w) no_roots i)
+    root_asserted : AreAmong new_roots (terms_of_problem with_more)
+    root_asserted w i = Contains-append_left (q.asserted ++ new_roots) q.assumed w (Contains-append_right q.asserted new_roots w i)
 
     more_known : AreAmong (known_terms more) (known_terms with_more)
-    more_known w i = elim (Contains-append_cases (clause_at t interface) (clause_at t roots ++ []) w i) [
-      | inl a ↦ Contains-append_left (q.interface ++ clause_at t interface) (terms_of_problem q) w (Contains-append_right q.interface (clause_at t interface) w a)
-      | inr b ↦ absurd (no_root w (subst (λ (ts : List Term). Contains ts w) (append-nil (clause_at t roots)) b))
+    more_known w i = elim (Contains-append_cases new_interface (new_roots ++ []) w i) [
+      | inl a ↦ Contains-append_left (q.interface ++ new_interface) (terms_of_problem with_more) w (Contains-append_right q.interface new_interface w a)
+      | inr b ↦ Contains-append_right (q.interface ++ new_interface) (terms_of_problem with_more) w (root_asserted w (subst (λ (ts : List Term). Contains ts w) (append-nil new_roots) b))
+    ]
+
+    both_terms : (w : Term) → Contains (terms_of_problem with_more) w → Contains (known_terms q ++ known_terms more) w
+    both_terms w i = elim (Contains-append_cases (q.asserted ++ new_roots) q.assumed w i) [
+      | inl a ↦ elim (Contains-append_cases q.asserted new_roots w a) [
+        | inl b ↦ Contains-append_left (known_terms q) (known_terms more) w (Contains-append_right q.interface (terms_of_problem q) w (Contains-append_left q.asserted q.assumed w b))
+        | inr b ↦ Contains-append_right (known_terms q) (known_terms more) w (Contains-append_right new_interface (new_roots ++ []) w (Contains-append_left new_roots [] w b))
+      ]
+      | inr a ↦ Contains-append_left (known_terms q) (known_terms more) w (Contains-append_right q.interface (terms_of_problem q) w (Contains-append_right q.asserted q.assumed w a))
     ]
 
     both_known : AreAmong (known_terms with_more) (known_terms q ++ known_terms more)
-    both_known w i = elim (Contains-append_cases (q.interface ++ clause_at t interface) (terms_of_problem q) w i) [
-      | inl a ↦ elim (Contains-append_cases q.interface (clause_at t interface) w a) [
+    both_known w i = elim (Contains-append_cases (q.interface ++ new_interface) (terms_of_problem with_more) w i) [
+      | inl a ↦ elim (Contains-append_cases q.interface new_interface w a) [
         | inl b ↦ Contains-append_left (known_terms q) (known_terms more) w (Contains-append_left q.interface (terms_of_problem q) w b)
-        | inr b ↦ Contains-append_right (known_terms q) (known_terms more) w (Contains-append_left (clause_at t interface) (clause_at t roots ++ []) w b)
+        | inr b ↦ Contains-append_right (known_terms q) (known_terms more) w (Contains-append_left new_interface (new_roots ++ []) w b)
       ]
-      | inr a ↦ Contains-append_left (known_terms q) (known_terms more) w (Contains-append_right q.interface (terms_of_problem q) w a)
+      | inr a ↦ both_terms w a
     ]
 
-    meant : problem_in t z.roots (z.interface ++ interface) ≡ with_more
-    meant = ap (λ (bs : List Term). speaking (clause_at t z.roots) bs) (map-append (term_at t) z.interface interface)
-        ∙ ap (λ (r : Problem). record { asserted = r.asserted; assumed = r.assumed; interface = r.interface ++ clause_at t interface }) z.meant
+    meant : problem_in t (z.roots ++ roots) (z.interface ++ interface) ≡ with_more
+    meant = (λ i. speaking (map-append (term_at t) z.roots roots i) (map-append (term_at t) z.interface interface i))
+        ∙ ap (λ (r : Problem). asserting_too r new_roots new_interface) z.meant
 
     both_answered : AreAnswered (known_terms with_more)
     both_answered = All-weaker (Contains (known_terms with_more)) IsLinear (λ w i. elim (Contains-append_cases (known_terms q) (known_terms more) w (both_known w i)) [
@@ -153,28 +179,41 @@ module _ (t : TableView) (x : Search) (roots interface : List TermId) (roots_in 
     had : (c : Clause) → Contains (whole_clauses q) c → IsHad t x c
     had c i = (z.whole.base c i, z.whole.stated c i)
 
-    part_goes_on : IsPart t x roots interface earlier with_more
-    part_goes_on = record {
-      all = z.roots;
-      all_in = z.roots_in;
+    part_joined : HasDerived with_more (derivation_in t x.log) (images t x.store.clauses) earlier (images t x.budget.learned) → IsPart t x roots interface earlier with_more
+    part_joined derived = record {
+      all = z.roots ++ roots;
+      all_in = All-append (IsFormulaIn t) z.roots roots z.roots_in roots_in;
       beside = z.interface ++ interface;
       beside_in = All-append (IsFormulaIn t) z.interface interface z.interface_in interface_in;
       meant = meant;
       answered = both_answered;
-      asserted = λ w i. absurd (no_root w i);
-      derived = derived_of_more q with_more refl refl first_known (derivation_in t x.log) (images t x.store.clauses) earlier (images t x.budget.learned) z.derived;
-      began = began_of_more q with_more refl refl first_known x.since (derivation_in t x.log) earlier z.began;
+      asserted = λ w i. Contains-append_right q.asserted new_roots w i;
+      derived = derived;
+      began = began_of_more q with_more asserted_more terms_more first_known x.since (derivation_in t x.log) earlier z.began;
       spoken = λ w i. whole q with_more first_known w (z.listed.only w i);
       more = whole more with_more more_known;
       each = λ w i. elim (whole_joined with_more q more both_known w i) [ inl a ↦ inl (z.listed.each w a) | inr b ↦ inr b ];
       known = λ w c i j. had c (among_whole q w c (z.listed.only w i) j);
-      alone = λ w i. inl (had (w ∷ []) (among_roots q w i));
+      alone = λ w i. elim (Contains-append_cases q.asserted new_roots w i) [ inl a ↦ inl (had (w ∷ []) (among_roots q w a)) | inr b ↦ inr b ];
     }
+
+    -- the check has learned nothing
+    part_asserts : x.budget.learned ≡ [] → IsPart t x roots interface earlier with_more
+    part_asserts unlearned = part_joined (derived_with q with_more asserted_more terms_more first_known (derivation_in t x.log) (images t x.store.clauses) earlier (images t x.budget.learned) z.derived
+        (subst (λ (ls : List (List Lit)). AreNew (at_start with_more earlier) (images t ls)) (sym unlearned) tt))
+
+    -- or there are no roots
+    part_goes_on : roots ≡ [] → IsPart t x roots interface earlier (speaking_of q new_interface)
+    part_goes_on no_roots =
+        let none_new : q.asserted ++ new_roots ≡ q.asserted = ap (λ (ids : List TermId). q.asserted ++ clause_at t ids) no_roots ∙ append-nil q.asserted in
+        subst (IsPart t x roots interface earlier) (λ i. record { asserted = none_new i; assumed = q.assumed; interface = q.interface ++ new_interface })
+        (part_joined (derived_of_more q with_more none_new refl first_known (derivation_in t x.log) (images t x.store.clauses) earlier (images t x.budget.learned) z.derived))
 
   -- what the search has is of each problem to which it grows
   pub part_of : (p : Problem) (earlier : List (List Literal)) → GrowsTo t x roots interface earlier p → IsPart t x roots interface earlier p
   part_of p earlier (begins b none_earlier e) = subst (λ (cs : List (List Literal)). IsPart t x roots interface cs p) (sym none_earlier) (subst (IsPart t x roots interface []) (sym e) (part_begins b))
   part_of p earlier (goes_on q z no_roots e) = subst (IsPart t x roots interface earlier) (sym e) (part_goes_on q earlier z no_roots)
+  part_of p earlier (asserts q z unlearned e) = subst (IsPart t x roots interface earlier) (sym e) (part_asserts q earlier z unlearned)
 
   -- what leaves the bound among what comes in, leaves it in each of these problems
   pub wide_of : (o : Overflow) → IsOrderOverflow more o → (p : Problem) (earlier : List (List Literal)) → GrowsTo t x roots interface earlier p → IsOrderOverflow p o

@@ -9,7 +9,7 @@ ghost use Rattle.search_loop.specs.Waiting.{AreWaiting, AreOfAtoms, IsOpen, Choo
 
 use crate::activity::bump_conflict;
 use crate::decision::next_decision;
-use crate::waiting::{insert_all, put_back};
+use crate::waiting::{insert_all, put_all_back, put_back};
 use no_memory::NoMemory;
 use proof_log::{ProofLog, StepId};
 use sat_trail::SatTrail;
@@ -142,6 +142,16 @@ impl Decider {
             → AreWaiting atoms after.literals self.new }
     {
         put_back(&mut self.order, &mut self.phases, trail, level);
+    }
+
+    /// Lets all variables wait that have a value, and keeps their signs: those that lose it where the trail is cleared. It takes no memory.
+    pub(crate) fn put_all_back(&mut self, trail: &SatTrail)
+        requires vars { length self.old ≡ trail.now.vars }
+        ensures size { length self.new ≡ length self.old }
+        ensures waiting { (atoms : List Number) → AreOfAtoms atoms trail.now.literals
+            → AreWaiting atoms trail.now.literals self.old → AreWaiting atoms [] self.new }
+    {
+        put_all_back(&mut self.order, &mut self.phases, trail);
     }
 
     /// Makes the variables more active that a learned step is about: those of its clause and of its premises, but for those that have

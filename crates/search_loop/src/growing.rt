@@ -88,7 +88,7 @@ impl Search {
 
     /// Lets a search at level 0 speak of terms, which come in with their subterms and their clauses: roots, which are asserted, and
     /// interface equalities, which need not be true. What there is stays: the log, learned clauses, activities and signs. A search
-    /// that begins is the empty one, grown by its roots.
+    /// that begins is the empty one, grown by its roots, and so is one that starts a further check by further roots.
     ///
     /// `Wide` comes where an operation leaves 128 bits that judges a clause of an equality's orders; then all is as it was. Where memory
     /// runs out, some of the terms may have come into the table, and the search is of no use any more.

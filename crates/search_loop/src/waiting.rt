@@ -1,6 +1,6 @@
 //! Which variables wait to be decided.
 
-ghost use Rattle.std.specs.Prelude.{◌≡◌, ◌<◌, ◌++◌, length, List, All};
+ghost use Rattle.std.specs.Prelude.{◌≡◌, ◌<◌, ◌++◌, [], length, List, All};
 ghost use Rattle.term_core.specs.declared.ids.TermId.{TermId as Number};
 ghost use Rattle.term_core.specs.declared.ids.Lit.{Lit as Literal};
 ghost use Rattle.sat_trail.specs.Trails.{TrailView, IsCutTo};
@@ -43,6 +43,25 @@ pub(crate) fn put_back(
         if trail.level_of(place - 1) <= level {
             return;
         }
+        place -= 1;
+        let l = trail.literal(place);
+        phases[l.term.0 as usize] = l.positive;
+        order.insert(l.term);
+    }
+}
+
+/// Lets all variables wait that have a value, and keeps their signs.
+pub(crate) fn put_all_back(order: &mut VariableOrder, phases: &mut Vec<bool>, trail: &SatTrail)
+    requires phases { length phases.old.items ≡ length order.old }
+    requires vars { length order.old ≡ trail.now.vars }
+    ensures phases { length phases.new.items ≡ length phases.old.items }
+    ensures size { length order.new ≡ length order.old }
+    ensures waiting { (atoms : List Number) → AreOfAtoms atoms trail.now.literals
+        → AreWaiting atoms trail.now.literals order.old → AreWaiting atoms [] order.new }
+{
+    trail.is_sound();
+    let mut place = trail.len();
+    'literals: while place > 0 {
         place -= 1;
         let l = trail.literal(place);
         phases[l.term.0 as usize] = l.positive;

@@ -14,7 +14,7 @@ use Rattle.search_loop.specs.declared.search.Search.{Search}
 use Rattle.search_loop.specs.Waiting.{AreWaiting}
 use Rattle.search_loop.specs.Search.{AreAtomsAmong}
 use Rattle.search_loop.specs.Growing.{GrowsTo, StoresAll}
-use Rattle.search_loop.proofs.SearchGrows.{Came, fits_grown, apart_wider, search_grown}
+use Rattle.search_loop.proofs.SearchGrows.{Came, fits_grown, apart_wider, apart_with_more, search_grown}
 use Rattle.search_loop.proofs.SearchParts.{part_of, wide_of}
 use Rattle.search_loop.proofs.search.Search.grow.Goals as goal
 
@@ -83,4 +83,5 @@ returns-clause-grows c =
       terms = terms_are;
       search = λ p earlier grows. search_grown t u x y roots interface came p earlier (part_of t x roots interface c.requires.roots c.requires.interface c.requires.answered c.requires.answered_interface p earlier grows);
       apart = λ q earlier s holds none shared. apart_wider t u x y roots interface came q earlier holds (clause_at t interface) shared;
+      apart_from_roots = λ q earlier s holds shared. apart_with_more t u x y roots interface came q earlier holds (clause_at t roots) (clause_at t interface) shared;
     }
