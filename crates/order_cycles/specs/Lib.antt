@@ -1,0 +1,2 @@
+-- What cycles of orders are.
+pub mod Cycles
