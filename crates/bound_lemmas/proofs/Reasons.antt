@@ -1,5 +1,6 @@
 -- Reasons of two literals, and a table and a log that stay as they are.
 use Rattle.std.proofs.Common.{◌≡◌, ◌≢◌, pos, [], ◌∷◌, List, Contains, refl, sym, subst, arith}
+use Rattle.std.specs.Prelude.{Result, Ok, Err, Option, Some, None, IfOk, IfSome, IfNone}
 use Rattle.std.proofs.lemmas.List.{append-nil}
 use Rattle.std.proofs.lemmas.List.Elements.{All-nil, All-cons}
 use Rattle.ratio128.specs.declared.wide.Wide.{Wide}
@@ -55,3 +56,14 @@ no_contradiction_is_no_memory f is e = cc
 pub one_over_one : divide (whole (pos 1)) (whole (pos 1)) ≡ one_fraction
 unfolding times inverse gcd
 one_over_one = refl
+
+-- what holds of what is found, or where nothing is, holds also by what follows from it
+pub where_some : {A E : Type 0} (P Q : A → Type 0) (r : Result (Option A) E) → ((a : A) → P a → Q a) → IfOk r (λ found. IfSome found P) → IfOk r (λ found. IfSome found Q)
+where_some P Q (Ok (Some a)) f h = f a h
+where_some P Q (Ok None) f h = tt
+where_some P Q (Err e) f h = tt
+
+pub where_none : {A E : Type 0} {P Q : Type 0} (r : Result (Option A) E) → (P → Q) → IfOk r (λ found. IfNone found P) → IfOk r (λ found. IfNone found Q)
+where_none (Ok (Some a)) f h = tt
+where_none (Ok None) f h = f h
+where_none (Err e) f h = tt

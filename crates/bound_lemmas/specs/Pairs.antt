@@ -30,12 +30,16 @@ pub record IsPairOf (atoms : List TermId) (p : BoundPair) : Type 0 where
 abbrev pub weighted : Ratio → BoundPair → List Weighted
 weighted one p = record { literal = p.first; weight = one } ∷ record { literal = p.second; weight = p.weight } ∷ []
 
--- The rule `la_generic` does not take the clause that the two literals do not both hold.
+-- The rule `la_generic` does not take the clause that some literals do not all hold.
+pub record IsRefused (t : TableView) (reasons : List Weighted) : Type 0 where
+  -- why it does not: that memory ran out is no reason
+  pub fault : ArithFault
+  pub not_memory : fault ≢ faults.Memory
+  pub judges : JudgesSum (judged t reasons) (Err fault)
+
+-- The rule does not take the clause that the two literals of a pair do not both hold.
 pub record IsNotTaken (t : TableView) (p : BoundPair) : Type 0 where
   -- the weight of the first, which is 1
   pub one : Ratio
   pub is_one : fraction one ≡ one_fraction
-  -- why it does not: that memory ran out is no reason
-  pub fault : ArithFault
-  pub not_memory : fault ≢ faults.Memory
-  pub judges : JudgesSum (judged t (weighted one p)) (Err fault)
+  pub refused : IsRefused t (weighted one p)

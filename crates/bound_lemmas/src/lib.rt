@@ -6,11 +6,15 @@
 #![tactic(auto)]
 
 mod cuts;
+mod cycles;
 mod neighbours;
+mod orders;
 mod pair;
 mod stating;
 mod sums;
 
+pub use cycles::order_cycles_of;
 pub use neighbours::neighbours_of;
 pub use pair::BoundPair;
-pub use stating::excluding;
+pub use simplex_explain::Weighted;
+pub use stating::{excluding, excluding_all};

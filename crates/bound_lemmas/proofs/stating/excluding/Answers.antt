@@ -1,64 +1,16 @@
--- The two literals are the reasons, and where there is no step nothing came.
+-- The two literals are the reasons.
 use Rattle.std.proofs.Common.{[], ◌∷◌, ◌∙◌}
-use Rattle.bound_lemmas.proofs.Reasons.{both_of_atoms, both_held, nothing_came, one_over_one, wide_is_no_memory, shape_is_no_memory, no_contradiction_is_no_memory}
+use Rattle.bound_lemmas.proofs.Reasons.{both_of_atoms, both_held, one_over_one, where_some, where_none}
 use Rattle.bound_lemmas.proofs.stating.excluding.Goals as goal
 
-pub refute-requires : goal.refute-requires
-refute-requires g c = (c.requires.0, both_of_atoms _ _ g.terms c.args.table.now c.requires.1.0 c.requires.1.1)
+pub excluding_all-requires : goal.excluding_all-requires
+excluding_all-requires g c = (c.requires.0, both_of_atoms _ _ g.terms c.args.table.now c.requires.1.0 c.requires.1.1)
 
-pub returns-in-Ok-clause-clash : goal.returns-in-Ok-clause-clash
-returns-in-Ok-clause-clash g c = c.in-Ok.ensures.clash (c.args.pair.first ∷ c.args.pair.second ∷ []) (both_held _ _)
+pub returns-clause-clash : goal.returns-clause-clash
+returns-clause-clash g c =
+    where_some _ _ c.excluding_all.result (λ step clash. clash (c.args.pair.first ∷ c.args.pair.second ∷ []) (both_held _ _)) c.excluding_all.ensures.clash
 
-pub returns-in-Err-Wide-clause-derives : goal.returns-in-Err-Wide-clause-derives
-returns-in-Err-Wide-clause-derives g c =
-    nothing_came g.terms (record { table = c.args.table.now; log = c.args.log.now }) (record { table = c.refute.new.table; log = c.refute.new.log })
-    c.requires.0 c.in-Err-Wide.ensures.same.0 c.in-Err-Wide.ensures.same.1
-
-pub returns-in-Err-Shape-clause-derives : goal.returns-in-Err-Shape-clause-derives
-returns-in-Err-Shape-clause-derives g c =
-    nothing_came g.terms (record { table = c.args.table.now; log = c.args.log.now }) (record { table = c.refute.new.table; log = c.refute.new.log })
-    c.requires.0 c.in-Err-Shape.ensures.same.0 c.in-Err-Shape.ensures.same.1
-
-pub returns-in-Err-NoContradiction-clause-derives : goal.returns-in-Err-NoContradiction-clause-derives
-returns-in-Err-NoContradiction-clause-derives g c =
-    nothing_came g.terms (record { table = c.args.table.now; log = c.args.log.now }) (record { table = c.refute.new.table; log = c.refute.new.log })
-    c.requires.0 c.in-Err-NoContradiction.ensures.same.0 c.in-Err-NoContradiction.ensures.same.1
-
-pub returns-in-Err-Wide-clause-none : goal.returns-in-Err-Wide-clause-none
-returns-in-Err-Wide-clause-none g c = (
-  c.in-Err-Wide.ensures.same.0,
-  c.in-Err-Wide.ensures.same.1,
-  record {
-    one = c.of.result;
-    is_one = c.of.ensures ∙ one_over_one;
-    fault = c.in-Err-Wide.field-0;
-    not_memory = wide_is_no_memory c.in-Err-Wide.field-0 c.in-Err-Wide.field-0-0 c.in-Err-Wide.field-0-is;
-    judges = c.in-Err-Wide.ensures.fault;
-  },
-)
-
-pub returns-in-Err-Shape-clause-none : goal.returns-in-Err-Shape-clause-none
-returns-in-Err-Shape-clause-none g c = (
-  c.in-Err-Shape.ensures.same.0,
-  c.in-Err-Shape.ensures.same.1,
-  record {
-    one = c.of.result;
-    is_one = c.of.ensures ∙ one_over_one;
-    fault = c.in-Err-Shape.field-0;
-    not_memory = shape_is_no_memory c.in-Err-Shape.field-0 c.in-Err-Shape.field-0-is;
-    judges = c.in-Err-Shape.ensures.fault;
-  },
-)
-
-pub returns-in-Err-NoContradiction-clause-none : goal.returns-in-Err-NoContradiction-clause-none
-returns-in-Err-NoContradiction-clause-none g c = (
-  c.in-Err-NoContradiction.ensures.same.0,
-  c.in-Err-NoContradiction.ensures.same.1,
-  record {
-    one = c.of.result;
-    is_one = c.of.ensures ∙ one_over_one;
-    fault = c.in-Err-NoContradiction.field-0;
-    not_memory = no_contradiction_is_no_memory c.in-Err-NoContradiction.field-0 c.in-Err-NoContradiction.field-0-is;
-    judges = c.in-Err-NoContradiction.ensures.fault;
-  },
-)
+pub returns-clause-none : goal.returns-clause-none
+returns-clause-none g c =
+    where_none c.excluding_all.result
+    (λ none. (none.0, none.1, record { one = c.of.result; is_one = c.of.ensures ∙ one_over_one; refused = none.2 })) c.excluding_all.ensures.none
