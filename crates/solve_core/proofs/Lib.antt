@@ -1,6 +1,7 @@
 -- Lemmas on what a search shows with its theories.
 pub mod SearchForms
 pub mod SearchRelated
+pub mod SearchCycled
 pub mod SearchTruths
 pub mod SearchNumbers
 pub mod SearchRuns

@@ -10,6 +10,7 @@ ghost use Rattle.search_loop.specs.Search.{SearchFits};
 ghost use Rattle.bound_lemmas.specs.Pairs.{IsPairOf};
 ghost use Rattle.solve_core.specs.Relating.{HasRelated};
 
+use crate::cycling::relate_cycles;
 use crate::marking::{is_marked, marked};
 use bound_lemmas::{BoundPair, excluding, neighbours_of};
 use no_memory::NoMemory;
@@ -80,5 +81,6 @@ pub(crate) fn relate_bounds(
 {
     let pairs = neighbours_of(search.alloc, table, &search.atoms)?;
     let marks = marked(search.alloc, table, &search.terms[from..])?;
-    relate_marked(search, table, &pairs, &marks)
+    relate_marked(search, table, &pairs, &marks)?;
+    relate_cycles(search, table, &marks)
 }

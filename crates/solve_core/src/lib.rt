@@ -9,6 +9,7 @@ mod answering;
 mod bounding;
 mod cases;
 mod choosing;
+mod cycling;
 mod equalities;
 mod forms;
 mod marking;
