@@ -5,6 +5,8 @@
     bench/limits.py solve PROGRAM                   scripts up to that, and long terms, by `solve` and `certify`
     bench/limits.py refuse PROGRAM WORD ..          one run for each allocation of the program, with that one refused
     bench/limits.py refuse-tests TESTS [LEFT_OUT]   the same of each test of a crate
+    bench/limits.py refuse-mutated PROGRAM COUNT SEED [FOLDER ..]
+                                                    so many scripts and proofs that are changed by chance, with one refused
 
 check, solve   What is written, and the status, are known beforehand of each row; what does not fit ends out of memory,
                with status 3. The rows are in bench/limits/. A table has the seconds of a processor and the peak memory,
@@ -17,7 +19,7 @@ refuse-tests   TESTS is a crate's out/NAME_tests, which `rt test` leaves there. 
                not run. Where a test makes more than 1,500 allocations, one in k is refused, with k as printed. A run has
                to end in a word of memory, with an answer other than the wanted one, or as with none refused, in 60 s.
 
-What is not so is printed, and the status is 1 then, else 0. It needs Python 3 and its standard library; the last two
+What is not so is printed, and the status is 1 then, else 0. It needs Python 3 and its standard library; the last three
 need a C compiler and the GNU C library.
 """
 
@@ -29,6 +31,7 @@ FOLDER = os.path.dirname(os.path.abspath(__file__))
 sys.path[:0] = [os.path.join(FOLDER, "limits"), os.path.join(FOLDER, "race")]
 
 import check_texts
+import mutated
 import refused
 import solve_texts
 from groups import status_of
@@ -39,6 +42,7 @@ LIMITS = {
     "solve": (solve_texts.run_all, 1, 1),
     "refuse": (refused.run_all, 2, None),
     "refuse-tests": (refused.run_tests, 1, 2),
+    "refuse-mutated": (mutated.run_all, 3, None),
 }
 
 

@@ -26,7 +26,7 @@ class Refusal:
         done = self.ran(words, folder, COUNT="1")
         return int(done.stderr.split()[-1])
 
-    def ran(self, words, folder=None, errors=subprocess.PIPE, **variables):
+    def ran(self, words, folder=None, errors=subprocess.PIPE, seconds=None, **variables):
         """Runs the words with the library, in a folder; returns what came of it, or nothing after a limit of time."""
         known = dict(os.environ, LD_PRELOAD=self.library, **variables)
         try:
@@ -37,7 +37,7 @@ class Refusal:
                 stdin=subprocess.DEVNULL,
                 stdout=subprocess.PIPE,
                 stderr=errors,
-                timeout=LONGEST if folder else None,
+                timeout=seconds or (LONGEST if folder else None),
                 check=False,
             )
         except subprocess.TimeoutExpired:
