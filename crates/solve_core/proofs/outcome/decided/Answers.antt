@@ -49,7 +49,7 @@ returns-in-Err-Wide-clause-decided c =
     let wide = c.in-Err-Wide.wide in
     let forms = rw c.in_default.is at c.in_ok-wide.ensures in
     let stays = rw c.in-Err-Wide.field-0-is at c.in-Err-Wide.ensures.same in
-    let order = (rw c.in-Err-Wide.field-0-is at c.in-Err-Wide.ensures.wide) (asserting ts) (grows_to t roots limits x e) in
+    let order = (rw c.in-Err-Wide.field-0-is at c.in-Err-Wide.ensures.wide) (asserting ts) [] (grows_to t roots limits x e) in
     IfOk-weaker c.overflowed-in-Err-Wide.result (IsOverflowedBy limits wide) (HasDecision c.grow.new.table ts limits)
     (λ d by. subst (λ (w : TableView). HasDecision w ts limits d) (sym stays.0) (decided_overflow t roots limits x e (c.empty_logs_are_right.ensures t) wide d by forms order)) c.overflowed-in-Err-Wide.ensures
 

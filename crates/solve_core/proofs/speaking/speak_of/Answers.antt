@@ -1,5 +1,5 @@
 -- The search goes on, or why it does not.
-use Rattle.std.proofs.Common.{Result, Ok, Err, ◌≡◌, ◌+◌, ◌-◌, length, List, take, drop, sym, ap, ◌∙◌, subst, arith}
+use Rattle.std.proofs.Common.{Result, Ok, Err, ◌≡◌, ◌+◌, ◌-◌, length, List, [], take, drop, sym, ap, ◌∙◌, subst, arith}
 use Rattle.std.specs.Prelude.{Vec, IfErr, IsErrAnd}
 use Rattle.std.specs.declared.alloc.Global.{Global}
 use Rattle.term_core.specs.declared.ids.TermId.{TermId}
@@ -74,7 +74,7 @@ returns-in-Err-Wide-clause-stopped g c =
     let new = c.deref.result.now in
     let are = ap (clause_at u) c.deref.ensures.value ∙ c.in_ok-equalities.ensures.are in
     let stays = rw c.in-Err-Wide.field-0-is at c.in-Err-Wide.ensures.same in
-    let order = (rw c.in-Err-Wide.field-0-is at c.in-Err-Wide.ensures.wide) (after g.asked ids t x v pairs h (clause_at u new) are) (grows_to g.asked ids t x v pairs h u wider log same at (c.rest.ensures.continues u) c.rest.ensures.budget new are) in
+    let order = (rw c.in-Err-Wide.field-0-is at c.in-Err-Wide.ensures.wide) (after g.asked ids t x v pairs h (clause_at u new) are) [] (grows_to g.asked ids t x v pairs h u wider log same at (c.rest.ensures.continues u) c.rest.ensures.budget new are) in
     let limit = ap (λ (b : BudgetView). b.limit) c.rest.ensures.budget in
     let by = subst (λ (z : SimplexView). StopsBy (λ s. (s.wide ≡ c.in-Err-Wide.wide) × IsBasisOf z.assignment s.basis) c.stop_of.result) c.simplex.ensures c.stop_of.ensures in
     let stopped = order_stops g.asked ids t x v pairs h (clause_at u new) are differ u at (resting g.asked ids t x v pairs h u wider log same at (c.rest.ensures.continues u) c.rest.ensures.budget new are)
