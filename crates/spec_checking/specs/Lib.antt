@@ -3,6 +3,7 @@ pub mod Commands
 pub mod Reading
 pub mod Judging
 pub mod Good
+pub mod Assumes
 pub mod Limits
 pub mod Accepted
 pub mod OnLiterals

@@ -8,7 +8,7 @@ use Rattle.spec_text.specs.Trees.{Tree}
 use Rattle.spec_sorts.specs.Terms.{Term}
 use Rattle.spec_sorts.specs.Signatures.{Definition, Declaration, definition}
 use Rattle.spec_sorts.specs.Signatures as signatures
-use Rattle.spec_commands.specs.Stack.{Assertion, ScopedDeclaration, Stack, Key, success_key, models_key, proofs_key, assertions_key, global_key, empty_stack, signature_of, joined, assertions_of, levels_open, level_now, with_last, begun, with_declaration, with_definitions, with_assertion, with_levels, is_up_to, up_to_level, is_global, emptied, with_option, may_set}
+use Rattle.spec_commands.specs.Stack.{Assertion, ScopedDeclaration, Stack, Key, success_key, models_key, proofs_key, assertions_key, cores_key, assumptions_key, global_key, empty_stack, signature_of, joined, assertions_of, levels_open, level_now, with_last, begun, with_declaration, with_definitions, with_assertion, with_levels, is_up_to, up_to_level, is_global, emptied, with_option, may_set}
 use Rattle.spec_commands.specs.Kept.{AreLeveled}
 
 -- one declaration more is the last of the signature
@@ -337,4 +337,6 @@ leveled_option s k b may h = record { first = h.first; names = h.names; alike = 
     alike models_key e = h.alike
     alike proofs_key e = h.alike
     alike assertions_key e = h.alike
+    alike cores_key e = h.alike
+    alike assumptions_key e = h.alike
     alike global_key e = none e

@@ -44,7 +44,7 @@ pub options : answers (
     codes "(set-option :print-success |false|)" ∷
     codes "(set-option :produce-models false)" ∷
     codes "(set-option :produce-models 0)" ∷
-    codes "(set-option :produce-unsat-cores true)" ∷
+    codes "(set-option :produce-assignments true)" ∷
     codes "(set-option :Produce-models true)" ∷
     codes "(set-option :other let)" ∷
     codes "(set-option :other (1 (2)))" ∷ []) ≡ done ∷ done ∷ unsupported ∷ unsupported ∷ unsupported ∷ unsupported ∷ []

@@ -252,12 +252,14 @@ nothing_after_reset = refl
 -- options that are known are set, and others change nothing
 pub options_are_set : options_at 1
     (codes "(set-option :print-success false)(set-option :produce-models true)(set-option :other 5)"
-    ++ codes "(set-option :produce-proofs 5)(check-sat)")
+    ++ codes "(set-option :produce-proofs 5)(set-option :produce-unsat-cores true)(check-sat)")
     ≡ Some (record {
       print_success = false;
       models = true;
       proofs = false;
       assertions = false;
+      unsat_cores = true;
+      unsat_assumptions = false;
       global_declarations = false;
     })
 unfolding commands_on_literals
@@ -265,12 +267,15 @@ options_are_set = refl
 
 -- they stay when levels are closed and assertions taken back
 pub options_stay : options_at 1
-    (codes "(push)(set-option :produce-models true)(pop)(set-option :print-success false)(reset-assertions)(check-sat)")
+    (codes "(push)(set-option :produce-models true)(pop)(set-option :print-success false)(reset-assertions)"
+    ++ codes "(set-option :produce-unsat-assumptions true)(check-sat)")
     ≡ Some (record {
       print_success = false;
       models = true;
       proofs = false;
       assertions = false;
+      unsat_cores = false;
+      unsat_assumptions = true;
       global_declarations = false;
     })
 unfolding commands_on_literals
@@ -285,6 +290,8 @@ pub options_reset : options_at 1
       models = false;
       proofs = true;
       assertions = false;
+      unsat_cores = false;
+      unsat_assumptions = false;
       global_declarations = false;
     })
 unfolding commands_on_literals

@@ -76,12 +76,16 @@ pub option_stays : map (λ k. options_at k
       models = false;
       proofs = false;
       assertions = false;
+      unsat_cores = false;
+      unsat_assumptions = false;
       global_declarations = true;
     }) ∷ Some (record {
       print_success = true;
       models = false;
       proofs = false;
       assertions = false;
+      unsat_cores = false;
+      unsat_assumptions = false;
       global_declarations = false;
     }) ∷ []
 unfolding commands_on_literals

@@ -46,6 +46,10 @@ pub record Options : Type 0 where
   pub proofs : Bool
   -- `:produce-assertions`
   pub assertions : Bool
+  -- `:produce-unsat-cores`
+  pub unsat_cores : Bool
+  -- `:produce-unsat-assumptions`
+  pub unsat_assumptions : Bool
   -- `:global-declarations`: whether what is declared and defined belongs to no level
   pub global_declarations : Bool
 
@@ -70,6 +74,8 @@ empty_stack = record {
     models = false;
     proofs = false;
     assertions = false;
+    unsat_cores = false;
+    unsat_assumptions = false;
     global_declarations = false;
   };
   started = false;
@@ -179,8 +185,10 @@ truth_in (list at ts end) = None
 
 -- The names of the options that are known.
 pub data Key : Type 0 where
-  -- `print-success`, `produce-models`, `produce-proofs`, `produce-assertions`, `global-declarations`
-  success_key models_key proofs_key assertions_key global_key : Key
+  -- `print-success`, `produce-models`, `produce-proofs`, `produce-assertions`
+  success_key models_key proofs_key assertions_key : Key
+  -- `produce-unsat-cores`, `produce-unsat-assumptions`, `global-declarations`
+  cores_key assumptions_key global_key : Key
 
 -- which name is which
 abbrev pub key_named : Name → Option Key
@@ -189,6 +197,8 @@ key_named n =
     else if bytes_eq n (codes "produce-models") then Some models_key
     else if bytes_eq n (codes "produce-proofs") then Some proofs_key
     else if bytes_eq n (codes "produce-assertions") then Some assertions_key
+    else if bytes_eq n (codes "produce-unsat-cores") then Some cores_key
+    else if bytes_eq n (codes "produce-unsat-assumptions") then Some assumptions_key
     else if bytes_eq n (codes "global-declarations") then Some global_key
     else None
 
@@ -198,6 +208,8 @@ with_option success_key b o = record o { print_success = b }
 with_option models_key b o = record o { models = b }
 with_option proofs_key b o = record o { proofs = b }
 with_option assertions_key b o = record o { assertions = b }
+with_option cores_key b o = record o { unsat_cores = b }
+with_option assumptions_key b o = record o { unsat_assumptions = b }
 with_option global_key b o = record o { global_declarations = b }
 
 -- whether an option may be set now: whether declarations are global is settled at the start

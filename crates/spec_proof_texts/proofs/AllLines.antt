@@ -54,7 +54,7 @@ sooner_or_later l ls e = go e.earlier e.last
     go (x ∷ xs) h = inr (record { earlier = xs; step = e.step; last = tail_same h; empty = e.empty })
 
 module _ (limit : Option ℕ) (g : Signature) (asserted : List Term) (own : AreScriptNames g) where
-  line_goes : (told next : Told) (s : Signature) (entries : List NamedClause) (numbers : ℕ) (h : IsKnownAfter g told s entries numbers) (l : Line) (at : ℕ) → IsLineAfter g asserted told l next → HasRoom limit g asserted own told s entries numbers h l → Goes limit g asserted told next s entries numbers l at
+  pub line_goes : (told next : Told) (s : Signature) (entries : List NamedClause) (numbers : ℕ) (h : IsKnownAfter g told s entries numbers) (l : Line) (at : ℕ) → IsLineAfter g asserted told l next → HasRoom limit g asserted own told s entries numbers h l → Goes limit g asserted told next s entries numbers l at
   line_goes told next s entries numbers h (defines d) at x room = subst (λ k. Goes limit g asserted told k s entries numbers (defines d) at) (sym x.2) (define_goes limit g asserted own told s entries numbers h d at x.0 x.1 room)
   line_goes told next s entries numbers h (assumes n a) at x room = subst (λ k. Goes limit g asserted told k s entries numbers (assumes n a) at) (sym x.2) (assume_goes limit g asserted own told s entries numbers h n a x.0 at x.1 room)
   line_goes told next s entries numbers h (steps l) at x room = subst (λ k. Goes limit g asserted told k s entries numbers (steps l) at) (sym x.1) (step_goes limit g asserted own told s entries numbers h l at x.0 room)

@@ -1,5 +1,5 @@
 -- Lines that are right are good commands.
-use Rattle.std.proofs.Common.{◌≡◌, ℕ, ◌+◌, List, [], ◌∷◌, ◌++◌, length, map, All, Option, Some, Contains, refl, sym, ap, ◌∙◌, subst, append-nil, length-append, arith}
+use Rattle.std.proofs.Common.{◌≡◌, ℕ, ◌+◌, List, [], ◌∷◌, ◌++◌, length, map, All, Option, Some, Contains, refl, sym, ap, ◌∙◌, subst, append-nil, append_assoc, length-append, arith}
 use Rattle.std.specs.Prelude.{◌≤◌, Ok, codes}
 use Rattle.std.proofs.lemmas.List.Elements.{All-head, All-tail, Contains-append_left, Contains-push}
 use Rattle.spec_text.specs.Bytes.{Name}
@@ -25,6 +25,7 @@ use Rattle.spec_checking.specs.Commands.{Known, NamedClause, Step, Command, assu
 use Rattle.spec_checking.specs.Commands as checking
 use Rattle.spec_checking.specs.Reading.{literals_in, room, command_of}
 use Rattle.spec_checking.specs.Judging.{with_command, IsRightAfter}
+use Rattle.spec_checking.specs.Assumes.{with_assumed}
 use Rattle.spec_models.specs.Values.{trees_of, in_list, word_tree, reserved_tree, sort_tree}
 use Rattle.spec_models.proofs.Parameters.{sort_read}
 use Rattle.spec_proof_texts.specs.Lines.{Argument, Reference, DefinitionLine, StepLine, Line, defines, assumes, steps, defined_name, assume_name, step_name, argument_tree, reference_tree, term_tree, line_tree}
@@ -32,6 +33,7 @@ use Rattle.spec_proof_texts.specs.Meaning.{Told, with_definition, with_assume, w
 use Rattle.spec_proof_texts.specs.ReadBack.{AreScriptNames}
 use Rattle.spec_proof_texts.proofs.Known.{numbers_among, numbers_in, definitions_in, IsHeld, AreHeld, IsHeldBelow}
 use Rattle.spec_proof_texts.proofs.Names.{named}
+use Rattle.spec_proof_texts.proofs.Numbers.{unit_clauses}
 use Rattle.spec_proof_texts.proofs.MovedArguments.{moved_numbers}
 use Rattle.spec_proof_texts.proofs.Lookups.{entry}
 use Rattle.spec_proof_texts.proofs.Arguments.{arguments_held, term_whole}
@@ -85,6 +87,7 @@ pub record Goes (limit : Option ℕ) (g : Signature) (asserted : List Term) (tol
   pub kept : (e : NamedClause) → Contains entries e → Contains later_entries e
   pub more_terms : length next.terms ≡ length told.terms + definitions_in (l ∷ [])
   pub same_places : length next.placed ≡ length told.placed
+  pub assumes_told : (later : List Term) → told.assumes ++ unit_clauses (with_assumed command.statement later) ≡ next.assumes ++ unit_clauses later
   pub empty : (x : StepLine) → l ≡ steps x → x.literals ≡ [] → HasOne later_entries
 
 module _ (limit : Option ℕ) (g : Signature) (asserted : List Term) (own : AreScriptNames g) (told : Told) (s : Signature) (entries : List NamedClause) (numbers : ℕ) (h : IsKnownAfter g told s entries numbers) where
@@ -131,6 +134,7 @@ module _ (limit : Option ℕ) (g : Signature) (asserted : List Term) (own : AreS
         kept = λ e c. Contains-append_left entries (entry (assume_name n) (t ∷ []) ∷ []) e c;
         more_terms = omega arith;
         same_places = refl;
+        assumes_told = λ later. sym (append_assoc told.assumes ((t ∷ []) ∷ []) (unit_clauses later));
         empty = λ x e. absurd cc;
       }
 
@@ -174,6 +178,7 @@ module _ (limit : Option ℕ) (g : Signature) (asserted : List Term) (own : AreS
         kept = λ x c. Contains-append_left entries (entry (step_name n) d.clause ∷ []) x c;
         more_terms = omega arith;
         same_places = refl;
+        assumes_told = λ later. refl;
         empty = λ x e none. (entry (step_name n) d.clause, Contains-push entries (entry (step_name n) d.clause), nothing_is l.literals d.clause d.literals (ap literals_of e ∙ none));
       }
         where
@@ -214,6 +219,7 @@ module _ (limit : Option ℕ) (g : Signature) (asserted : List Term) (own : AreS
         kept = λ y c. c;
         more_terms = omega (arith, length-append told.terms (t ∷ []));
         same_places = refl;
+        assumes_told = λ later. refl;
         empty = λ y f. absurd cc;
       }
     where

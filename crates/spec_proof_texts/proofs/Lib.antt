@@ -2,7 +2,8 @@
 pub mod Numbers
 mod Placed
 mod Told
-mod Planned
+pub mod Planned
+pub mod Assumed
 pub mod Names
 mod MovedArguments
 pub mod Written
@@ -30,3 +31,4 @@ pub mod Filled
 pub mod Readings
 pub mod Stacks
 pub mod Search
+pub mod WholeTexts

@@ -1,15 +1,16 @@
 -- The numbers of what is marked, and what is under them.
-use Rattle.std.proofs.Common.{◌≡◌, ℕ, zero, suc, ◌+◌, ◌<◌, Bool, true, false, ◌&&◌, List, [], ◌∷◌, ◌++◌, length, get_or, Option, Some, None, refl, sym, ap, ◌∙◌, subst, arith}
+use Rattle.std.proofs.Common.{◌≡◌, ℕ, zero, suc, ◌+◌, ◌<◌, Bool, true, false, ◌&&◌, List, [], ◌∷◌, ◌++◌, length, map, Contains, get_or, Option, Some, None, refl, sym, ap, ◌∙◌, subst, arith}
 use Rattle.std.specs.Prelude.{nat_eq}
 use Rattle.std.specs.List.{slice_get}
 use Rattle.std.proofs.lemmas.Bool.{false≢true}
 use Rattle.std.proofs.lemmas.Option.{none-some}
 use Rattle.spec_text.specs.Trees.{Trees}
+use Rattle.spec_text.proofs.Members.{first, later}
 use Rattle.spec_sorts.specs.Terms.{Term, same_term}
 use Rattle.spec_sorts.specs.Literals.{Clause}
 use Rattle.spec_sorts.proofs.SameTerms.{terms_decide}
 use Rattle.spec_derivations.specs.Derivations.{Inference, «assumption», by_rule, Derivation}
-use Rattle.spec_proof_texts.specs.Plans.{number_of, height_of, is_compound, definition_marks, counted, counted_inferences}
+use Rattle.spec_proof_texts.specs.Plans.{number_of, height_of, is_compound, definition_marks, counted, counted_inferences, terms_planned}
 
 -- the marked ones, in order
 abbrev pub picked : {A : Type 0} → List Bool → List A → List A
@@ -145,6 +146,43 @@ assumes_more (true ∷ bs) («assumption» t ∷ xs) true (by_rule r ps given c)
 assumes_more (true ∷ bs) («assumption» t ∷ xs) false x e = ap (λ ys. (t ∷ []) ∷ ys) (assumes_more bs xs false x (omega (arith, e)))
 assumes_more (true ∷ bs) (by_rule r ps given c ∷ xs) b x e = assumes_more bs xs b x (omega (arith, e))
 assumes_more (false ∷ bs) (y ∷ xs) b x e = assumes_more bs xs b x (omega (arith, e))
+
+-- what is behind the marks does not count
+pub assumes_front : (bs : List Bool) (xs ys : Derivation) → length bs ≡ length xs → assumes_of bs (xs ++ ys) ≡ assumes_of bs xs
+assumes_front [] [] ys e = refl
+assumes_front [] (x ∷ xs) ys e = absurd (omega (arith, e))
+assumes_front (b ∷ bs) [] ys e = absurd (omega (arith, e))
+assumes_front (true ∷ bs) («assumption» t ∷ xs) ys e = ap (λ cs. (t ∷ []) ∷ cs) (assumes_front bs xs ys (omega (arith, e)))
+assumes_front (true ∷ bs) (by_rule r ps given c ∷ xs) ys e = assumes_front bs xs ys (omega (arith, e))
+assumes_front (false ∷ bs) (x ∷ xs) ys e = assumes_front bs xs ys (omega (arith, e))
+
+-- terms as clauses of assumes
+abbrev pub unit_clauses : List Term → List Clause
+unit_clauses ts = map (λ (t : Term). t ∷ []) ts
+
+-- these are the assumptions that have a number
+pub planned_assumed : (h t : ℕ) (bs : List Bool) (xs : Derivation) → unit_clauses (terms_planned xs (counted_inferences h t bs xs)) ≡ assumes_of bs xs
+planned_assumed h t [] [] = refl
+planned_assumed h t [] («assumption» u ∷ xs) = refl
+planned_assumed h t [] (by_rule r ps given c ∷ xs) = refl
+planned_assumed h t (true ∷ bs) [] = refl
+planned_assumed h t (false ∷ bs) [] = refl
+planned_assumed h t (true ∷ bs) («assumption» u ∷ xs) = ap (λ cs. (u ∷ []) ∷ cs) (planned_assumed (suc h) t bs xs)
+planned_assumed h t (true ∷ bs) (by_rule r ps given c ∷ xs) = planned_assumed h (suc t) bs xs
+planned_assumed h t (false ∷ bs) («assumption» u ∷ xs) = planned_assumed h t bs xs
+planned_assumed h t (false ∷ bs) (by_rule r ps given c ∷ xs) = planned_assumed h t bs xs
+
+-- among them is each that is marked
+pub planned_there : (h t : ℕ) (bs : List Bool) (xs : Derivation) (m : ℕ) (u : Term) → get_or bs m false ≡ true → slice_get xs m ≡ Some («assumption» u) → Contains (terms_planned xs (counted_inferences h t bs xs)) u
+planned_there h t [] xs m u e f = absurd (false≢true e)
+planned_there h t (b ∷ bs) [] m u e f = cc
+planned_there h t (false ∷ bs) (x ∷ xs) zero u e f = absurd (false≢true e)
+planned_there h t (true ∷ bs) (by_rule r ps given c ∷ xs) zero u e f = cc
+planned_there h t (true ∷ bs) («assumption» v ∷ xs) zero u e f = let same : v ≡ u = cc in subst (Contains (v ∷ _)) same (first v _)
+planned_there h t (true ∷ bs) («assumption» v ∷ xs) (suc m) u e f = later v _ u (planned_there (suc h) t bs xs m u e f)
+planned_there h t (true ∷ bs) (by_rule r ps given c ∷ xs) (suc m) u e f = planned_there h (suc t) bs xs m u e f
+planned_there h t (false ∷ bs) («assumption» v ∷ xs) (suc m) u e f = planned_there h t bs xs m u e f
+planned_there h t (false ∷ bs) (by_rule r ps given c ∷ xs) (suc m) u e f = planned_there h t bs xs m u e f
 
 pub steps_more : (bs : List Bool) (xs : Derivation) (b : Bool) (x : Inference) → length bs ≡ length xs → steps_of (bs ++ b ∷ []) (xs ++ x ∷ []) ≡ with_stepped b x (steps_of bs xs)
 steps_more [] [] true («assumption» t) e = refl

@@ -8,13 +8,14 @@ use Rattle.std.proofs.lemmas.List.Elements.{All-contains, All-contains_itself, A
 use Rattle.spec_text.proofs.Members.{first, later}
 use Rattle.spec_sorts.specs.Terms.{Truth, Head, Term, Terms, app, nil, cons, list_of, terms_of, sort_of}
 use Rattle.spec_sorts.specs.Signatures.{Signature}
+use Rattle.spec_sorts.specs.Literals.{Clause}
 use Rattle.spec_derivations.specs.Derivations.{Inference, «assumption», by_rule, Derivation, conclusion, conclusion_at, inference_at, no_inference, premises_of, IsDerivation, IsDerivedFrom, DependsOn, itself, AssumesAmong}
 use Rattle.spec_derivations.proofs.Spending.{depends_onward}
-use Rattle.spec_proof_texts.specs.Lines.{Argument, levels, most_levels, Reference, StepLine, Line, defines, assumes, steps}
+use Rattle.spec_proof_texts.specs.Lines.{Argument, levels, most_levels, Reference, StepLine, Line, defines, assumes, steps, place_limit}
 use Rattle.spec_proof_texts.specs.Meaning.{Told, nothing_told, with_assume, with_step, IsTold, AreToldSo, clause_told, IsLineAfter, AreLinesAfter, AreRightLines}
 use Rattle.spec_proof_texts.specs.Plans.{Plan, number_of, in_place, argument_by, argument_for, arguments_for, height_of, greatest_height, how_many, definition_lines, reference_for, reference_by, number_or_zero, inference_lines, lines_of, is_compound, IsPrinted, in_clause, as_argument, counted, definition_marks, counted_inferences, IsSupport, ArePrinted, AreHeights, IsPlan}
 use Rattle.spec_proof_texts.specs.Printable.{ArePrintable, AllConcludeOver}
-use Rattle.spec_proof_texts.proofs.Numbers.{picked, picked_more, picked_same, has_number, has_none, counted_front, number_at_place, height_at_place, definition_mark_at, definition_marks_length, assumes_of, steps_of, assumes_more, steps_more, inference_number, inferences_front}
+use Rattle.spec_proof_texts.proofs.Numbers.{picked, picked_more, picked_same, has_number, has_none, counted_front, number_at_place, height_at_place, definition_mark_at, definition_marks_length, assumes_of, steps_of, assumes_more, steps_more, inference_number, inferences_front, assumes_front}
 use Rattle.spec_proof_texts.proofs.Placed.{placed_by, placed_there, placed_few, is_high, has_height}
 use Rattle.spec_proof_texts.proofs.Told.{in_place_told, in_place_flat, all_told, reference_told, premises_told}
 
@@ -278,23 +279,27 @@ module _ (g : Signature) (terms asserted : List Term) (d : Derivation) (n : ℕ)
           subst (IsLater xs bs end) (λ i. (next i, h_next i, t_next i)) later,
         )
 
+    -- after the last mark all assumptions that are printed are known
+    all_assumed : (front rest : Derivation) (fm : List Bool) → length fm ≡ length front → front ++ rest ≡ d → fm ++ [] ≡ support → assumes_of fm front ≡ assumes_of support d
+    all_assumed front rest fm as_many ds ms = sym (assumes_front fm front rest as_many) ∙ (λ i. assumes_of ((sym (append-nil fm) ∙ ms) i) (ds i))
+
     -- all inferences from a place on
-    inferences : (front rest : Derivation) (fm rm : List Bool) (h t : ℕ) → length fm ≡ length front → length rm ≤ length rest → front ++ rest ≡ d → fm ++ rm ≡ support → h ≡ length (assumes_of fm front) → t ≡ length (steps_of fm front) → (end : Told) × AreLinesAfter g asserted (told_clauses fm front) (inference_lines name refer rest (counted_inferences (suc h) (suc t) rm rest)) end
-    inferences front [] fm [] h t as_many e ds ms h_is t_is = (told_clauses fm front, refl)
-    inferences front (x ∷ rest) fm [] h t as_many e ds ms h_is t_is = (told_clauses fm front, refl)
+    inferences : (front rest : Derivation) (fm rm : List Bool) (h t : ℕ) → length fm ≡ length front → length rm ≤ length rest → front ++ rest ≡ d → fm ++ rm ≡ support → h ≡ length (assumes_of fm front) → t ≡ length (steps_of fm front) → (end : Told) × AreLinesAfter g asserted (told_clauses fm front) (inference_lines name refer rest (counted_inferences (suc h) (suc t) rm rest)) end × (end.assumes ≡ assumes_of support d)
+    inferences front [] fm [] h t as_many e ds ms h_is t_is = (told_clauses fm front, refl, all_assumed front [] fm as_many ds ms)
+    inferences front (x ∷ rest) fm [] h t as_many e ds ms h_is t_is = (told_clauses fm front, refl, all_assumed front (x ∷ rest) fm as_many ds ms)
     inferences front [] fm (b ∷ rm) h t as_many e ds ms h_is t_is = absurd (omega (arith, e))
     inferences front (x ∷ rest) fm (true ∷ rm) h t as_many e ds ms h_is t_is =
         let r = inferences (front ++ x ∷ []) rest (fm ++ true ∷ []) rm _ _
         (omega (arith, length-append fm (true ∷ []), length-append front (x ∷ []), as_many)) (omega (arith, e))
         (append_assoc front (x ∷ []) rest ∙ ds) (append_assoc fm (true ∷ []) rm ∙ ms) refl refl in
-        (r.0, inference front rest fm rm x h t rest rm r.0 as_many ds ms h_is t_is r.1)
+        (r.0, inference front rest fm rm x h t rest rm r.0 as_many ds ms h_is t_is r.1, r.2)
     inferences front (x ∷ rest) fm (false ∷ rm) h t as_many e ds ms h_is t_is =
         let more_a = assumes_more fm front false x as_many in
         let more_s = steps_more fm front false x as_many in
         let r = inferences (front ++ x ∷ []) rest (fm ++ false ∷ []) rm h t
         (omega (arith, length-append fm (false ∷ []), length-append front (x ∷ []), as_many)) (omega (arith, e))
         (append_assoc front (x ∷ []) rest ∙ ds) (append_assoc fm (false ∷ []) rm ∙ ms) (h_is ∙ ap length (sym more_a)) (t_is ∙ ap length (sym more_s)) in
-        (r.0, subst (λ k. AreLinesAfter g asserted k (inference_lines name refer rest (counted_inferences (suc h) (suc t) rm rest)) r.0) (λ i. record { terms = picked marks terms; assumes = more_a i; steps = more_s i; placed = placed }) r.1)
+        (r.0, subst (λ k. AreLinesAfter g asserted k (inference_lines name refer rest (counted_inferences (suc h) (suc t) rm rest)) r.0) (λ i. record { terms = picked marks terms; assumes = more_a i; steps = more_s i; placed = placed }) r.1, r.2)
 
 -- The lines end with a step that has the empty clause.
 record EndsEmpty (lines : List Line) : Type 0 where
@@ -323,11 +328,20 @@ ends_empty name refer h t (by_rule r ps given c ∷ xs) (true ∷ bs) (suc n) e 
 ends_empty name refer h t (x ∷ xs) (false ∷ bs) (suc n) e lt mark empty = ends_empty name refer h t xs bs n (omega (arith, e)) (omega (arith, lt)) mark empty
 
 -- the numbers of a plan are those of its marks
-by_numbers : (g : Signature) (terms asserted : List Term) (d : Derivation) (p q : Plan) → p.terms ≡ q.terms → p.inferences ≡ q.inferences → AreRightLines g asserted (lines_of terms d q) → AreRightLines g asserted (lines_of terms d p)
-by_numbers g terms asserted d p q e f h = subst (λ ns. AreRightLines g asserted (lines_of terms d (record { terms = ns; inferences = p.inferences }))) (sym e) (subst (λ ns. AreRightLines g asserted (lines_of terms d (record { terms = q.terms; inferences = ns }))) (sym f) h)
+by_numbers : (P : List Line → Type 0) (terms : List Term) (d : Derivation) (p q : Plan) → p.terms ≡ q.terms → p.inferences ≡ q.inferences → P (lines_of terms d q) → P (lines_of terms d p)
+by_numbers P terms d p q e f h = subst (λ ns. P (lines_of terms d (record { terms = ns; inferences = p.inferences }))) (sym e) (subst (λ ns. P (lines_of terms d (record { terms = q.terms; inferences = ns }))) (sym f) h)
 
-pub planned : (g : Signature) (terms asserted : List Term) (d : Derivation) (n : ℕ) (plan : Plan) → ArePrintable g terms d n → AllConcludeOver terms d → IsDerivation d → IsDerivedFrom asserted d n → conclusion_at d n ≡ [] → IsPlan terms d n plan → AreRightLines g asserted (lines_of terms d plan)
-planned g terms asserted d n plan printable over right from empty p =
+-- Each line is right after those before it, and so much is assumed.
+pub record AreSo (g : Signature) (asserted : List Term) (assumed : List Clause) (lines : List Line) : Type 0 where
+  pub placed : List Term
+  pub few : length placed ≤ place_limit
+  pub end : Told
+  pub right : AreLinesAfter g asserted (nothing_told placed) lines end
+  pub assumes : end.assumes ≡ assumed
+
+-- the lines of an inference are so
+pub lines_so : (g : Signature) (terms asserted : List Term) (d : Derivation) (n : ℕ) (plan : Plan) → ArePrintable g terms d n → AllConcludeOver terms d → IsDerivation d → IsDerivedFrom asserted d n → (p : IsPlan terms d n plan) → AreSo g asserted (assumes_of p.support d) (lines_of terms d plan)
+lines_so g terms asserted d n plan printable over right from p =
     let marks : List Bool = definition_marks terms p.printed p.heights in
     let q : Plan = record { terms = counted 1 marks; inferences = counted_inferences 1 1 p.support d } in
     let name : Term → Argument = argument_for terms (counted 1 marks) in
@@ -335,14 +349,35 @@ planned g terms asserted d n plan printable over right from empty p =
     let places : List Term = placed_by p.heights terms in
     let defs = definitions g terms asserted d n printable p.printed p.are_printed p.single p.heights p.are_heights [] terms [] marks [] 0 refl (definition_marks_length terms p.printed p.heights p.are_printed.as_many p.are_heights.as_many) refl refl refl refl in
     let infs = inferences g terms asserted d n printable p.printed p.are_printed p.single p.heights p.are_heights over right from p.support p.is_support [] d [] p.support 0 0 refl (omega (arith, p.is_support.up_to, from.there)) refl refl refl refl in
-    let last = behind_lines (definition_lines name terms (counted 1 marks)) _ (ends_empty name refer 1 1 d p.support n p.is_support.up_to from.there (p.is_support.each n (itself n)) empty) in
-    by_numbers g terms asserted d plan q p.definitions p.inferences (record {
+    by_numbers (AreSo g asserted (assumes_of p.support d)) terms d plan q p.definitions p.inferences (record {
       placed = places;
       few = placed_few terms p.single p.heights p.are_heights;
       end = infs.0;
       right = lines_append g asserted (definition_lines name terms (counted 1 marks)) (inference_lines name refer d (counted_inferences 1 1 p.support d)) (nothing_told places) (told_terms places (picked marks terms)) infs.0 defs infs.1;
+      assumes = infs.2;
+    })
+
+-- and the last of them has the empty clause, where the inference has
+lines_end : (terms : List Term) (d : Derivation) (n : ℕ) (plan : Plan) → n < length d → conclusion_at d n ≡ [] → IsPlan terms d n plan → EndsEmpty (lines_of terms d plan)
+lines_end terms d n plan there empty p =
+    let marks : List Bool = definition_marks terms p.printed p.heights in
+    let q : Plan = record { terms = counted 1 marks; inferences = counted_inferences 1 1 p.support d } in
+    let name : Term → Argument = argument_for terms (counted 1 marks) in
+    let refer : ℕ → Reference = reference_for d (counted_inferences 1 1 p.support d) in
+    by_numbers EndsEmpty terms d plan q p.definitions p.inferences
+    (behind_lines (definition_lines name terms (counted 1 marks)) _ (ends_empty name refer 1 1 d p.support n p.is_support.up_to there (p.is_support.each n (itself n)) empty))
+
+pub planned : (g : Signature) (terms asserted : List Term) (d : Derivation) (n : ℕ) (plan : Plan) → ArePrintable g terms d n → AllConcludeOver terms d → IsDerivation d → IsDerivedFrom asserted d n → conclusion_at d n ≡ [] → IsPlan terms d n plan → AreRightLines g asserted (lines_of terms d plan)
+planned g terms asserted d n plan printable over right from empty p =
+    let so = lines_so g terms asserted d n plan printable over right from p in
+    let last = lines_end terms d n plan from.there empty p in
+    record {
+      placed = so.placed;
+      few = so.few;
+      end = so.end;
+      right = so.right;
       earlier = last.earlier;
       step = last.step;
       last = last.last;
       empty = last.empty;
-    })
+    }

@@ -87,6 +87,12 @@ abbrev pub inference_lines : (Term → Argument) → (ℕ → Reference) → Der
 inference_lines name refer (x ∷ xs) (n ∷ ns) = inference_by name refer n x ++ inference_lines name refer xs ns
 inference_lines name refer _ _ = []
 
+-- the terms of the assumptions that have a number, in their order
+abbrev pub terms_planned : Derivation → List (Option ℕ) → List Term
+terms_planned («assumption» t ∷ xs) (Some n ∷ ns) = t ∷ terms_planned xs ns
+terms_planned (x ∷ xs) (n ∷ ns) = terms_planned xs ns
+terms_planned _ _ = []
+
 -- the lines by a plan: the definitions, and then the inferences
 abbrev pub lines_of : List Term → Derivation → Plan → List Line
 lines_of terms d plan =

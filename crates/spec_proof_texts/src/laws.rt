@@ -15,6 +15,7 @@ ghost use Rattle.spec_sorts.specs.Signatures.{Signature, symbols_in};
 ghost use Rattle.spec_commands.specs.Stack.{Stack, Taken, empty_stack, signature_of, terms_asserted, step};
 ghost use Rattle.spec_commands.specs.Checks.{Check, asked, term_limit, IsCurrent};
 ghost use Rattle.spec_checking.specs.Good.{AreGood, IsGood};
+ghost use Rattle.spec_checking.specs.Assumes.{assumed_in};
 ghost use Rattle.spec_checking.specs.Accepted.{IsAccepted};
 ghost use Rattle.spec_proofs.specs.Texts.{IsWholeText};
 ghost use Rattle.spec_derivations.specs.Derivations.{Derivation, conclusion_at, IsDerivation, IsDerivedFrom};
@@ -22,7 +23,7 @@ ghost use Rattle.spec_models.specs.Values.{trees_of, fraction_tree};
 ghost use Rattle.spec_proof_texts.specs.Decimals.{is_decimal};
 ghost use Rattle.spec_proof_texts.specs.Lines.{Line, line_tree, proof_text};
 ghost use Rattle.spec_proof_texts.specs.Meaning.{AreGiven, AreRightLines};
-ghost use Rattle.spec_proof_texts.specs.Plans.{Plan, lines_of, IsPlan};
+ghost use Rattle.spec_proof_texts.specs.Plans.{Plan, terms_planned, lines_of, IsPlan};
 ghost use Rattle.spec_proof_texts.specs.Printable.{IsPrintable, ArePrintable, AllConcludeOver, IsReadable};
 ghost use Rattle.spec_proof_texts.specs.ReadBack.{IsWritableLine, AreScriptNames, HaveScriptNames, known_before};
 
@@ -78,6 +79,15 @@ pub fn right_lines_are_good()
         → 7 * (length (symbols_in g) + 1077158) + length (proof_text lines) ≤ 7 * limit
         → (commands : Trees) × IsWholeText (proof_text lines) commands
         × AreGood (Some limit) (known_before g asserted) commands }
+{}
+
+/// States that the text of a derivation's lines, which can be printed, assumes the terms of the assumptions that have a
+/// number, in their order, and nothing else.
+pub fn printed_proofs_assume_what_is_planned()
+    ensures { (g : Signature) (terms asserted : List Term) (d : Derivation) (n : ℕ) (plan : Plan) → AreScriptNames g
+        → ArePrintable g terms d n → AllConcludeOver terms d → IsDerivation d → IsDerivedFrom asserted d n
+        → IsPlan terms d n plan
+        → assumed_in (known_before g asserted) (proof_text (lines_of terms d plan)) ≡ terms_planned d plan.inferences }
 {}
 
 /// States that the commands of a script leave names that can be printed, up to each level. None is there at first, and a

@@ -6,3 +6,5 @@ pub mod Running
 pub mod Computed
 pub mod Refuted
 pub mod Apart
+mod Cored
+pub mod Suffices

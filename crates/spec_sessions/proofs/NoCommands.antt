@@ -30,7 +30,7 @@ no_verb [] each n w e = cc
 no_verb (x ∷ xs) each n w e = by_first (bytes_eq x.0 n) x xs n w (bytes_eq-Decides x.0 n).0 each.0 (no_verb xs each.1 n w) e
 
 no_verbs : NoVerbs question_words
-no_verbs = (refl, (refl, (refl, (refl, (refl, (refl, tt))))))
+no_verbs = (refl, (refl, (refl, (refl, (refl, (refl, (refl, (refl, tt))))))))
 
 -- a word that is no verb is refused
 refused_as : (limit : ℕ) (s : Stack) (at place : ℕ) (k : Kind) (n : Name) (ts : Trees) (end : ℕ) → verb_named k n ≡ None → step limit s (list at (more (atom place k n) ts) end) ≡ Err (record { offset = place; fault = UnknownCommand })

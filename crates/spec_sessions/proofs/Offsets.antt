@@ -22,8 +22,8 @@ use Rattle.spec_commands.specs.Commands.{shaped}
 use Rattle.spec_commands.specs.Stack.{signature_of}
 use Rattle.spec_sessions.specs.Evidence.{Limits, Found, Checked}
 use Rattle.spec_sessions.specs.States.{State}
-use Rattle.spec_sessions.specs.Questions.{Question, for_model, for_proof, for_assertions, for_values, for_option, for_info, QuestionWord, gets_model, gets_value, gets_proof, gets_assertions, gets_option, gets_info, bare_question, value_question, only_keyword, question_by, question_named, asked_by, question_of}
-use Rattle.spec_sessions.specs.Replies.{model_found, proof_found, reason_found, held, in_mode, value_there, valued, Info, name_info, version_info, authors_info, behavior_info, unknown_info, levels_info, info_named, info_reply, reply_to}
+use Rattle.spec_sessions.specs.Questions.{Question, for_model, for_proof, for_assertions, for_values, for_option, for_info, for_core, for_assumptions, QuestionWord, gets_model, gets_value, gets_proof, gets_assertions, gets_core, gets_assumptions, gets_option, gets_info, bare_question, value_question, only_keyword, question_by, question_named, asked_by, question_of}
+use Rattle.spec_sessions.specs.Replies.{model_found, proof_found, reason_found, core_found, assumptions_found, held, in_mode, of_check, value_there, valued, Info, name_info, version_info, authors_info, behavior_info, unknown_info, levels_info, info_named, info_reply, reply_to}
 use Rattle.spec_sessions.specs.Responses.{answer_to}
 
 module _ (P : ℕ → Type 0) where
@@ -55,6 +55,8 @@ module _ (P : ℕ → Type 0) where
   by_within gets_value ts h = value_within ts h
   by_within gets_proof ts h = bare_within for_proof ts tt
   by_within gets_assertions ts h = bare_within for_assertions ts tt
+  by_within gets_core ts h = bare_within for_core ts tt
+  by_within gets_assumptions ts h = bare_within for_assumptions ts tt
   by_within gets_option ts h = holds_in_turn (λ _. Unit {0}) QuestionWithin (only_keyword ts) _ (any_name (only_keyword ts)) λ k _. tt
   by_within gets_info ts h = holds_in_turn (λ _. Unit {0}) QuestionWithin (only_keyword ts) _ (any_name (only_keyword ts)) λ k _. tt
 
@@ -94,6 +96,10 @@ module _ (P : ℕ → Type 0) where
   mode_within at of None h = h
   mode_within at of (Some c) h = held_within at (of c.found) h
 
+  check_within : {A : Type 0} (at : ℕ) (of : Checked → Option A) (last : Option Checked) → P at → IsFaultWithin P (of_check at of last)
+  check_within at of None h = h
+  check_within at of (Some c) h = held_within at (of c) h
+
   there_within : (at : ℕ) (v : Result Value Overflow) → P at → IsFaultWithin P (value_there at v)
   there_within at (Ok v) h = tt
   there_within at (Err o) h = h
@@ -124,6 +130,12 @@ module _ (P : ℕ → Type 0) where
       within_in_turn P (require s.stack.options.proofs at NotEnabled) _ (require_within P _ at NotEnabled here) λ on. tt
   reply_within limit at s for_assertions here h =
       within_in_turn P (require s.stack.options.assertions at NotEnabled) _ (require_within P _ at NotEnabled here) λ on. tt
+  reply_within limit at s for_core here h =
+      within_in_turn P (of_check at core_found s.answer) _ (check_within at core_found s.answer here) λ names.
+      within_in_turn P (require s.stack.options.unsat_cores at NotEnabled) _ (require_within P _ at NotEnabled here) λ on. tt
+  reply_within limit at s for_assumptions here h =
+      within_in_turn P (of_check at assumptions_found s.answer) _ (check_within at assumptions_found s.answer here) λ literals.
+      within_in_turn P (require s.stack.options.unsat_assumptions at NotEnabled) _ (require_within P _ at NotEnabled here) λ on. tt
   reply_within limit at s (for_values ts) here h =
       within_in_turn P (readings elsewhere (signature_of s.stack) [] ts) _ (terms_within elsewhere (signature_of s.stack) [] ts h) λ rs.
       within_in_turn P (in_mode at model_found s.answer) _ (mode_within at model_found s.answer here) λ i.

@@ -3,6 +3,7 @@ pub mod Refutations
 pub mod Evidence
 pub mod States
 pub mod Questions
+pub mod Cores
 pub mod Replies
 pub mod Responses
 pub mod Transcripts
@@ -10,3 +11,4 @@ pub mod Meaning
 pub mod Statements
 pub mod Examples
 pub mod ModeExamples
+pub mod CoreExamples

@@ -13,6 +13,8 @@ use Rattle.spec_commands.specs.Commands.{shaped}
 pub data Question : Type 0 where
   -- for the model, the proof, and the current assertions
   for_model for_proof for_assertions : Question
+  -- for the unsat core, and for the assumptions that the proof rests on
+  for_core for_assumptions : Question
   -- for the values of terms, by their texts
   for_values : Trees → Question
   -- for the value of an option, and for information on the solver, by their names without the colon
@@ -24,6 +26,8 @@ pub data QuestionWord : Type 0 where
   gets_model gets_value gets_proof : QuestionWord
   -- `get-assertions`, `get-option`, `get-info`
   gets_assertions gets_option gets_info : QuestionWord
+  -- `get-unsat-core`, `get-unsat-assumptions`
+  gets_core gets_assumptions : QuestionWord
 
 -- which word is which
 abbrev pub question_words : List (Name × QuestionWord)
@@ -32,6 +36,8 @@ question_words =
     (codes "get-value", gets_value) ∷
     (codes "get-proof", gets_proof) ∷
     (codes "get-assertions", gets_assertions) ∷
+    (codes "get-unsat-core", gets_core) ∷
+    (codes "get-unsat-assumptions", gets_assumptions) ∷
     (codes "get-option", gets_option) ∷
     (codes "get-info", gets_info) ∷ []
 
@@ -66,6 +72,8 @@ question_by gets_model ts = bare_question for_model ts
 question_by gets_value ts = value_question ts
 question_by gets_proof ts = bare_question for_proof ts
 question_by gets_assertions ts = bare_question for_assertions ts
+question_by gets_core ts = bare_question for_core ts
+question_by gets_assumptions ts = bare_question for_assumptions ts
 question_by gets_option ts = only_keyword ts >>= λ k. Some (for_option k)
 question_by gets_info ts = only_keyword ts >>= λ k. Some (for_info k)
 

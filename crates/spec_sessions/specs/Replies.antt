@@ -17,15 +17,16 @@ use Rattle.spec_sorts.specs.Subterms.{has_room}
 use Rattle.spec_reading.specs.Names.{elsewhere}
 use Rattle.spec_reading.specs.Reading.{readings}
 use Rattle.spec_commands.specs.Stack.{Assertion, Options, Key, success_key, models_key, proofs_key, assertions_key}
-use Rattle.spec_commands.specs.Stack.{global_key}
+use Rattle.spec_commands.specs.Stack.{cores_key, assumptions_key, global_key}
 use Rattle.spec_commands.specs.Stack.{key_named, signature_of, assertions_of, levels_open}
-use Rattle.spec_models.specs.Values.{in_list, value_tree}
+use Rattle.spec_models.specs.Values.{in_list, symbol_tree, value_tree}
 use Rattle.spec_models.specs.Models.{model_text}
 use Rattle.spec_models.specs.Replies.{Reason, conflicts, overflow, reason_info}
 use Rattle.spec_sessions.specs.Evidence.{Found, model, proof, spent, overflowed, Checked}
 use Rattle.spec_sessions.specs.States.{State}
+use Rattle.spec_sessions.specs.Cores.{core_of, assumptions_of}
 use Rattle.spec_sessions.specs.Questions.{Question, for_model, for_proof, for_assertions, for_values, for_option}
-use Rattle.spec_sessions.specs.Questions.{for_info}
+use Rattle.spec_sessions.specs.Questions.{for_core, for_assumptions, for_info}
 
 -- What answers a question.
 pub data Reply : Type 0 where
@@ -50,6 +51,22 @@ reason_found (spent n d learned) = Some (conflicts n)
 reason_found (overflowed o k) = Some (overflow o)
 reason_found _ = None
 
+-- the unsat core, where a proof was found
+abbrev pub core_found : Checked → Option (List Name)
+core_found c = by c.found
+  where
+    by : Found → Option (List Name)
+    by (proof text) = Some (core_of c.check text)
+    by _ = None
+
+-- the assumptions that the proof rests on, where one was found
+abbrev pub assumptions_found : Checked → Option (List Assertion)
+assumptions_found c = by c.found
+  where
+    by : Found → Option (List Assertion)
+    by (proof text) = Some (assumptions_of c.check text)
+    by _ = None
+
 -- what is there, or the fault at the command's start
 abbrev pub held : {A : Type 0} → ℕ → Option A → Answer A
 held at None = refused at WrongMode
@@ -60,11 +77,20 @@ abbrev pub in_mode : {A : Type 0} → ℕ → (Found → Option A) → Option Ch
 in_mode at of None = refused at WrongMode
 in_mode at of (Some c) = held at (of c.found)
 
+-- what of the last check there is, in whose mode the session is, or the fault at the command's start
+abbrev pub of_check : {A : Type 0} → ℕ → (Checked → Option A) → Option Checked → Answer A
+of_check at of None = refused at WrongMode
+of_check at of (Some c) = held at (of c)
+
 -- a tree on a line
 abbrev pub tree_line : Tree → List ℕ
 tree_line t = printed t ++ 10 ∷ []
 
--- the current assertions as they are written
+-- names, each as a symbol
+abbrev pub names_line : List Name → List ℕ
+names_line names = tree_line (in_list (map symbol_tree names))
+
+-- assertions, or assumptions, as they are written
 abbrev pub assertions_line : List Assertion → List ℕ
 assertions_line assertions = tree_line (in_list (map (λ (a : Assertion). a.text) assertions))
 
@@ -87,6 +113,8 @@ option_value success_key o = o.print_success
 option_value models_key o = o.models
 option_value proofs_key o = o.proofs
 option_value assertions_key o = o.assertions
+option_value cores_key o = o.unsat_cores
+option_value assumptions_key o = o.unsat_assumptions
 option_value global_key o = o.global_declarations
 
 -- its line
@@ -142,6 +170,14 @@ reply_to limit at s for_proof =
 reply_to limit at s for_assertions =
     require s.stack.options.assertions at NotEnabled >>= λ on.
     Ok (says (assertions_line (assertions_of s.stack)))
+reply_to limit at s for_core =
+    of_check at core_found s.answer >>= λ names.
+    require s.stack.options.unsat_cores at NotEnabled >>= λ on.
+    Ok (says (names_line names))
+reply_to limit at s for_assumptions =
+    of_check at assumptions_found s.answer >>= λ literals.
+    require s.stack.options.unsat_assumptions at NotEnabled >>= λ on.
+    Ok (says (assertions_line literals))
 reply_to limit at s (for_values ts) =
     readings elsewhere (signature_of s.stack) [] ts >>= λ rs.
     in_mode at model_found s.answer >>= λ i.

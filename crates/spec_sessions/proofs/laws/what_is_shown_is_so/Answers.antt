@@ -1,7 +1,7 @@
 -- That what is shown is so.
-use Rattle.std.proofs.Common.{◌≡◌, ℕ, List, [], ◌++◌, All, None, get_or, refl, sym, ap, ◌∙◌, subst}
-use Rattle.std.proofs.lemmas.List.Elements.{All-nil, All-map, Contains-get_or}
-use Rattle.spec_sorts.specs.Values.{is_true, Interpretation}
+use Rattle.std.proofs.Common.{◌≡◌, ℕ, List, [], ◌++◌, All, Contains, None, get_or, refl, sym, ap, ◌∙◌, subst}
+use Rattle.std.proofs.lemmas.List.Elements.{All-nil, All-map, All-contains, All-contains_itself, All-weaker, Contains-get_or}
+use Rattle.spec_sorts.specs.Values.{is_true, Interpretation, Interprets}
 use Rattle.spec_sorts.specs.WellSorted.{IsFormulaOver}
 use Rattle.spec_sorts.specs.TermValues.{value_at}
 use Rattle.spec_sorts.specs.Signatures.{Signature, symbols_in}
@@ -9,11 +9,10 @@ use Rattle.spec_sorts.specs.Meaning.{value_under}
 use Rattle.spec_reading.specs.WellSorted.{AreWellSorted}
 use Rattle.spec_text.specs.Readings.{is_long}
 use Rattle.spec_commands.specs.Stack.{Assertion, terms_asserted, signature_of}
-use Rattle.spec_commands.specs.Checks.{Check, asked, IsCurrent, MakesTrue}
+use Rattle.spec_commands.specs.Checks.{Check, asked, IsTrueAssertion, IsCurrent, MakesTrue}
 use Rattle.spec_commands.proofs.Carried.{Property, here}
 use Rattle.spec_commands.proofs.Asked.{asked_sound}
 use Rattle.spec_commands.proofs.Kept.{sound_here, sound_values, sound_formulas}
-use Rattle.spec_checking.specs.Commands.{known_at}
 use Rattle.spec_checking.specs.Good.{IsGood}
 use Rattle.spec_checking.proofs.Good.{no_fault}
 use Rattle.spec_checking.proofs.Sound.{sound, EntryTrue, TermTrue, IsTruly}
@@ -22,12 +21,15 @@ use Rattle.spec_proofs.specs.Texts.{IsWholeText}
 use Rattle.spec_models.specs.declared.ResponseWord.TheVariants.{Unsat}
 use Rattle.spec_models.specs.Replies.{word_line}
 use Rattle.spec_models.specs.Meaning.{IsSymbolIn}
+use Rattle.spec_derivations.specs.Derivations.{IsDerivedFrom}
 use Rattle.spec_proof_texts.specs.Lines.{proof_text}
 use Rattle.spec_proof_texts.specs.Meaning.{AreRightLines}
-use Rattle.spec_proof_texts.specs.ReadBack.{AreScriptNames}
+use Rattle.spec_proof_texts.specs.ReadBack.{AreScriptNames, known_before}
 use Rattle.spec_sessions.specs.Evidence.{Limits, Found, model, proof, spent, overflowed, IsModelOf, Justifies}
 use Rattle.spec_sessions.specs.Refutations.{IsProofOf, lines_in}
-use Rattle.spec_sessions.specs.Meaning.{ModelMeans, RefutationMeans, MeansAt, ProofMeans, FindingMeans}
+use Rattle.spec_sessions.specs.Cores.{asked_by_core, asked_by_assumptions}
+use Rattle.spec_sessions.specs.Meaning.{ModelMeans, IsRefutedBy, CoreMeans, RefutationMeans, MeansAt, ProofMeans, FindingMeans, CoresMean}
+use Rattle.spec_sessions.proofs.Suffices.{core_suffices, assumptions_suffice, core_is_asked, assumptions_are_asked}
 use Rattle.spec_sessions.proofs.laws.what_is_shown_is_so.Goals as goal
 
 -- the text of each expression has its term's value
@@ -51,25 +53,60 @@ module _ (c : goal.After-printed_proofs_are_accepted) where
     abbrev g : Signature
     g = signature_of x.stack
 
+    -- the lines are a proof from what it is derived from
+    right_from : (p : List ℕ) (h : IsProofOf x p) (some : List Assertion) → IsDerivedFrom (terms_asserted some) h.derivation h.number → AreRightLines g (terms_asserted some) (lines_in x p h)
+    right_from p h some derived =
+        c.planned_lines_are_right.ensures g h.terms (terms_asserted some) h.derivation h.number h.plan h.printable h.over h.right derived h.empty h.planned
+
     right : (p : List ℕ) (h : IsProofOf x p) → AreRightLines g (terms_asserted (asked x)) (lines_in x p h)
-    right p h =
-        c.planned_lines_are_right.ensures g h.terms (terms_asserted (asked x)) h.derivation h.number h.plan h.printable h.over h.right h.derived h.empty h.planned
+    right p h = right_from p h (asked x) h.derived
+
+    -- the value of each text, of some that are asked about
+    values_of : (some : List Assertion) → ((a : Assertion) → Contains some a → Contains (asked x) a) → (i : Interpretation) → All (λ (a : Assertion). value_under i g a.text ≡ value_at i [] a.term) some
+    values_of some within i = All-weaker (Contains some) (λ (a : Assertion). value_under i g a.text ≡ value_at i [] a.term)
+        (λ a k. All-contains (λ (a : Assertion). value_under i g a.text ≡ value_at i [] a.term) (asked x) a (values i) (within a k)) some (All-contains_itself some)
+
+    refuted : (p : List ℕ) (h : IsProofOf x p) (some : List Assertion) → ((a : Assertion) → Contains some a → Contains (asked x) a) → IsDerivedFrom (terms_asserted some) h.derivation h.number → IsRefutedBy x p some
+    refuted p h some within derived =
+        let read = c.right_lines_are_good.ensures.commands g (terms_asserted some) (lines_in x p h) names (right_from p h some derived) in
+        record {
+          no_model = λ i tables each.
+              let all : IsTruly i (known_before g (terms_asserted some)) = record {
+                names = sorts;
+                interprets = tables;
+                entries = All-nil (EntryTrue i);
+                asserted = All-map (TermTrue i) (λ (a : Assertion). a.term) some (λ n d lt. ap is_true (sym (values_of some within i n d lt) ∙ each n d lt));
+              } in
+              sound i (λ symbols rule premises arguments clause. c.rules_are_sound.ensures symbols rule premises arguments clause i) None (known_before g (terms_asserted some)) 0 read.0 all (no_fault None 0 (known_before g (terms_asserted some)) read.0 read.2);
+          commands = read.0;
+          read = subst (λ q. IsWholeText q read.0) (sym h.written) read.1;
+          good = read.2;
+        }
+
+    -- so is all that is asked
+    all_refuted : (p : List ℕ) → IsProofOf x p → IsRefutedBy x p (asked x)
+    all_refuted p h = refuted p h (asked x) (λ a k. k) h.derived
+
+    -- and what the core, and the assumptions, leave of it
+    cores_at : (p : List ℕ) → IsProofOf x p → CoreMeans x p
+    cores_at p h = record {
+      core = refuted p h (asked_by_core x p) (core_is_asked x p) (core_suffices x names p h);
+      assumptions = refuted p h (asked_by_assumptions x p) (assumptions_are_asked x p) (assumptions_suffice x names p h);
+    }
 
     proof_at : (p : List ℕ) → IsProofOf x p → (i : Interpretation) → IsModelOf x i → ⊥
-    proof_at p h i m =
-        let read = c.right_lines_are_good.ensures.commands g (terms_asserted (asked x)) (lines_in x p h) names (right p h) in
-        let all : IsTruly i (known_at x) = record {
-          names = sorts;
-          interprets = m.interprets;
-          entries = All-nil (EntryTrue i);
-          asserted = All-map (TermTrue i) (λ (a : Assertion). a.term) (asked x) (λ n d lt. ap is_true (sym (values i n d lt) ∙ m.each n d lt));
-        } in
-        sound i (λ symbols rule premises arguments clause. c.rules_are_sound.ensures symbols rule premises arguments clause i) None (known_at x) 0 read.0 all (no_fault None 0 (known_at x) read.0 read.2)
+    proof_at p h i m = (all_refuted p h).no_model i m.interprets m.each
 
     good_at : (p : List ℕ) → IsProofOf x p → RefutationMeans x p
     good_at p h =
-        let read = c.right_lines_are_good.ensures.commands g (terms_asserted (asked x)) (lines_in x p h) names (right p h) in
-        record { no_model = proof_at p h; commands = read.0; read = subst (λ q. IsWholeText q read.0) (sym h.written) read.1; good = read.2 }
+        let r = all_refuted p h in
+        record { no_model = proof_at p h; commands = r.commands; read = r.read; good = r.good; cores = cores_at p h }
+
+    cores_mean : (limits : Limits) (f : Found) → Justifies limits x f → CoresMean x f
+    cores_mean limits (model i) h = tt
+    cores_mean limits (proof p) h = cores_at p h
+    cores_mean limits (spent n d learned) h = tt
+    cores_mean limits (overflowed o kept) h = tt
 
     model_at : (i : Interpretation) → IsModelOf x i → ModelMeans (IsModelOf x) g i
     model_at i m =
@@ -151,4 +188,5 @@ returns-clause-text c = λ limits text k x current shown.
       current = current;
       shown = shown;
       means = means_so c x.check (asked_so.value limits.terms text k x.check current) (asked_so.formula limits.terms text k x.check current) kept.sorts names limits.terms text k current limits refl x.found shown;
+      cores = cores_mean c x.check (asked_so.value limits.terms text k x.check current) (asked_so.formula limits.terms text k x.check current) kept.sorts names limits x.found shown;
     }
