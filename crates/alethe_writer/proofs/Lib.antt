@@ -13,3 +13,4 @@ mod WellSorted
 mod Decimals
 mod Counts
 mod Heights
+mod Assuming

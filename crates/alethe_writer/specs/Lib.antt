@@ -4,3 +4,4 @@ pub mod Counting
 pub mod Digits
 pub mod Printing
 pub mod Uses
+pub mod Assumes

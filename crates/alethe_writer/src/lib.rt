@@ -2,6 +2,7 @@
 #![tactic(auto)]
 
 mod arguments;
+mod assumes;
 mod counter;
 mod lines;
 mod marks;
@@ -11,5 +12,6 @@ pub mod printable;
 mod proof;
 mod uses;
 
+pub use assumes::assumed_of;
 pub use plans::{Plan, prepare};
 pub use proof::send;

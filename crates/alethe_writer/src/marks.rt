@@ -109,7 +109,13 @@ fn mark_clauses(log: &ProofLog, table: &TermTable, support: &[bool], marks: &mut
 }
 
 /// Marks the terms of a clause, where they are wanted.
-fn mark_clause(log: &ProofLog, table: &TermTable, id: StepId, wanted: bool, marks: &mut [bool])
+pub(crate) fn mark_clause(
+    log: &ProofLog,
+    table: &TermTable,
+    id: StepId,
+    wanted: bool,
+    marks: &mut [bool],
+)
     requires there { id.0 < length log.now }
     requires log { IsLogOf table.now log.now }
     requires as_many { length marks.old ≡ length table.now.terms }

@@ -2,7 +2,7 @@
 use Rattle.std.proofs.Common.{◌≡◌, ℕ, ◌-◌, ◌≤◌, ◌<◌, Bool, List, [], ◌++◌, length, take, replicate, refl, sym, ap, ◌∙◌, subst, ⊎_elim, inl, inr, ◌⊎◌, true, false, not, All, arith, length-append}
 use Rattle.std.proofs.lemmas.Bool.{cases_lt}
 use Rattle.std.proofs.lemmas.List.{append-nil, take-append-le, take_all, take-take, length-take-le, length-replicate, length-map, get_or-take, get_or_append_left, get_or-append_right, get_or-replicate}
-use Rattle.spec_commands.specs.Stack.{Assertion, Stack, Options, Key, success_key, models_key, proofs_key, assertions_key, global_key, signature_of, assertions_of, levels_open, begun, with_levels, up_to_level, with_option, may_set}
+use Rattle.spec_commands.specs.Stack.{Assertion, Stack, Options, Key, success_key, models_key, proofs_key, assertions_key, cores_key, assumptions_key, global_key, signature_of, assertions_of, levels_open, begun, with_levels, up_to_level, with_option, may_set}
 use Rattle.spec_commands.specs.Kept.{AreLeveled}
 use Rattle.spec_commands.proofs.Levels.{up_to_twice, up_to_pushed, same_up_to_pushed, open_up_to, open_pushed, leveled_pushed, leveled_up_to, leveled_begun, leveled_option, not_true}
 use Rattle.term_core.specs.declared.ids.TermId.{TermId}
@@ -208,6 +208,8 @@ module _ (marks : List Mark) (c : Contents) (s : Stack) (h : AreMarked marks c s
       local models_key e off = inl off
       local proofs_key e off = inl off
       local assertions_key e off = inl off
+      local cores_key e off = inl off
+      local assumptions_key e off = inl off
       local global_key e off = inr (none e)
 
   -- levels that are closed, where so much stays

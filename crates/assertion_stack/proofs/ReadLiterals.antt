@@ -8,6 +8,7 @@ use Rattle.spec_text.specs.declared.Fault.TheVariants.{Full, NotLiteral}
 use Rattle.spec_text.specs.Bytes.{Name}
 use Rattle.spec_text.specs.Shapes.{Word}
 use Rattle.spec_text.specs.Answers.{Answer, ◌>>=◌, refused, require}
+use Rattle.spec_text.specs.Printed.{printed}
 use Rattle.spec_text.specs.Trees.{Tree, Trees, none, more, offset_of}
 use Rattle.spec_text.proofs.AnswerLaws.{answer, went}
 use Rattle.spec_sorts.specs.Terms.{Sort, Truth, Symbol, Term, same_sort}
@@ -33,7 +34,7 @@ use Rattle.term_reader.specs.declared.faults.ReadError.TheVariants as errors
 use Rattle.term_reader.specs.Building.{KeepsTable, MeansTerm}
 use Rattle.term_reader.specs.Scopes.{FunctionMeans}
 use Rattle.sort_check.specs.Reads.{Room, within, roomy_reading, Store, EndsTerm, HasFault}
-use Rattle.assertion_stack.specs.Assertions.{offsets_of, tree_offsets}
+use Rattle.assertion_stack.specs.Assertions.{offsets_of, tree_offsets, texts_printed, tree_texts}
 use Rattle.assertion_stack.specs.Stacks.{AreAssumed}
 use Rattle.assertion_stack.specs.Views.{Fails}
 use Rattle.assertion_stack.specs.Literals.{EndsLiteral, roomy_literals}
@@ -153,7 +154,7 @@ pub record AreFirst (t : TableView) (s : Signature) (all rest : Trees) (ids : Li
   pub gives : with_front before (literals_in s rest) ≡ literals_in s all
 
 -- the terms of literals are there still
-assumed_kept : (old new : TableView) (ids : List TermId) (ls : List Assertion) → KeepsTable old new → AreAssumed old ids ls → AreAssumed new ids ls
+pub assumed_kept : (old new : TableView) (ids : List TermId) (ls : List Assertion) → KeepsTable old new → AreAssumed old ids ls → AreAssumed new ids ls
 assumed_kept old new ids ls k h = record { inside = AreIn-kept old new k.extends ids h.inside; terms = clause_at-kept old new k.extends ids h.inside ∙ h.terms }
 
 -- and one more
@@ -259,3 +260,18 @@ roomy_begin room s ts ls e =
     let a = went (literals_in s ts) _ ls e in
     let b = went (within room s (terms_asserted a.first)) _ ls a.then in
     literals_begin s ts ls (a.was ∙ ap Ok (answer (Ok a.first) ls b.then))
+
+-- how literals that are read are printed
+literals_printed : (s : Signature) (ts : Trees) (ls : List Assertion) → literals_in s ts ≡ Ok ls → tree_texts ts ≡ texts_printed ls
+unfolding literals_in
+literals_printed s none ls e = ap texts_printed (answer (Ok []) ls e)
+literals_printed s (more t ts) ls e =
+    let a = went (literal_in s t) _ ls e in
+    let b = went (literals_in s ts) _ ls a.then in
+    ap (λ ns. printed t ∷ ns) (literals_printed s ts b.first b.was) ∙ ap texts_printed (answer (Ok (record { text = t; term = a.first } ∷ b.first)) ls b.then)
+
+pub roomy_printed : (room : Room) (s : Signature) (ts : Trees) (ls : List Assertion) → roomy_literals room s ts ≡ Ok ls → tree_texts ts ≡ texts_printed ls
+roomy_printed room s ts ls e =
+    let a = went (literals_in s ts) _ ls e in
+    let b = went (within room s (terms_asserted a.first)) _ ls a.then in
+    literals_printed s ts ls (a.was ∙ ap Ok (answer (Ok a.first) ls b.then))

@@ -74,6 +74,15 @@ abbrev pub tree_offsets : Trees → List ℕ
 tree_offsets none = []
 tree_offsets (more t ts) = offset_of t ∷ tree_offsets ts
 
+-- how expressions are printed
+abbrev pub texts_printed : List Assertion → List (List ℕ)
+texts_printed assertions = map (λ (a : Assertion). printed a.text) assertions
+
+-- and how trees are
+abbrev pub tree_texts : Trees → List (List ℕ)
+tree_texts none = []
+tree_texts (more t ts) = printed t ∷ tree_texts ts
+
 -- how assertions are written, in their order
 abbrev pub all_written : List Assertion → List Written
 all_written assertions = map (λ (a : Assertion). as_written a.text) assertions

@@ -20,7 +20,7 @@ use Rattle.assertion_stack.specs.declared.options.Options.{Options as CodeOption
 use Rattle.assertion_stack.specs.declared.stack.Stack.{Stack as CodeStack}
 use Rattle.assertion_stack.specs.declared.stack.Effect.{Effect as CodeEffect}
 use Rattle.assertion_stack.specs.declared.stack.Effect.TheVariants as effects
-use Rattle.assertion_stack.specs.Assertions.{Written, offsets_of}
+use Rattle.assertion_stack.specs.Assertions.{Written, offsets_of, texts_printed}
 use Rattle.assertion_stack.specs.Views.{Fails}
 use Rattle.assertion_stack.specs.declared.marks.Mark.{Mark}
 use Rattle.assertion_stack.specs.Levels.{Contents, States, mark_at, closing_mark, cut_to, AreMarked}
@@ -32,6 +32,8 @@ options_meant o = record {
   models = o.models;
   proofs = o.proofs;
   assertions = o.assertions;
+  unsat_cores = o.unsat_cores;
+  unsat_assumptions = o.unsat_assumptions;
   global_declarations = o.global_declarations;
 }
 
@@ -48,7 +50,7 @@ EffectMeans t effects.Done f = done ≡ f
 EffectMeans t effects.Unsupported f = unsupported ≡ f
 EffectMeans t (effects.Check at a) f =
     (assumptions : List Assertion) × (check at assumptions ≡ f) × AreAssumed t a.ids.items assumptions
-    × (a.offsets.items ≡ offsets_of assumptions)
+    × (a.offsets.items ≡ offsets_of assumptions) × (a.texts ≡ texts_printed assumptions)
 EffectMeans t (effects.Say text) f = say text.now ≡ f
 EffectMeans t effects.Exit f = leave ≡ f
 

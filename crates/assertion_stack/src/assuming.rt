@@ -8,12 +8,13 @@ ghost use Rattle.smt_sexpr.specs.Items.{trees_meant};
 ghost use Rattle.term_reader.specs.Building.{KeepsTable};
 ghost use Rattle.term_reader.specs.Scopes.{HasSignature, ScopeMeans};
 ghost use Rattle.sort_check.specs.Reads.{room_meant};
-ghost use Rattle.assertion_stack.specs.Assertions.{tree_offsets};
+ghost use Rattle.assertion_stack.specs.Assertions.{tree_offsets, tree_texts};
 ghost use Rattle.assertion_stack.specs.Stacks.{over_table, HasStack, IsStack, Performs, KeepsAtCheck};
 ghost use Rattle.assertion_stack.specs.Literals.{EndsLiterals, roomy_literals};
 
 use crate::asserting::room;
 use crate::literals::literals;
+use crate::rows::Rows;
 use crate::stack::{Effect, Stack};
 use no_memory::NoMemory;
 use smt_sexpr::{Trees, offset, split};
@@ -31,16 +32,19 @@ pub struct Assumed {
     pub ids: Vec<TermId>,
     /// The offset of the first byte of each in the script, in bytes.
     pub offsets: Vec<u64>,
+    /// How each is written, as `print` prints it.
+    pub texts: Rows,
 }
 
 impl Assumed {
     /// Makes what a check assumes that assumes nothing. It takes no memory.
     pub fn nothing(alloc: Global) -> Assumed
-        ensures { (result.ids.items ≡ []) × (result.offsets.items ≡ []) }
+        ensures { (result.ids.items ≡ []) × (result.offsets.items ≡ []) × (result.texts ≡ []) }
     {
         Assumed {
             ids: Vec::new(alloc),
             offsets: Vec::new(alloc),
+            texts: Rows::new(alloc),
         }
     }
 }
@@ -56,6 +60,29 @@ fn offsets_of(alloc: Global, trees: Trees<'_>) -> Result<Vec<u64>, NoMemory>
         rest = after;
     }
     Ok(offsets)
+}
+
+/// Prints trees, each as a row.
+fn texts_of(alloc: Global, trees: Trees<'_>) -> Result<Rows, NoMemory>
+    ensures { IfOk result (λ rows. rows ≡ tree_texts (trees_meant trees.entry)) }
+{
+    let mut texts = Rows::new(alloc);
+    let mut rest = trees;
+    'trees: while let Some((first, after)) = split(rest) {
+        texts.add_printed(alloc, first)?;
+        rest = after;
+    }
+    Ok(texts)
+}
+
+/// Lists where trees begin, and prints them.
+fn written_of(alloc: Global, trees: Trees<'_>) -> Result<(Vec<u64>, Rows), NoMemory>
+    ensures { IfOk result (λ x. (x.0.items ≡ tree_offsets (trees_meant trees.entry))
+        × (x.1 ≡ tree_texts (trees_meant trees.entry))) }
+{
+    let offsets = offsets_of(alloc, trees)?;
+    let texts = texts_of(alloc, trees)?;
+    Ok((offsets, texts))
 }
 
 /// Reads trees as literals, where there is room for their terms. After a fault the table may have some of them.
@@ -108,7 +135,7 @@ impl Stack {
         ensures check { KeepsAtCheck result (over_table table.old self.old) (over_table table.new self.new) }
         ensures same { OnErr result ((self.new ≡ self.old) × (table.new ≡ table.old)) }
     {
-        let Ok(offsets) = offsets_of(alloc, literals) else {
+        let Ok((offsets, texts)) = written_of(alloc, literals) else {
             return Err(ReadError::Memory);
         };
         let room = room(self, at);
@@ -116,7 +143,14 @@ impl Stack {
         match assume(alloc, table, &mut self.scope, room, literals) {
             Ok(ids) => {
                 self.started = true;
-                Ok(Effect::Check(place, Assumed { ids, offsets }))
+                Ok(Effect::Check(
+                    place,
+                    Assumed {
+                        ids,
+                        offsets,
+                        texts,
+                    },
+                ))
             }
             Err(stop) => {
                 table.cut(terms);

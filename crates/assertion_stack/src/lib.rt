@@ -29,4 +29,5 @@ pub use leveling::LEVEL_LIMIT;
 pub use marks::{Mark, Marks};
 pub use options::Options;
 pub use printing::print;
+pub use rows::Rows;
 pub use stack::{Effect, Stack, TERM_LIMIT};

@@ -20,6 +20,10 @@ pub struct Options {
     pub proofs: bool,
     /// `:produce-assertions`.
     pub assertions: bool,
+    /// `:produce-unsat-cores`.
+    pub unsat_cores: bool,
+    /// `:produce-unsat-assumptions`.
+    pub unsat_assumptions: bool,
     /// `:global-declarations`: whether what is declared and defined belongs to no level.
     pub global_declarations: bool,
 }
@@ -34,6 +38,8 @@ impl Options {
             models: false,
             proofs: false,
             assertions: false,
+            unsat_cores: false,
+            unsat_assumptions: false,
             global_declarations: false,
         }
     }
@@ -48,6 +54,8 @@ impl Options {
             OptionKey::ProduceModels => options.models = value,
             OptionKey::ProduceProofs => options.proofs = value,
             OptionKey::ProduceAssertions => options.assertions = value,
+            OptionKey::ProduceUnsatCores => options.unsat_cores = value,
+            OptionKey::ProduceUnsatAssumptions => options.unsat_assumptions = value,
             OptionKey::GlobalDeclarations => options.global_declarations = value,
         }
         options

@@ -64,6 +64,13 @@ impl Rows {
         }
     }
 
+    /// Counts the rows.
+    pub fn len(&self) -> usize
+        ensures { result ≡ length self.now }
+    {
+        self.ends.len()
+    }
+
     /// Lends a row by its place, from 0.
     pub fn row(&self, place: usize) -> &[u8]
         requires { place < length self.now }

@@ -1,7 +1,8 @@
 -- What the names of logics and options mean, in the words of the definitions.
 use Rattle.std.specs.Prelude.{◌≡◌, true, false, Option, Some, None, codes}
 use Rattle.spec_text.specs.Bytes.{Name, among}
-use Rattle.spec_commands.specs.Stack.{logics, Key, success_key, models_key, proofs_key, assertions_key, global_key}
+use Rattle.spec_commands.specs.Stack.{logics, Key, success_key, models_key, proofs_key, assertions_key, cores_key}
+use Rattle.spec_commands.specs.Stack.{assumptions_key, global_key}
 use Rattle.smt_command.specs.declared.settings.Logic.{Logic}
 use Rattle.smt_command.specs.declared.settings.Logic.TheVariants as code
 use Rattle.smt_command.specs.declared.settings.OptionKey.{OptionKey}
@@ -26,4 +27,6 @@ key_meant keys.PrintSuccess = success_key
 key_meant keys.ProduceModels = models_key
 key_meant keys.ProduceProofs = proofs_key
 key_meant keys.ProduceAssertions = assertions_key
+key_meant keys.ProduceUnsatCores = cores_key
+key_meant keys.ProduceUnsatAssumptions = assumptions_key
 key_meant keys.GlobalDeclarations = global_key

@@ -58,6 +58,10 @@ pub enum OptionKey {
     ProduceProofs,
     /// `:produce-assertions`.
     ProduceAssertions,
+    /// `:produce-unsat-cores`.
+    ProduceUnsatCores,
+    /// `:produce-unsat-assumptions`.
+    ProduceUnsatAssumptions,
     /// `:global-declarations`.
     GlobalDeclarations,
 }
@@ -78,6 +82,12 @@ impl OptionKey {
         }
         if same_bytes(name, b"produce-assertions") {
             return Some(OptionKey::ProduceAssertions);
+        }
+        if same_bytes(name, b"produce-unsat-cores") {
+            return Some(OptionKey::ProduceUnsatCores);
+        }
+        if same_bytes(name, b"produce-unsat-assumptions") {
+            return Some(OptionKey::ProduceUnsatAssumptions);
         }
         if same_bytes(name, b"global-declarations") {
             return Some(OptionKey::GlobalDeclarations);

@@ -4,8 +4,9 @@ use Rattle.spec_text.specs.Places.{IsPlaceOf}
 use Rattle.spec_text.specs.Trees.{Tree}
 use Rattle.spec_text.specs.Shapes.{◌>>=◌, first_word, inside_of}
 use Rattle.spec_sessions.specs.Questions.{Question, for_model, for_proof, for_assertions, for_values, for_option}
-use Rattle.spec_sessions.specs.Questions.{for_info, QuestionWord, gets_model, gets_value, gets_proof, gets_assertions}
-use Rattle.spec_sessions.specs.Questions.{gets_option, gets_info, question_named, question_by, question_of}
+use Rattle.spec_sessions.specs.Questions.{for_info, for_core, for_assumptions, QuestionWord, gets_model, gets_value}
+use Rattle.spec_sessions.specs.Questions.{gets_proof, gets_assertions, gets_core, gets_assumptions, gets_option}
+use Rattle.spec_sessions.specs.Questions.{gets_info, question_named, question_by, question_of}
 use Rattle.smt_lexer.specs.declared.Refusal.{Refusal}
 use Rattle.smt_sexpr.specs.declared.sexpr.Sexpr.{Sexpr}
 use Rattle.smt_sexpr.specs.Items.{trees_meant, tree_of, text_of}
@@ -19,6 +20,8 @@ abbrev pub question_view : CodeQuestion → Question
 question_view code.Model = for_model
 question_view code.Proof = for_proof
 question_view code.Assertions = for_assertions
+question_view code.UnsatCore = for_core
+question_view code.UnsatAssumptions = for_assumptions
 question_view (code.Values terms) = for_values (trees_meant terms)
 question_view (code.Option name) = for_option name.now
 question_view (code.Info name) = for_info name.now
@@ -29,6 +32,8 @@ word_meant words.Model = gets_model
 word_meant words.Value = gets_value
 word_meant words.Proof = gets_proof
 word_meant words.Assertions = gets_assertions
+word_meant words.UnsatCore = gets_core
+word_meant words.UnsatAssumptions = gets_assumptions
 word_meant words.Option = gets_option
 word_meant words.Info = gets_info
 

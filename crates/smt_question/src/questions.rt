@@ -18,6 +18,10 @@ pub enum Question<'a> {
     Proof,
     /// For the current assertions: `get-assertions`.
     Assertions,
+    /// For the unsat core of the last check: `get-unsat-core`.
+    UnsatCore,
+    /// For the assumptions of the last check that its proof rests on: `get-unsat-assumptions`.
+    UnsatAssumptions,
     /// For the values of terms, one or more, in the model of the last check: `get-value`.
     Values(Trees<'a>),
     /// For the value of an option, by its name without its colon: `get-option`. It may be none that is known.
@@ -37,6 +41,10 @@ pub(crate) enum QuestionWord {
     Proof,
     /// `get-assertions`.
     Assertions,
+    /// `get-unsat-core`.
+    UnsatCore,
+    /// `get-unsat-assumptions`.
+    UnsatAssumptions,
     /// `get-option`.
     Option,
     /// `get-info`.
@@ -58,6 +66,12 @@ fn word_among(name: &[u8]) -> Option<QuestionWord>
     }
     if same_bytes(b"get-assertions", name) {
         return Some(QuestionWord::Assertions);
+    }
+    if same_bytes(b"get-unsat-core", name) {
+        return Some(QuestionWord::UnsatCore);
+    }
+    if same_bytes(b"get-unsat-assumptions", name) {
+        return Some(QuestionWord::UnsatAssumptions);
     }
     if same_bytes(b"get-option", name) {
         return Some(QuestionWord::Option);

@@ -57,6 +57,8 @@ pub(crate) fn question_by(word: QuestionWord, trees: Trees<'_>) -> Option<Questi
         QuestionWord::Value => value_question(trees),
         QuestionWord::Proof => bare_question(Question::Proof, trees),
         QuestionWord::Assertions => bare_question(Question::Assertions, trees),
+        QuestionWord::UnsatCore => bare_question(Question::UnsatCore, trees),
+        QuestionWord::UnsatAssumptions => bare_question(Question::UnsatAssumptions, trees),
         QuestionWord::Option => {
             let name = only_keyword(trees)?;
             Some(Question::Option(name))

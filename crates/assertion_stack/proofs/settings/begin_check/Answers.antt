@@ -10,4 +10,4 @@ use Rattle.assertion_stack.proofs.settings.begin_check.Goals as goal
 pub returns-clause-performs : goal.returns-clause-performs
 returns-clause-performs c limit at t s h =
     let none : AreAssumed t [] [] = record { inside = All-nil (IsIn t); terms = refl } in
-    (record { effect = check c.args.place []; stack = begun s }, refl, ([], refl, subst (λ ids. AreAssumed t ids []) (sym c.nothing.ensures.0) none, c.nothing.ensures.1), begun_stack limit t c.args.stack.now s h)
+    (record { effect = check c.args.place []; stack = begun s }, refl, ([], refl, subst (λ ids. AreAssumed t ids []) (sym c.nothing.ensures.0) none, c.nothing.ensures.1, c.nothing.ensures.2), begun_stack limit t c.args.stack.now s h)

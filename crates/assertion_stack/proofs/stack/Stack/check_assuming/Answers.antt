@@ -7,7 +7,7 @@ use Rattle.sort_check.specs.Reads.{room_meant}
 use Rattle.assertion_stack.specs.Stacks.{over_table, IsStack}
 use Rattle.assertion_stack.proofs.Back.{table_back}
 use Rattle.assertion_stack.proofs.Stacks.{stack_grown, begun_stack}
-use Rattle.assertion_stack.proofs.ReadLiterals.{check_fails, check_done, roomy_begin}
+use Rattle.assertion_stack.proofs.ReadLiterals.{check_fails, check_done, roomy_begin, roomy_printed}
 use Rattle.assertion_stack.proofs.stack.Stack.check_assuming.Goals as goal
 
 pub assume-requires : goal.assume-requires
@@ -22,7 +22,13 @@ returns-in-Ok-assume-clause-performs c limit s h =
     let next = begun_stack limit t x s (stack_grown limit c.args.table.now t x s h c.in-Ok-assume.ensures.keeps) in (
       record { effect = check c.args.place r.0; stack = begun s },
       check_done limit c.args.at c.args.place s (trees_meant c.args.literals) (room_meant c.room-room.result) room r.0 r.1,
-      (r.0, refl, r.2, c.in-Ok.ensures ∙ roomy_begin (room_meant c.room-room.result) (signature_of s) (trees_meant c.args.literals) r.0 r.1),
+      (
+        r.0,
+        refl,
+        r.2,
+        c.in-Ok.ensures.0 ∙ roomy_begin (room_meant c.room-room.result) (signature_of s) (trees_meant c.args.literals) r.0 r.1,
+        c.in-Ok.ensures.1 ∙ roomy_printed (room_meant c.room-room.result) (signature_of s) (trees_meant c.args.literals) r.0 r.1,
+      ),
       subst (λ (v : ScopeView). IsStack limit (over_table t (record x { scope = v; started = true })) (begun s)) (sym c.in-Ok-assume.ensures.same) next,
     )
 
