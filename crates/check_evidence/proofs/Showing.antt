@@ -52,6 +52,7 @@ module _ (limits : Limits) (t : TableView) (c : Check) (symbols : symbols_in (si
         },
         (i, record { count = omega (arith, h.tables); named = h.named }, represents, interprets, refl),
         (interp, is, represents),
+        tt,
       )
 
   -- what the search keeps
@@ -90,6 +91,7 @@ module _ (limits : Limits) (t : TableView) (c : Check) (symbols : symbols_in (si
           subst (λ m. Justifies (record { conflicts = m; terms = limits.terms }) c (spent n e learned)) d.justified.limit_is (problem, problem_is, on),
           (e, refl),
           (is, refl, refl),
+          tt,
         )
 
     kept_within : IsKeptOf limits problem kept
@@ -110,4 +112,5 @@ module _ (limits : Limits) (t : TableView) (c : Check) (symbols : symbols_in (si
           (overflows problem l es (overflow x.wide) cause, (bounded x.wide.left, bounded x.wide.right), (problem, problem_is, kept_within, cause)),
           (derivation_in t o.log, refl),
           (x, is, refl, refl),
+          tt,
         )

@@ -5,11 +5,13 @@ use Rattle.spec_sorts.specs.Values.{Interpretation, Interprets}
 use Rattle.spec_commands.specs.Stack.{Stack, terms_asserted, signature_of}
 use Rattle.spec_commands.specs.Checks.{Check, asked}
 use Rattle.spec_commands.specs.Kept.{IsAsserted, IsSoundStack}
+use Rattle.spec_checking.specs.Commands.{known_at}
+use Rattle.spec_checking.specs.Assumes.{assumed_in}
 use Rattle.spec_proof_texts.specs.ReadBack.{HaveScriptNames}
 use Rattle.spec_proof_texts.specs.Readable.{HaveReadableDefinitions}
 use Rattle.spec_derivations.specs.Derivations.{Derivation}
 use Rattle.spec_proof_texts.specs.Lines.{proof_text}
-use Rattle.spec_proof_texts.specs.Plans.{Plan, IsPlan, lines_of}
+use Rattle.spec_proof_texts.specs.Plans.{Plan, terms_planned, IsPlan, lines_of}
 use Rattle.spec_sessions.specs.Evidence.{Limits, Kept, Found, model, proof, spent, overflowed}
 use Rattle.spec_sessions.specs.Evidence.{Justifies}
 use Rattle.term_core.specs.declared.ids.TermId.{TermId}
@@ -104,10 +106,16 @@ IsFoundBy t o (overflowed x k) =
     (s : Strain) × (o.answer ≡ Unknown (reasons.Overflow s)) × (x ≡ overflow s.wide)
     × (k ≡ kept_of t (derivation_in t o.log) o.budget)
 
+-- the text of a proof assumes the assumptions of its log that are planned
+abbrev pub AssumesPlanned : TableView → Check → Evidence → Found → Type 0
+AssumesPlanned t c (found.Proof log plan) (proof text) =
+    assumed_in (known_at c) text ≡ terms_planned (derivation_in t log) plan.inferences
+AssumesPlanned t c e f = Unit {0}
+
 -- it shows what it should of a check, within limits, and is that of an outcome
 abbrev pub IsShown : Limits → TableView → Check → Evidence → Outcome → Type 0
 IsShown limits t c e o =
-    (f : Found) × Justifies limits c f × IsEvidence t o.budget e f × IsFoundBy t o f
+    (f : Found) × Justifies limits c f × IsEvidence t o.budget e f × IsFoundBy t o f × AssumesPlanned t c e f
 
 -- the outcome is that of a decision on all that a check asks about
 abbrev pub Decides : Limits → TableView → Check → Outcome → Type 0

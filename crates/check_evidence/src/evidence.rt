@@ -9,6 +9,7 @@ ghost use Rattle.spec_proof_texts.specs.Readable.{AreReadable};
 ghost use Rattle.spec_sessions.specs.Evidence.{Limits as SpokenLimits};
 ghost use Rattle.spec_sessions.specs.Meaning.{IsKeptCheck};
 ghost use Rattle.sat_budget.specs.declared.limits.Limits.{Limits as CodeLimits};
+ghost use Rattle.term_reader.specs.Building.{KeepsTable};
 ghost use Rattle.assertion_stack.specs.Stacks.{over_table};
 ghost use Rattle.search_loop.specs.Rounds.{HasLimit};
 ghost use Rattle.solve_core.specs.Decisions.{HasDecision};
@@ -63,6 +64,7 @@ pub fn check(
     ensures checks { (c : Check) → IsHeldCheck limits.now.terms (over_table table.old stack.now) assumed.now c
         → Checks (limits_meant limits.now) c result (over_table table.new stack.now) budget.new }
     ensures limit { IfOk result (λ _. HasLimit limits.now budget.new) }
+    ensures grows { IfOk result (λ _. KeepsTable table.old table.new) }
     ensures table { OnErr result (table.new ≡ table.old) }
     ensures budget { OnErr result (budget.new ≡ budget.old) }
 {

@@ -1,12 +1,20 @@
 -- What was found at the last check.
-use Rattle.std.proofs.Common.{◌≡◌, ℕ, true, false, List, Option, Some, None, refl, ap, ◌∙◌}
+use Rattle.std.proofs.Common.{◌≡◌, ℕ, true, false, List, Option, Some, None, refl, ap, ◌∙◌, subst}
 use Rattle.spec_text.specs.declared.Fault.TheVariants.{WrongMode}
 use Rattle.spec_text.specs.Answers.{Answer, refused, ◌>>=◌}
 use Rattle.spec_sorts.specs.Values.{Interpretation}
 use Rattle.spec_sorts.specs.Signatures.{is_some}
 use Rattle.spec_sessions.specs.Evidence.{Found, model, proof, spent, overflowed, Checked}
 use Rattle.spec_sessions.specs.Replies.{model_found, proof_found, held, in_mode}
-use Rattle.smt_reply.specs.Replies.{found_in}
+use Rattle.spec_proof_texts.specs.Lines.{proof_text}
+use Rattle.spec_proof_texts.specs.Plans.{Plan, lines_of}
+use Rattle.term_core.specs.Tables.{TableView}
+use Rattle.proof_log.specs.Logs.{Logged, derivation_in}
+use Rattle.sat_budget.specs.Budgets.{BudgetView}
+use Rattle.check_evidence.specs.declared.evidence.Evidence.TheVariants as evidence
+use Rattle.check_evidence.specs.Evidence.{AssumesPlanned}
+use Rattle.smt_reply.specs.Replies.{IsLastAnswer, found_in}
+use Rattle.smt_reply.specs.Cores.{planned, planned_terms, FindsProof}
 
 -- what was found, by what is asked for of it
 pub model_is : (f : Found) (i : Interpretation) → model_found f ≡ Some i → f ≡ model i
@@ -46,3 +54,15 @@ is_none (Some a) e = absurd cc
 pub is_one : {A : Type 0} (o : Option A) → is_some o ≡ true → (a : A) × (o ≡ Some a)
 is_one None e = absurd cc
 is_one (Some a) e = (a, refl)
+
+-- a proof that is kept is that of the last check, and assumes what is planned
+pub proof_kept : (t : TableView) (budget : BudgetView) (log : List Logged) (plan : Plan) (last : Option Checked) → IsLastAnswer t budget (Some (evidence.Proof log plan)) last → FindsProof last (planned_terms t (planned log plan))
+proof_kept t budget log plan last h =
+    let text : List ℕ = proof_text (lines_of t.terms (derivation_in t log) plan) in
+    let is : h.0.found ≡ proof text = h.2.2 in
+    record {
+      check = h.0.check;
+      text = text;
+      is = h.1 ∙ ap (λ f. Some (record { check = h.0.check; found = f })) is;
+      assumes = subst (AssumesPlanned t h.0.check (evidence.Proof log plan)) is h.3;
+    }

@@ -4,3 +4,5 @@ pub mod Asked
 pub mod Listed
 pub mod Valued
 pub mod ReadValues
+pub mod Marked
+pub mod CoreAsked

@@ -46,6 +46,14 @@ module _ {whole : List ℕ} {a b : SinkView} where
       ∙ ap (λ n. (gap k ++ f (get_or xs k d)) ++ listed n (drop (k + 1) (map f xs))) (next_number k)
       ∙ ap (λ y. (gap k ++ f y) ++ listed (k + 1) (drop (k + 1) (map f xs))) (sym e)) s
 
+  -- and of rows of text as they are
+  pub next_row : (rows : List (List ℕ)) (k : ℕ) (row : List ℕ) → k < length rows → row ≡ get_or rows k [] → IsSending whole (listed k (drop k rows) ∷ []) a b
+      → IsSending whole ((gap k ++ row) ∷ listed (k + 1) (drop (k + 1) rows) ∷ []) a b
+  next_row rows k row l e s = split _ _ _
+      (ap (listed k) (drop_more rows k [] l)
+      ∙ ap (λ n. (gap k ++ get_or rows k []) ++ listed n (drop (k + 1) rows)) (next_number k)
+      ∙ ap (λ y. (gap k ++ y) ++ listed (k + 1) (drop (k + 1) rows)) (sym e)) s
+
 -- a list as it is printed
 later_texts : (k : ℕ) (ts : List Tree) → spaced ts ≡ listed (suc k) (map printed ts)
 later_texts k [] = refl

@@ -4,6 +4,7 @@ use Rattle.std.specs.Prelude.{◌≡◌, ℕ, suc, List, [], ◌∷◌, ◌++◌
 use Rattle.std.specs.Prelude.{codes, decimal}
 use Rattle.spec_text.specs.declared.Fault.{Fault}
 use Rattle.spec_text.specs.Answers.{Answer}
+use Rattle.spec_text.specs.Printed.{printed_symbol}
 use Rattle.spec_sorts.specs.Values.{Interpretation}
 use Rattle.spec_sorts.specs.Signatures.{symbols_in}
 use Rattle.spec_commands.specs.Stack.{signature_of}
@@ -23,15 +24,16 @@ use Rattle.assertion_stack.specs.Views.{Fails}
 use Rattle.assertion_stack.specs.declared.stack.Stack.{Stack as CodeStack}
 use Rattle.model_text.specs.Lines.{gap}
 use Rattle.check_evidence.specs.declared.evidence.Evidence.{Evidence}
-use Rattle.check_evidence.specs.Evidence.{IsEvidence, IsSomeEvidence}
+use Rattle.check_evidence.specs.Evidence.{IsEvidence, IsSomeEvidence, AssumesPlanned}
 use Rattle.smt_reply.specs.declared.replies.Reply.{Reply as CodeReply}
 use Rattle.smt_reply.specs.declared.replies.Reply.TheVariants as replies
 use Rattle.smt_reply.specs.Pairs.{pair_text, IsPairNamed}
 
--- what is kept of the last check is what was found at it, where its answer counts
+-- what is kept of the last check is what was found at it, where its answer counts; a proof assumes what is planned
 abbrev pub IsLastAnswer : TableView → BudgetView → Option Evidence → Option Checked → Type 0
 IsLastAnswer t budget None last = last ≡ None
-IsLastAnswer t budget (Some e) last = (c : Checked) × (last ≡ Some c) × IsEvidence t budget e c.found
+IsLastAnswer t budget (Some e) last =
+    (c : Checked) × (last ≡ Some c) × IsEvidence t budget e c.found × AssumesPlanned t c.check e c.found
 
 -- it is evidence of something, where there is one
 abbrev pub HoldsAnswer : TableView → Option Evidence → Type 0
@@ -127,6 +129,8 @@ IsReply x (replies.Line text) r = r ≡ says text.now
 IsReply x (replies.Levels n) r = r ≡ says (levels_line n)
 IsReply x replies.Evidence r = OnAnswer x.answer (λ e. ShowsFound x.table e r)
 IsReply x replies.Reason r = OnAnswer x.answer (λ e. TellsReason x.table e r)
+IsReply x (replies.Names names) r = r ≡ says (listed_line (map printed_symbol names))
+IsReply x (replies.Texts texts) r = r ≡ says (listed_line texts)
 IsReply x replies.Assertions r =
     (length x.stack.assertions.written ≡ length x.stack.assertions.ids)
     × (r ≡ says (listed_line (texts_of x.stack.assertions.written)))

@@ -7,8 +7,11 @@ ghost use Rattle.spec_sessions.specs.Replies.{model_found, proof_found, reason_f
 ghost use Rattle.term_core.specs.Tables.{TableView};
 ghost use Rattle.sat_budget.specs.Budgets.{BudgetView};
 ghost use Rattle.smt_reply.specs.Replies.{IsLastAnswer, HoldsAnswer, found_in, IsModelFound, FitsTable, fault_of};
+ghost use Rattle.smt_reply.specs.Cores.{IsProofFound, FitsPlanned, planned};
 
+use alethe_writer::Plan;
 use check_evidence::Evidence;
+use proof_log::ProofLog;
 use spec_text::Fault;
 use term_reader::{ReadError, fault_at};
 use term_walks::Interp;
@@ -33,6 +36,24 @@ pub(crate) fn model_of<'a>(answer: &'a Option<Evidence>) -> Option<&'a Interp>
         Some(evidence) => match evidence {
             Evidence::Model(interp) => Some(interp),
             Evidence::Proof(_, _) => None,
+            Evidence::Reason(_) => None,
+        },
+    }
+}
+
+/// Finds the proof of the last check, where it found one: its log, and the plan by which it is printed.
+pub(crate) fn proof_of<'a>(answer: &'a Option<Evidence>) -> Option<(&'a ProofLog, &'a Plan)>
+    ensures found { (t : TableView) (budget : BudgetView) (last : Option Checked)
+        → IsLastAnswer t budget answer.now last
+        → IsProofFound t (option_map (λ x. planned x.0.now x.1.now) result) last }
+    ensures fits { (t : TableView) → HoldsAnswer t answer.now
+        → FitsPlanned t (option_map (λ x. planned x.0.now x.1.now) result) }
+{
+    match answer {
+        None => None,
+        Some(evidence) => match evidence {
+            Evidence::Model(_) => None,
+            Evidence::Proof(log, plan) => Some((log, plan)),
             Evidence::Reason(_) => None,
         },
     }

@@ -1,7 +1,8 @@
-//! What answers a question of a session, and how it is written: a model, a proof or a reason, the current assertions, values
-//! of terms, an option, or information on the solver.
+//! What answers a question of a session, and how it is written: a model, a proof or a reason, an unsat core, the current
+//! assertions, values of terms, an option, or information on the solver.
 #![tactic(auto)]
 
+mod cores;
 mod found;
 mod replies;
 mod sending;

@@ -3,7 +3,7 @@
 ghost use Rattle.std.specs.Prelude.{◌≡◌, ℕ, Option, Some};
 ghost use Rattle.spec_commands.specs.Stack.{Options as SpokenOptions, key_named};
 ghost use Rattle.spec_sessions.specs.States.{State};
-ghost use Rattle.spec_sessions.specs.Questions.{for_model, for_proof, for_assertions, for_values};
+ghost use Rattle.spec_sessions.specs.Questions.{for_model, for_proof, for_assertions, for_core, for_assumptions, for_values};
 ghost use Rattle.spec_sessions.specs.Replies.{unknown_info, option_reply, info_reply, info_named, truth_line, option_value, reply_to};
 ghost use Rattle.smt_sexpr.specs.Items.{trees_meant};
 ghost use Rattle.sat_budget.specs.Budgets.{BudgetView};
@@ -14,13 +14,17 @@ ghost use Rattle.assertion_stack.specs.Stacks.{over_table, options_meant, HasSta
 ghost use Rattle.check_evidence.specs.declared.evidence.Evidence.{Evidence};
 ghost use Rattle.check_evidence.specs.Evidence.{IsHeld, HoldsSome};
 ghost use Rattle.smt_question.specs.Questions.{question_view};
+ghost use Rattle.assertion_stack.specs.declared.assuming.Assumed.{Assumed};
 ghost use Rattle.smt_reply.specs.Replies.{Context, in_context, IsLastAnswer, HoldsAnswer, IsReply, Replies};
+ghost use Rattle.smt_reply.specs.Cores.{KeepsAsked, HoldsAssumed};
 
-use crate::found::{found_model, found_proof, found_reason, refused};
+use crate::cores::{assumptions_used, core_names};
+use crate::found::{found_model, found_proof, found_reason, proof_of, refused};
 use crate::values::{TermValue, values};
 use assertion_stack::laws::each_assertion_has_its_text;
-use assertion_stack::{Options, Stack};
+use assertion_stack::{Assumed, Options, Rows, Stack};
 use check_evidence::Evidence;
+use no_memory::NoMemory;
 use smt_command::OptionKey;
 use smt_question::{Info, Question};
 use smt_sexpr::Trees;
@@ -47,6 +51,10 @@ pub enum Reply {
     Reason,
     /// The current assertions.
     Assertions,
+    /// Names, each as a symbol, in their order.
+    Names(Rows),
+    /// Texts as they are printed, in their order.
+    Texts(Rows),
     /// Terms as they are written, each with its value, in their order.
     Values(Vec<TermValue>),
 }
@@ -70,6 +78,8 @@ fn option_value(options: &Options, key: OptionKey) -> bool
         OptionKey::ProduceModels => options.models,
         OptionKey::ProduceProofs => options.proofs,
         OptionKey::ProduceAssertions => options.assertions,
+        OptionKey::ProduceUnsatCores => options.unsat_cores,
+        OptionKey::ProduceUnsatAssumptions => options.unsat_assumptions,
         OptionKey::GlobalDeclarations => options.global_declarations,
     }
 }
@@ -171,6 +181,62 @@ fn assertions_reply(stack: &Stack, at: u64) -> Result<Reply, ReadError>
     Ok(Reply::Assertions)
 }
 
+/// Finds what answers a question for the unsat core of the last check.
+fn core_reply(
+    alloc: Global,
+    table: &TermTable,
+    stack: &Stack,
+    answer: &Option<Evidence>,
+    at: u64,
+) -> Result<Reply, ReadError>
+    requires held { HasStack (over_table table.now stack.now) }
+    requires shown { HoldsAnswer table.now answer.now }
+    ensures { (limit : ℕ) (budget : BudgetView) (a : Assumed) (s : State)
+        → IsStack limit (over_table table.now stack.now) s.stack
+        → IsLastAnswer table.now budget answer.now s.answer → KeepsAsked table.now a s
+        → Replies (reply_to limit at s for_core) (in_context table.now stack.now answer.now) result }
+{
+    let Some((log, plan)) = proof_of(answer) else {
+        return Err(refused(at, Fault::WrongMode));
+    };
+    if !stack.options.unsat_cores {
+        return Err(refused(at, Fault::NotEnabled));
+    }
+    match core_names(alloc, table, stack, log, plan) {
+        Ok(names) => Ok(Reply::Names(names)),
+        Err(NoMemory) => Err(ReadError::Memory),
+    }
+}
+
+/// Finds what answers a question for the assumptions of the last check that its proof rests on.
+fn assumptions_reply(
+    alloc: Global,
+    table: &TermTable,
+    stack: &Stack,
+    answer: &Option<Evidence>,
+    assumed: &Assumed,
+    at: u64,
+) -> Result<Reply, ReadError>
+    requires held { HasStack (over_table table.now stack.now) }
+    requires shown { HoldsAnswer table.now answer.now }
+    requires assumed { HoldsAssumed table.now answer.now assumed.now }
+    ensures { (limit : ℕ) (budget : BudgetView) (s : State)
+        → IsStack limit (over_table table.now stack.now) s.stack
+        → IsLastAnswer table.now budget answer.now s.answer → KeepsAsked table.now assumed.now s
+        → Replies (reply_to limit at s for_assumptions) (in_context table.now stack.now answer.now) result }
+{
+    let Some((log, plan)) = proof_of(answer) else {
+        return Err(refused(at, Fault::WrongMode));
+    };
+    if !stack.options.unsat_assumptions {
+        return Err(refused(at, Fault::NotEnabled));
+    }
+    match assumptions_used(alloc, table, stack, assumed, log, plan) {
+        Ok(texts) => Ok(Reply::Texts(texts)),
+        Err(NoMemory) => Err(ReadError::Memory),
+    }
+}
+
 /// Finds what answers a question for the values of terms. Table and stack are as they were.
 fn values_reply(
     alloc: Global,
@@ -197,33 +263,36 @@ fn values_reply(
 }
 
 /// Finds what answers a question, asked by a command at an offset in bytes. `answer` is what the last check found, where its
-/// answer still counts.
+/// answer still counts, and `assumed` what that check assumed.
 ///
 /// It takes all its memory here; writing what it gives takes none. Table and stack are as they were, whatever comes.
 ///
 /// - `Fault` has the first fault, with its offset. For a model, a proof and a reason it is `WrongMode` at the command where
-///   the last check found none, or none counts; then `NotEnabled` there where the option for models or proofs is off. For
-///   assertions it is `NotEnabled`. For values come first the faults of the terms, in reading order, as
+///   the last check found none, or none counts; then `NotEnabled` there where the option for models or proofs is off. For an
+///   unsat core, and for assumptions, it is as for a proof, with their own options. For assertions it is `NotEnabled`. For values come first the faults of the terms, in reading order, as
 ///   `sort_check::terms_of_any_sort` tells them; then `WrongMode` and `NotEnabled` as for a model, `Full` at the command where
 ///   the terms have more different subterms than the stack's limit, and last `ValueWide` at the first term that has an
 ///   operation whose result leaves the bound.
 /// - `Memory` may come at any allocation, and says nothing of the question.
 ///
 /// For values its time goes with the texts of the terms and, for each term anew, with its different subterms, those of its
-/// definitions among them; else it is short. Source: SMT-LIB 2.6, sections 4.1.1, 4.1.7, 4.1.8, 4.2.4 and 4.2.6 to 4.2.8.
+/// definitions among them. For a core and for assumptions it goes with the table, the proof and the assertions; else it is
+/// short. Source: SMT-LIB 2.6, sections 4.1.1, 4.1.7, 4.1.8, 4.2.4 and 4.2.6 to 4.2.8.
 pub fn reply_to(
     alloc: Global,
     table: &mut TermTable,
     stack: &mut Stack,
     answer: &Option<Evidence>,
+    assumed: &Assumed,
     question: Question<'_>,
     at: u64,
 ) -> Result<Reply, ReadError>
     requires held { (terms : ℕ) × HoldsSome terms (over_table table.old stack.old) }
     requires shown { HoldsAnswer table.old answer.now }
+    requires assumed { HoldsAssumed table.old answer.now assumed.now }
     ensures replies { (terms : ℕ) (budget : BudgetView) (s : State)
         → IsHeld terms (over_table table.old stack.old) s.stack
-        → IsLastAnswer table.old budget answer.now s.answer
+        → IsLastAnswer table.old budget answer.now s.answer → KeepsAsked table.old assumed.now s
         → Replies (reply_to terms at s (question_view question.entry))
         (in_context table.old stack.old answer.now) result }
     ensures table { table.new ≡ table.old }
@@ -233,6 +302,10 @@ pub fn reply_to(
         Question::Model => model_reply(stack, answer, at),
         Question::Proof => proof_reply(stack, answer, at),
         Question::Assertions => assertions_reply(stack, at),
+        Question::UnsatCore => core_reply(alloc, table, stack, answer, at),
+        Question::UnsatAssumptions => {
+            assumptions_reply(alloc, table, stack, answer, assumed, at)
+        }
         Question::Values(terms) => values_reply(alloc, table, stack, answer, terms, at),
         Question::Option(name) => Ok(option_reply(&stack.options, name)),
         Question::Info(name) => info_reply(stack, answer, name, at),

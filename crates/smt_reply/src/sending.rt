@@ -2,6 +2,7 @@
 
 ghost use Rattle.std.specs.Prelude.{◌≡◌, ◌++◌, codes, length, map, All};
 ghost use Rattle.world_io.specs.Writing.{Sends};
+ghost use Rattle.spec_text.specs.Printed.{printed_symbol};
 ghost use Rattle.spec_models.specs.Replies.{Reason as SpokenReason, reason_info};
 ghost use Rattle.spec_sessions.specs.Evidence.{Found};
 ghost use Rattle.spec_sessions.specs.Replies.{Reply as SpokenReply, reason_found};
@@ -14,11 +15,11 @@ ghost use Rattle.smt_reply.specs.Pairs.{pair_text, IsPairNamed};
 
 use crate::replies::Reply;
 use crate::values::TermValue;
-use assertion_stack::Stack;
+use assertion_stack::{Rows, Stack};
 use check_evidence::{Evidence, send_evidence};
 use itoa::Buffer;
 use model_text::write_value;
-use reply_text::{ResponseWord, overflow_info, spent_info, word};
+use reply_text::{ResponseWord, name, overflow_info, spent_info, word};
 use sat_budget::Reason;
 use term_core::{Symbols, TermTable};
 use world_io::{Failed, Sink, write_all, write_pieces};
@@ -108,6 +109,52 @@ fn write_texts<K: Sink>(stack: &Stack, out: &mut K) -> Result<(), Failed>
     Ok(())
 }
 
+/// Writes names, each as a symbol, with a space between them.
+fn write_names<K: Sink>(names: &Rows, out: &mut K) -> Result<(), Failed>
+    ensures { Sends (listed 0 (map printed_symbol names.now)) result (K.state out.old) (K.state out.new) }
+{
+    'names: for k in 0..names.len() {
+        write_name(k, names.row(k), out)?;
+    }
+    Ok(())
+}
+
+/// Writes the name of that number in a list, as a symbol.
+fn write_name<K: Sink>(k: usize, symbol: &[u8], out: &mut K) -> Result<(), Failed>
+    ensures { Sends (gap k ++ printed_symbol symbol.now) result (K.state out.old) (K.state out.new) }
+{
+    write_all(out, gap(k))?;
+    name(symbol, out)
+}
+
+/// Writes the list of names.
+fn send_names<K: Sink>(names: &Rows, out: &mut K) -> Result<(), Failed>
+    ensures { Sends (listed_line (map printed_symbol names.now)) result (K.state out.old) (K.state out.new) }
+{
+    write_all(out, b"(")?;
+    write_names(names, out)?;
+    write_all(out, b")\n")
+}
+
+/// Writes rows of text, with a space between them.
+fn write_rows<K: Sink>(rows: &Rows, out: &mut K) -> Result<(), Failed>
+    ensures { Sends (listed 0 rows.now) result (K.state out.old) (K.state out.new) }
+{
+    'rows: for k in 0..rows.len() {
+        write_text(k, rows.row(k), out)?;
+    }
+    Ok(())
+}
+
+/// Writes the list of rows of text.
+fn send_rows<K: Sink>(rows: &Rows, out: &mut K) -> Result<(), Failed>
+    ensures { Sends (listed_line rows.now) result (K.state out.old) (K.state out.new) }
+{
+    write_all(out, b"(")?;
+    write_rows(rows, out)?;
+    write_all(out, b")\n")
+}
+
 /// Writes the list of the current assertions.
 fn send_assertions<K: Sink>(stack: &Stack, out: &mut K) -> Result<(), Failed>
     requires { length stack.now.assertions.written ≡ length stack.now.assertions.ids }
@@ -193,6 +240,8 @@ pub fn send_reply<K: Sink>(
         Reply::Evidence => send_found(table, answer, out),
         Reply::Reason => send_reason(answer, out),
         Reply::Assertions => send_assertions(stack, out),
+        Reply::Names(names) => send_names(names, out),
+        Reply::Texts(rows) => send_rows(rows, out),
         Reply::Values(pairs) => send_pairs(table.symbols(), pairs.as_slice(), out),
     }
 }

@@ -1,18 +1,24 @@
 -- What a command is answered, from what taking it came to.
-use Rattle.std.proofs.Common.{◌≡◌, ℕ, Bool, true, false, ◌++◌, List, [], All, Option, Some, None, refl, sym, ap, ◌∙◌, subst}
+use Rattle.std.proofs.Common.{◌≡◌, ℕ, Bool, true, false, ◌++◌, List, [], length, All, Option, Some, None, refl, sym, ap, ◌∙◌, subst}
 use Rattle.std.specs.Prelude.{Result, Ok, Err, OnErr}
-use Rattle.spec_text.specs.Answers.{Answer, ◌>>=◌}
+use Rattle.std.proofs.lemmas.List.{length-map}
+use Rattle.std.proofs.lemmas.Bool.{false≢true}
+use Rattle.std.proofs.lemmas.Option.{none-some, same_Some}
+use Rattle.spec_text.specs.declared.Fault.TheVariants.{WrongMode}
+use Rattle.spec_text.specs.Answers.{Answer, require, ◌>>=◌}
+use Rattle.spec_text.specs.Printed.{printed}
+use Rattle.spec_text.proofs.AnswerLaws.{answer, went}
 use Rattle.spec_text.specs.Faults.{Located}
 use Rattle.spec_text.specs.Places.{IsPlaceOf}
 use Rattle.spec_text.specs.Lexemes.{Lexeme, lexemes_from}
 use Rattle.spec_text.specs.Trees.{Tree, spelled, offset_of}
 use Rattle.spec_commands.specs.Commands.{Command, SetLogic, SetOption, SetInfo, DeclareSort, DefineSort, DeclareFun, DefineFun, Assert, Push, Pop, CheckSat, CheckSatAssuming, ResetAssertions, Reset, Echo, Exit, command_of}
-use Rattle.spec_commands.specs.Stack.{Assertion, Stack, Effect, check, Taken, empty_stack, signature_of, step}
+use Rattle.spec_commands.specs.Stack.{Assertion, Stack, Key, key_named, truth_in, with_option, may_set, option_set, Effect, unsupported, check, say, leave, Taken, did, empty_stack, signature_of, assertions_of, performed, step}
 use Rattle.spec_commands.specs.Checks.{Check}
 use Rattle.spec_commands.specs.Kept.{IsAsserted, IsSoundStack}
 use Rattle.spec_proof_texts.specs.ReadBack.{HaveScriptNames}
 use Rattle.spec_sessions.specs.Evidence.{Limits, Checked}
-use Rattle.spec_sessions.specs.States.{State, states_nothing, answer_kept}
+use Rattle.spec_sessions.specs.States.{State, keeps_answer, states_nothing, answer_kept}
 use Rattle.spec_sessions.specs.Questions.{Question, question_of}
 use Rattle.spec_sessions.specs.Replies.{Reply, says, not_known, reply_to}
 use Rattle.spec_sessions.specs.Responses.{Response, answered, rejected, answer_after, state_after, Answered, Responds, AnswersBy, AnswersTree, Answers, response_of, answer_to}
@@ -24,17 +30,21 @@ use Rattle.smt_lexer.specs.declared.Refused.TheVariants as refusals
 use Rattle.smt_sexpr.specs.declared.sexpr.Sexpr.{Sexpr}
 use Rattle.smt_sexpr.specs.Items.{text_of, start_of, tree_of}
 use Rattle.term_core.specs.declared.ids.TermId.{TermId}
-use Rattle.term_core.specs.Tables.{TableView}
+use Rattle.term_core.specs.Tables.{TableView, term_at}
+use Rattle.term_reader.specs.Building.{KeepsTable}
 use Rattle.sat_budget.specs.Budgets.{BudgetView}
 use Rattle.assertion_stack.specs.declared.stack.Stack.{Stack as CodeStack}
 use Rattle.assertion_stack.specs.declared.assuming.Assumed.{Assumed}
 use Rattle.assertion_stack.specs.declared.stack.Effect.TheVariants as effects
-use Rattle.assertion_stack.specs.Stacks.{OverTable, over_table, EffectMeans, IsStack, Steps, KeepsTableAt}
+use Rattle.assertion_stack.specs.Assertions.{texts_printed}
+use Rattle.assertion_stack.specs.Stacks.{OverTable, over_table, AreAssumed, EffectMeans, IsStack, Steps, KeepsTableAt}
+use Rattle.assertion_stack.proofs.ReadLiterals.{assumed_kept}
 use Rattle.check_evidence.specs.declared.evidence.Evidence.{Evidence}
 use Rattle.spec_proof_texts.specs.Readable.{HaveReadableDefinitions}
 use Rattle.check_evidence.specs.Evidence.{IsHeld, IsHeldCheck, IsEvidence}
 use Rattle.smt_reply.specs.declared.replies.Reply.{Reply as CodeReply}
 use Rattle.smt_reply.specs.Replies.{OnAnswer, IsLastAnswer, HoldsAnswer, IsReply}
+use Rattle.smt_reply.specs.Cores.{IsAskedIn, KeepsAsked, HoldsAssumed}
 use Rattle.smt_session.specs.declared.script.Script.{Script}
 use Rattle.smt_session.specs.declared.responses.Response.{Response as CodeResponse}
 use Rattle.smt_session.specs.declared.responses.Response.TheVariants as responses
@@ -114,11 +124,55 @@ nothing_stated (Ok (Echo text)) old new k e = k
 nothing_stated (Ok Exit) old new k e = k
 nothing_stated (Err f) old new k e = cc
 
+-- a command that states nothing leaves what is asserted
+assertions_kept : (limit : ℕ) (s : Stack) (t : Tree) (d : Taken) → step limit s t ≡ Ok d → states_nothing (command_of t) ≡ true → assertions_of d.stack ≡ assertions_of s
+unfolding step
+assertions_kept limit s t d e nothing =
+    let a = went (command_of t) _ d e in
+    by a.first a.then (ap states_nothing (sym a.was) ∙ nothing)
+  where
+    by_option : (at : ℕ) (k : Option Key) (v : Option Bool) → option_set at s k v ≡ Ok d → assertions_of d.stack ≡ assertions_of s
+    by_option at (Some k) (Some b) h = let r = went (require (may_set k s) at WrongMode) _ d h in ap (λ (y : Taken). assertions_of y.stack) (sym (answer (Ok (did (record s { options = with_option k b s.options }))) d r.then))
+    by_option at (Some k) None h = cc
+    by_option at None v h = ap (λ (y : Taken). assertions_of y.stack) (sym (answer (Ok (record { effect = unsupported; stack = s })) d h))
+
+    by : (c : Command) → performed limit (offset_of t) s c ≡ Ok d → keeps_answer c ≡ true → assertions_of d.stack ≡ assertions_of s
+    by (SetOption k v) h f = by_option (offset_of t) (key_named k) (truth_in v) h
+    by SetInfo h f = ap (λ (y : Taken). assertions_of y.stack) (sym (answer (Ok (did s)) d h))
+    by (Echo text) h f = ap (λ (y : Taken). assertions_of y.stack) (sym (answer (Ok (record { effect = say text; stack = s })) d h))
+    by Exit h f = ap (λ (y : Taken). assertions_of y.stack) (sym (answer (Ok (record { effect = leave; stack = s })) d h))
+    by (SetLogic w) h f = absurd (false≢true f)
+    by (DeclareSort w) h f = absurd (false≢true f)
+    by (DefineSort w u) h f = absurd (false≢true f)
+    by (DeclareFun w ts u) h f = absurd (false≢true f)
+    by (DefineFun p) h f = absurd (false≢true f)
+    by (Assert u) h f = absurd (false≢true f)
+    by (Push n) h f = absurd (false≢true f)
+    by (Pop n) h f = absurd (false≢true f)
+    by (CheckSat place) h f = absurd (false≢true f)
+    by (CheckSatAssuming place ts) h f = absurd (false≢true f)
+    by ResetAssertions h f = absurd (false≢true f)
+    by Reset h f = absurd (false≢true f)
+
+-- so what the last check asked about is kept
+asked_kept_on : (old new : TableView) (a b : Assumed) (s t : State) (c : Checked) → new ≡ old → b ≡ a → assertions_of t.stack ≡ assertions_of s.stack → IsAskedIn old a s c → IsAskedIn new b t c
+asked_kept_on old new a b s t c e f g h = subst (λ y. IsAskedIn y b t c) (sym e) (subst (λ z. IsAskedIn old z t c) (sym f) (record { assertions = h.assertions ∙ sym g; literals = h.literals; texts = h.texts }))
+
+-- what a check that was answered asked about
+found_asked : (old new : TableView) (a b : Assumed) (s : State) (c : Checked) → KeepsTable old new → b ≡ a → s.answer ≡ Some c → c.check.stack ≡ s.stack → AreAssumed old a.ids.items c.check.assumptions → a.texts ≡ texts_printed c.check.assumptions → KeepsAsked new b s
+found_asked old new a b s c grows e is same literals texts k at =
+    let one : c ≡ k = same_Some c k (sym is ∙ at) in
+    subst (IsAskedIn new b s) one (subst (λ z. IsAskedIn new z s c) (sym e) (record {
+      assertions = ap assertions_of same;
+      literals = assumed_kept old new a.ids.items c.check.assumptions grows literals;
+      texts = texts;
+    }))
+
 module _ (limits : Limits) (s : State) (x : Sexpr) (old new : Script) (d : Taken) (none : question_of (tree_of x) ≡ None) (taken : step limits.terms s.stack (tree_of x) ≡ Ok d) (held : IsHeld limits.terms (stated new) d.stack) (i : IsScript limits.terms old s) where
   -- a command that is no check is answered by its effect; `told` is whether it states nothing
-  pub done_so : (told : Bool) → told ≡ states_nothing (command_of (tree_of x)) → KeepsTableAt (command_of (tree_of x)) old.table new.table → new.budget ≡ old.budget → new.answer ≡ answer_left told old.answer → (code : CodeResponse) (r : Response) (effect : Effect) → effect ≡ d.effect → Responds limits d.stack effect r
+  pub done_so : (told : Bool) → told ≡ states_nothing (command_of (tree_of x)) → KeepsTableAt (command_of (tree_of x)) old.table new.table → new.budget ≡ old.budget → new.answer ≡ answer_left told old.answer → new.assumed ≡ old.assumed → (code : CodeResponse) (r : Response) (effect : Effect) → effect ≡ d.effect → Responds limits d.stack effect r
       → (answer_after told s.answer r ≡ answer_kept told s.answer) → IsResponse new (text_of x) code r → IsAskedOf r (state_after told s d.stack r) → IsKeptAnswer limits.terms r → LearnsBy limits new r → AnswersCommand limits s x code new
-  done_so told is settings budget left code r effect same responds after response asked kept learned = record {
+  done_so told is settings budget left assumed code r effect same responds after response asked kept learned = record {
     a = answered_so s (tree_of x) r d;
     answers = taken_as limits s (tree_of x) r effect d none taken same responds;
     is = response;
@@ -133,13 +187,28 @@ module _ (limits : Limits) (s : State) (x : Sexpr) (old new : Script) (d : Taken
           (subst (λ last. IsLastAnswer new.table new.budget new.answer last) (sym after)
           (subst (λ e. IsLastAnswer new.table new.budget e (answer_kept told s.answer)) (sym left)
           (subst (λ b. IsLastAnswer new.table b (answer_left told old.answer) (answer_kept told s.answer)) (sym budget) kept_so)));
+      asked = still_asked;
     };
     learned = learned;
   }
+    where
+      same_told : told ≡ true → new.table ≡ old.table
+      same_told e = nothing_stated (command_of (tree_of x)) old.table new.table settings (sym is ∙ e)
+
+      after_is : answer_after (states_nothing (command_of (tree_of x))) s.answer r ≡ answer_kept told s.answer
+      after_is = ap (λ b. answer_after b s.answer r) (sym is) ∙ after
+
+      still_asked : KeepsAsked new.table new.assumed (answered_so s (tree_of x) r d).state
+      still_asked c e = by told refl (sym after_is ∙ e)
+        where
+          by : (b : Bool) → told ≡ b → answer_kept told s.answer ≡ Some c → IsAskedIn new.table new.assumed (answered_so s (tree_of x) r d).state c
+          by true t kept_c = asked_kept_on old.table new.table old.assumed new.assumed s (answered_so s (tree_of x) r d).state c (same_told t) assumed
+              (assertions_kept limits.terms s.stack (tree_of x) d taken (sym is ∙ t)) (i.asked c (ap (λ b. answer_kept b s.answer) (sym t) ∙ kept_c))
+          by false t kept_c = absurd (none-some c (ap (λ b. answer_kept b s.answer) (sym t) ∙ kept_c))
 
 -- a check is answered by what was found at it, which is kept
-pub found_so : (limits : Limits) (s : State) (x : Sexpr) (new : Script) (d : Taken) (place : ℕ) (a : Assumed) (z : OverTable) → question_of (tree_of x) ≡ None → step limits.terms s.stack (tree_of x) ≡ Ok d → (m : EffectMeans z.table (effects.Check place a) d.effect) → IsHeldCheck limits.terms z a.ids.items (record { stack = d.stack; assumptions = m.0 }) → HasFound limits (record { stack = d.stack; assumptions = m.0 }) new → AnswersCommand limits s x responses.Answered new
-found_so limits s x new d place a z none taken m held k =
+pub found_so : (limits : Limits) (s : State) (x : Sexpr) (new : Script) (d : Taken) (place : ℕ) (a : Assumed) (z : OverTable) → question_of (tree_of x) ≡ None → step limits.terms s.stack (tree_of x) ≡ Ok d → (m : EffectMeans z.table (effects.Check place a) d.effect) → IsHeldCheck limits.terms z a.ids.items (record { stack = d.stack; assumptions = m.0 }) → HasFound limits (record { stack = d.stack; assumptions = m.0 }) new → KeepsTable z.table new.table → new.assumed ≡ a → AnswersCommand limits s x responses.Answered new
+found_so limits s x new d place a z none taken m held k grows assumed =
     let asked : Check = record { stack = d.stack; assumptions = m.0 } in
     let shown = k.checked.shown in
     let found : Checked = record { check = asked; found = shown.0 } in
@@ -152,7 +221,8 @@ found_so limits s x new d place a z none taken m held k =
       kept = kept_check limits.terms z a.ids.items asked held;
       represents = record {
         stack = k.checked.held;
-        answer = subst (λ o. IsLastAnswer new.table new.budget o (Some found)) (sym k.kept) (found, refl {a = Some found}, evidence);
+        answer = subst (λ o. IsLastAnswer new.table new.budget o (Some found)) (sym k.kept) (found, refl {a = Some found}, evidence, shown.4);
+        asked = found_asked z.table new.table a new.assumed (answered_so s (tree_of x) (answered found) d).state found grows assumed refl refl m.2 m.4;
       };
       learned = (k.checked.outcome, k.checked.decided, shown.3, k.checked.budget_is);
     }
@@ -250,3 +320,17 @@ module _ (limits : Limits) (s : State) (x : Sexpr) (q : Question) (y : Script) (
 pub holds_answer : (t : TableView) (budget : BudgetView) (o : Option Evidence) (last : Option Checked) → IsLastAnswer t budget o last → HoldsAnswer t o
 holds_answer t budget None last h = tt
 holds_answer t budget (Some e) last h = (budget, h.0.found, h.2)
+
+-- and so does what it assumed, where there is an answer
+pub holds_assumed : (t : TableView) (budget : BudgetView) (o : Option Evidence) (a : Assumed) (s : State) → IsLastAnswer t budget o s.answer → KeepsAsked t a s → HoldsAssumed t o a
+holds_assumed t budget None a s h asked = tt
+holds_assumed t budget (Some e) a s h asked =
+    let k = asked h.0 h.1 in
+    let ls = h.0.check.assumptions in
+    let texts : length a.texts ≡ length ls = ap length k.texts ∙ length-map ls (λ (l : Assertion). printed l.text) in
+    let ids : length a.ids.items ≡ length ls = sym (length-map a.ids.items (term_at t)) ∙ ap length k.literals.terms ∙ length-map ls (λ (l : Assertion). l.term) in
+    (k.literals.inside, texts ∙ sym ids)
+
+-- at first nothing was
+pub nothing_asked : (t : TableView) (a : Assumed) (s : State) → s.answer ≡ None → KeepsAsked t a s
+nothing_asked t a s bare c e = absurd (none-some c (sym bare ∙ e))

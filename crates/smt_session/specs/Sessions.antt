@@ -26,6 +26,7 @@ use Rattle.check_evidence.specs.declared.evidence.Evidence.{Evidence}
 use Rattle.check_evidence.specs.declared.evidence.Evidence.TheVariants as found
 use Rattle.check_evidence.specs.Evidence.{limits_meant, IsHeld, IsEvidence, HasLearned, HasChecked}
 use Rattle.smt_reply.specs.Replies.{Context, in_context, OnAnswer, IsLastAnswer, IsReply}
+use Rattle.smt_reply.specs.Cores.{KeepsAsked}
 use Rattle.smt_session.specs.declared.mode.Mode.{Mode as CodeMode}
 use Rattle.smt_session.specs.declared.mode.Mode.TheVariants as modes
 use Rattle.smt_session.specs.declared.mode.ExecutionMode.{ExecutionMode as CodeExecution}
@@ -72,6 +73,8 @@ pub record IsScript (terms : ℕ) (x : Script) (s : State) : Type 0 where
   pub stack : IsHeld terms (stated x) s.stack
   -- and what the last check found, while its answer counts
   pub answer : IsLastAnswer x.table x.budget x.answer s.answer
+  -- and what that check asked about
+  pub asked : KeepsAsked x.table x.assumed s
 
 -- it represents some state
 abbrev pub HoldsScript : ℕ → Script → Type 0

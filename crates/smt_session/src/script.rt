@@ -8,13 +8,14 @@ ghost use Rattle.spec_sessions.specs.Questions.{question_of};
 ghost use Rattle.smt_question.specs.Questions.{question_view};
 ghost use Rattle.smt_sexpr.specs.Items.{tree_of};
 ghost use Rattle.search_loop.specs.Rounds.{HasLimit};
+ghost use Rattle.term_reader.specs.Building.{KeepsTable};
 ghost use Rattle.spec_commands.specs.Checks.{Check};
 ghost use Rattle.check_evidence.specs.Evidence.{limits_meant, HoldsCheck, IsHeldCheck};
 ghost use Rattle.smt_session.specs.Sessions.{stated, answer_left, AskedKeeps, IsScript, HoldsScript, Finds, TakesScriptCommand, KeepsBudget, KeepsScript, Rejects};
 
 use crate::mode::states_nothing;
 use crate::responses::Response;
-use assertion_stack::{Effect, Stack, place_in};
+use assertion_stack::{Assumed, Effect, Stack, place_in};
 use check_evidence::{Evidence, check};
 use no_memory::NoMemory;
 use sat_budget::{Budget, Limits};
@@ -27,7 +28,7 @@ use spec_proof_texts::laws::commands_leave_script_names;
 use spec_proof_texts::readable_laws::commands_leave_readable_definitions;
 use spec_sessions::laws::faults_are_in_their_question;
 use std::alloc::Global;
-use term_core::{TermId, TermTable};
+use term_core::TermTable;
 use term_reader::ReadError;
 
 /// What a session holds of a script: what was stated, with its terms, and what its last check found.
@@ -41,6 +42,8 @@ pub(crate) struct Script {
     pub budget: Budget,
     /// What the last check found, where nothing was stated or taken back since.
     pub answer: Option<Evidence>,
+    /// What the last check assumed that was answered.
+    pub assumed: Assumed,
 }
 
 /// Takes what an s-expression is: a command, or a question. All that it changes is changed, but nothing is written. Where it is
@@ -90,6 +93,7 @@ fn take_question<'a>(
         &mut script.table,
         &mut script.stack,
         &script.answer,
+        &script.assumed,
         asked,
         at,
     ) {
@@ -144,7 +148,7 @@ fn take_command<'a>(
             Ok(Response::Unsupported)
         }
         Ok(Effect::Check(_, assumed)) => {
-            match find(alloc, script, limits, assumed.ids.as_slice()) {
+            match find(alloc, script, limits, assumed) {
                 Ok(()) => Ok(Response::Answered),
                 Err(NoMemory) => {
                     script.table.cut(terms);
@@ -165,7 +169,7 @@ fn take_command<'a>(
     }
 }
 
-/// Finds an answer to what is asserted, with these terms of the table assumed, and keeps it. The table grows by terms that
+/// Finds an answer to what is asserted, with these literals assumed, and keeps it with them. The table grows by terms that
 /// the search speaks of.
 ///
 /// `NoMemory` comes where memory ran out; the script is then as it was.
@@ -173,11 +177,13 @@ fn find(
     alloc: Global,
     script: &mut Script,
     limits: &Limits,
-    assumed: &[TermId],
+    assumed: Assumed,
 ) -> Result<(), NoMemory>
-    requires held { HoldsCheck limits.now.terms (stated script.old) assumed.now }
-    ensures checks { (c : Check) → IsHeldCheck limits.now.terms (stated script.old) assumed.now c
+    requires held { HoldsCheck limits.now.terms (stated script.old) assumed.ids.items }
+    ensures checks { (c : Check) → IsHeldCheck limits.now.terms (stated script.old) assumed.ids.items c
         → Finds (limits_meant limits.now) c result script.new }
+    ensures grows { IfOk result (λ _. KeepsTable script.old.table script.new.table) }
+    ensures kept { IfOk result (λ _. script.new.assumed ≡ assumed) }
     ensures limit { IfOk result (λ _. HasLimit limits.now script.new.budget) }
     ensures same { OnErr result (script.new ≡ script.old) }
 {
@@ -185,12 +191,13 @@ fn find(
         alloc,
         &mut script.table,
         &script.stack,
-        assumed,
+        assumed.ids.as_slice(),
         &mut script.budget,
         limits,
     ) {
         Ok(evidence) => {
             script.answer = Some(evidence);
+            script.assumed = assumed;
             Ok(())
         }
         Err(NoMemory) => Err(NoMemory),

@@ -9,7 +9,7 @@ ghost use Rattle.smt_session.specs.Sessions.{execution_meant, IsSession, Stepped
 use crate::mode::{ExecutionMode, Mode};
 use crate::responses::{after_of, send_response};
 use crate::script::{Script, take};
-use assertion_stack::Stack;
+use assertion_stack::{Assumed, Stack};
 use check_evidence::Evidence;
 use no_memory::NoMemory;
 use sat_budget::{Budget, Limits};
@@ -101,6 +101,7 @@ impl Session {
                 stack: Stack::new(alloc, limits.terms),
                 budget,
                 answer: None,
+                assumed: Assumed::nothing(alloc),
             },
             limits: *limits,
             mode,

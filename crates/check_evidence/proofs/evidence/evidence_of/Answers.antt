@@ -12,6 +12,7 @@ use Rattle.spec_sessions.specs.Refutations.{IsProofOf}
 use Rattle.term_core.specs.Tables.{literal_at}
 use Rattle.proof_log.specs.Logs.{inference_of, derivation_in}
 use Rattle.spec_proof_texts.specs.Readable.{IsReadableWhole}
+use Rattle.spec_proof_texts.proofs.Assumed.{assumes_planned}
 use Rattle.search_loop.specs.Rounds.{HasLogged, HasEvidence}
 use Rattle.check_evidence.proofs.Asking.{names_here, kept_values, kept_readable, known_readable}
 use Rattle.check_evidence.proofs.Assuming.{all_asserted}
@@ -59,7 +60,8 @@ returns-in_ok-plan-in-Unsat-clause-shown c = λ limits k kept readable symbols h
       planned = planned;
       written = refl;
     } in
-    (proof (proof_text (lines_of t.terms d p)), is_proof, (j.log_right, c.in_ok-plan-in-Unsat.ensures.fits, refl), (step, p, c.in-Unsat.is, planned, refl))
+    let assumes = assumes_planned (signature_of k.stack) t.terms ts d n p (names_here k.stack kept.names) is_proof.printable is_proof.over is_proof.right is_proof.derived planned in
+    (proof (proof_text (lines_of t.terms d p)), is_proof, (j.log_right, c.in_ok-plan-in-Unsat.ensures.fits, refl), (step, p, c.in-Unsat.is, planned, refl), assumes)
 
 pub returns-in-Unknown-clause-shown : goal.returns-in-Unknown-clause-shown
 returns-in-Unknown-clause-shown c = λ limits k kept readable symbols h.
