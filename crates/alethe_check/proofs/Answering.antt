@@ -6,14 +6,14 @@ use Rattle.spec_proofs.specs.declared.ProofKind.TheVariants.{NoSuchCheck}
 use Rattle.spec_proofs.specs.Faults.{Fault}
 use Rattle.spec_checking.specs.Accepted.{IsVerdict}
 use Rattle.spec_checking.specs.Commands.{known_at}
-use Rattle.term_core.specs.declared.ids.TermId.{TermId}
+use Rattle.assertion_stack.specs.declared.assuming.Assumed.{Assumed}
 use Rattle.assertion_stack.specs.Stacks.{OverTable}
 use Rattle.alethe_reader.specs.declared.errors.LocatedFault.{LocatedFault}
 use Rattle.alethe_reader.specs.Reads.{located_view}
 use Rattle.alethe_reader.specs.declared.errors.ProofStop.{ProofStop}
 use Rattle.alethe_reader.specs.declared.errors.ProofStop.TheVariants as stops
+use Rattle.script_standing.specs.Loads.{IsLoaded}
 use Rattle.alethe_check.specs.Judging.{IsJudgedFrom}
-use Rattle.alethe_check.specs.Loads.{IsLoaded}
 use Rattle.alethe_check.specs.Verdicts.{AnswersVerdict, Refuses, fault_view}
 
 -- the faults of verdicts are in the proof
@@ -32,7 +32,7 @@ module _ (script : List ℕ) (k : ℕ) (proof : List ℕ) where
   pub no_check : (r : ProofStop) → HasNoCheck term_limit script k → Refuses proof 0 NoSuchCheck r → AnswersVerdict script k proof (Err r)
   no_check r h s = answered record { offset = 0; kind = NoSuchCheck } r (inr (h, refl)) s
 
-  module _ (x : OverTable) (ids : List TermId) (l : IsLoaded script k x ids) where
+  module _ (x : OverTable) (a : Assumed) (l : IsLoaded script k x a) where
     verdict : (found : Option Fault) → IsJudgedFrom (known_at l.check) proof found → IsVerdict script k proof found
     verdict found j = inl (l.check, l.current, record { commands = j.commands; ending = j.ending; read = j.read; fault = j.fault })
 

@@ -6,5 +6,4 @@ pub mod OneLiterals
 pub mod Commands
 pub mod Judged
 pub mod Empties
-pub mod Loading
 pub mod Answering

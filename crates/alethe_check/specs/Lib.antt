@@ -1,5 +1,4 @@
 -- The definitions that contracts cite.
 pub mod Stating
 pub mod Judging
-pub mod Loads
 pub mod Verdicts

@@ -6,20 +6,20 @@ ghost use Rattle.spec_commands.specs.Checks.{Check, HasNoModel, term_limit};
 ghost use Rattle.spec_checking.specs.Accepted.{IsAccepted};
 ghost use Rattle.spec_checking.specs.Commands.{known_at};
 ghost use Rattle.assertion_stack.specs.Stacks.{over_table, AreAssumed, IsStack};
+ghost use Rattle.script_standing.specs.Loads.{HasCheck};
 ghost use Rattle.alethe_check.specs.Judging.{JudgesAll};
-ghost use Rattle.alethe_check.specs.Loads.{HasCheck};
 ghost use Rattle.alethe_check.specs.Verdicts.{AnswersVerdict, Refuses};
 
 mod command;
 mod judge;
-mod load;
 mod premises;
 mod rules;
 
 use alethe_reader::{CommandError, ProofState};
 pub use alethe_reader::{ProofFault, ProofStop};
 use judge::judge;
-use load::{Script, current_at};
+use script_standing::{Script, current_at};
+pub use script_standing::{Expression, Standing, standing_at};
 use smt_lexer::place_at;
 pub use spec_proofs::ProofKind;
 pub use spec_text::Place;

@@ -11,15 +11,15 @@ pub refused-requires : goal.refused-requires
 refused-requires c =
     let l = rw c.in-Ok-Some.field-0-is at c.in-Ok-Some.ensures in
     let j = rw c.in-Err-Fault.field-0-is at c.in-Err-Fault.ensures in
-    fault_inside c.args.script.now c.args.at c.args.proof.now (over_table c.in-Ok-Some.stated.table c.in-Ok-Some.stated.stack) c.in-Ok-Some.stated.assumed.ids.items l c.faults_are_in_their_proof.ensures c.in-Err-Fault.found (j term_limit l.check l.represents l.assumed)
+    fault_inside c.args.script.now c.args.at c.args.proof.now (over_table c.in-Ok-Some.stated.table c.in-Ok-Some.stated.stack) c.in-Ok-Some.stated.assumed l c.faults_are_in_their_proof.ensures c.in-Err-Fault.found (j term_limit l.check l.represents l.assumed)
 
 pub returns-in-Ok : goal.returns-in-Ok
 returns-in-Ok c =
     let l = rw c.in-Ok-Some.field-0-is at c.in-Ok-Some.ensures in
-    accepted c.args.script.now c.args.at c.args.proof.now (over_table c.in-Ok-Some.stated.table c.in-Ok-Some.stated.stack) c.in-Ok-Some.stated.assumed.ids.items l tt (c.in-Ok.ensures term_limit l.check l.represents l.assumed)
+    accepted c.args.script.now c.args.at c.args.proof.now (over_table c.in-Ok-Some.stated.table c.in-Ok-Some.stated.stack) c.in-Ok-Some.stated.assumed l tt (c.in-Ok.ensures term_limit l.check l.represents l.assumed)
 
 pub returns-in-Err-Fault : goal.returns-in-Err-Fault
 returns-in-Err-Fault c =
     let l = rw c.in-Ok-Some.field-0-is at c.in-Ok-Some.ensures in
     let j = rw c.in-Err-Fault.field-0-is at c.in-Err-Fault.ensures in
-    fault_told c.args.script.now c.args.at c.args.proof.now (over_table c.in-Ok-Some.stated.table c.in-Ok-Some.stated.stack) c.in-Ok-Some.stated.assumed.ids.items l c.in-Err-Fault.found c.refused.result (j term_limit l.check l.represents l.assumed) c.refused.ensures
+    fault_told c.args.script.now c.args.at c.args.proof.now (over_table c.in-Ok-Some.stated.table c.in-Ok-Some.stated.stack) c.in-Ok-Some.stated.assumed l c.in-Err-Fault.found c.refused.result (j term_limit l.check l.represents l.assumed) c.refused.ensures

@@ -1,9 +1,9 @@
 -- A script read command by command, up to a check.
-use Rattle.std.proofs.Common.{◌≡◌, ◌-◌, ℕ, zero, suc, List, [], length, Option, Some, None, refl, sym, ap, ◌∙◌, subst, arith}
+use Rattle.std.proofs.Common.{◌≡◌, ◌-◌, ℕ, zero, suc, List, [], ◌++◌, length, append_assoc, Option, Some, None, refl, sym, ap, ◌∙◌, subst, arith}
 use Rattle.std.specs.Prelude.{Ok, Err}
 use Rattle.spec_text.specs.declared.Place.{Place}
 use Rattle.spec_text.specs.Lexemes.{Lexeme, lexemes, lexemes_from}
-use Rattle.spec_text.specs.Trees.{Tree, Trees, none, more}
+use Rattle.spec_text.specs.Trees.{Tree, Trees, none, more, spelled, spelled_all}
 use Rattle.spec_text.specs.Faults.{Located}
 use Rattle.spec_text.specs.Answers.{Answer}
 use Rattle.spec_text.specs.Readings.{AreTrees, StopsAt, EndsTrees, kept, is_long, limited, IsReadUpTo}
@@ -22,8 +22,21 @@ use Rattle.assertion_stack.specs.declared.assuming.Assumed.{Assumed}
 use Rattle.assertion_stack.specs.declared.stack.Effect.{Effect as CodeEffect}
 use Rattle.assertion_stack.specs.declared.stack.Effect.TheVariants as effects
 use Rattle.assertion_stack.specs.Stacks.{OverTable, EffectMeans, IsStack, Steps}
-use Rattle.alethe_reader.proofs.Rows.{nothing_first, read_first}
-use Rattle.alethe_check.specs.Loads.{IsLoaded}
+use Rattle.script_standing.specs.Loads.{IsLoaded}
+
+-- no tree comes first
+nothing_first : (xs : List (ℕ × Lexeme)) → AreTrees 0 xs none xs
+nothing_first xs = record { split = refl; within = omega arith }
+
+-- one tree that was read, and then others
+read_first : (text : List ℕ) (from : Place) (s : Sexpr) (after : Place) → ReadsSexpr text from 0 s after → (us : Trees) (rest : List (ℕ × Lexeme)) → AreTrees 0 (lexemes_from text after.offset) us rest
+    → AreTrees 0 (lexemes_from text from.offset) (more (tree_of s) us) rest
+read_first text from s after r us rest h =
+    let flat = r.is.within in
+    record {
+      split = r.is.first ∙ ap (λ zs. spelled (tree_of s) ++ zs) h.split ∙ sym (append_assoc (spelled (tree_of s)) (spelled_all us) rest);
+      within = omega (arith, flat, h.within);
+    }
 
 -- A script was read up to an offset: each reading from there on is one of all, and has its check.
 pub record Loading (bytes : List ℕ) (k : ℕ) (x : OverTable) (at left : ℕ) : Type 0 where
@@ -84,7 +97,7 @@ module _ (text : List ℕ) (k : ℕ) (x : OverTable) (from : Place) (left : ℕ)
   script_ends : (stop : Option Located) → EndsTrees (length (kept text)) (lexemes_from (kept text) from.offset) stop → HasNoCheck term_limit text k
   script_ends stop s =
       let rest = lexemes_from (kept text) from.offset in
-      let o = l.onward none rest (nothing_first 0 rest (omega arith)) in
+      let o = l.onward none rest (nothing_first rest) in
       record { commands = o.0; end = limited (is_long text) stop; read = read_whole text o.0 rest stop o.1 s; none_here = o.2 ∙ nothing_at l.stack left }
 
   pub script_finishes : lexemes_from (kept text) from.offset ≡ [] → HasNoCheck term_limit text k
@@ -97,14 +110,14 @@ module _ (text : List ℕ) (k : ℕ) (x : OverTable) (from : Place) (left : ℕ)
     -- what comes next, in all
     next_tree : (us : Trees) (rest : List (ℕ × Lexeme)) → AreTrees 0 (lexemes_from (kept text) after.offset) us rest
         → (ts : Trees) × AreTrees 0 (lexemes 0 0 (kept text)) ts rest × (current_at term_limit empty_stack k ts ≡ current_at term_limit l.stack left (more (tree_of s) us))
-    next_tree us rest a = l.onward (more (tree_of s) us) rest (read_first (kept text) from 0 s after (omega arith) r us rest a)
+    next_tree us rest a = l.onward (more (tree_of s) us) rest (read_first (kept text) from s after r us rest a)
 
     -- what the command comes to
     abbrev pub Stepped : CodeEffect → OverTable → Type 0
     Stepped answer new = Steps term_limit (step term_limit l.stack (tree_of s)) s new (Ok answer)
 
     -- the check, or the end of the script
-    pub check_here : (place : ℕ) (a : Assumed) (new : OverTable) → left ≡ 1 → Stepped (effects.Check place a) new → EachIsRead (kept text) after.offset → IsLoaded text k new a.ids.items
+    pub check_here : (place : ℕ) (a : Assumed) (new : OverTable) → left ≡ 1 → Stepped (effects.Check place a) new → EachIsRead (kept text) after.offset → IsLoaded text k new a
     check_here place a new one d b =
         let o = next_tree b.0 b.1 b.2 in
         let stop = stop_of (length (kept text)) b.1 b.3 in
@@ -116,6 +129,7 @@ module _ (text : List ℕ) (k : ℕ) (x : OverTable) (from : Place) (left : ℕ)
           current = record { commands = o.0; end = limited (is_long text) stop.0; read = read_whole text o.0 b.1 stop.0 o.1 stop.1; here = o.2 ∙ here };
           represents = d.3;
           assumed = d.2.2;
+          starts = d.2.3;
         }
 
     pub leaves_here : (new : OverTable) → Stepped effects.Exit new → EachIsRead (kept text) after.offset → HasNoCheck term_limit text k

@@ -6,9 +6,9 @@ use Rattle.spec_commands.specs.Checks.{term_limit}
 use Rattle.smt_sexpr.specs.Limited.{whole_of}
 use Rattle.assertion_stack.specs.declared.stack.Effect.TheVariants as effects
 use Rattle.assertion_stack.specs.Stacks.{OverTable, over_table}
-use Rattle.alethe_check.proofs.Loading.{loading_begins, script_finishes, script_breaks, check_here, leaves_here, one_less, no_less, taken_here, refused_here}
-use Rattle.alethe_check.proofs.load.reaches_check.Goals.{in-Ok-Check+else-left-eq1, in-Ok-Done, in-Ok-Unsupported, in-Ok-Say, in-Err-Fault-command}
-use Rattle.alethe_check.proofs.load.reaches_check.Goals as goal
+use Rattle.script_standing.proofs.Loading.{loading_begins, script_finishes, script_breaks, check_here, leaves_here, one_less, no_less, taken_here, refused_here}
+use Rattle.script_standing.proofs.load.reaches_check.Goals.{in-Ok-Check+else-left-eq1, in-Ok-Done, in-Ok-Unsupported, in-Ok-Say, in-Err-Fault-command}
+use Rattle.script_standing.proofs.load.reaches_check.Goals as goal
 
 pub commands-init : goal.commands-init
 commands-init c =

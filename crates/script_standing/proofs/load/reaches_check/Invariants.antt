@@ -3,8 +3,8 @@ use Rattle.spec_text.specs.Places.{IsPlaceOf}
 use Rattle.spec_text.specs.Readings.{kept}
 use Rattle.smt_sexpr.specs.Limited.{whole_of}
 use Rattle.assertion_stack.specs.Stacks.{over_table}
-use Rattle.alethe_check.proofs.Loading.{Loading}
-use Rattle.alethe_check.proofs.load.reaches_check.Given as goal
+use Rattle.script_standing.proofs.Loading.{Loading}
+use Rattle.script_standing.proofs.load.reaches_check.Given as goal
 
 abbrev pub invariant-commands : goal.invariant-commands
 invariant-commands l = record {

@@ -4,7 +4,7 @@ ghost use Rattle.spec_commands.specs.Stack.{empty_stack};
 ghost use Rattle.spec_commands.specs.Checks.{term_limit};
 ghost use Rattle.smt_sexpr.specs.Limited.{whole_of};
 ghost use Rattle.assertion_stack.specs.Stacks.{over_table, IsStack};
-ghost use Rattle.alethe_check.specs.Loads.{Loads, Reaches};
+ghost use Rattle.script_standing.specs.Loads.{Loads, Reaches};
 
 use assertion_stack::{Assumed, Effect, Stack, TERM_LIMIT};
 use no_memory::NoMemory;
@@ -13,9 +13,12 @@ use smt_sexpr::LimitedText;
 use std::alloc::Global;
 use term_core::TermTable;
 
-/// Holds what a check asks about: the script's stack there, what the check assumes, and the table that has the terms of both.
+/// Holds what is current at a check: the script's stack there, what the check assumes, and the table that has the terms of
+/// both.
+///
+/// Source: SMT-LIB 2.6, sections 4.1.4 and 4.2.5.
 #[derive(Drop)]
-pub(crate) struct Script {
+pub struct Script {
     /// The terms, and what is declared.
     pub table: TermTable,
     /// The names, the assertions and the options.
@@ -82,8 +85,11 @@ fn current_in(alloc: Global, text: LimitedText<'_>, at: u64) -> Result<Option<Sc
 }
 
 /// Takes the commands of a script up to its `at`-th check, counted from 1, and gives what is current there: `None` where
-/// the script ends before it. Commands that are refused change nothing, and are passed over.
-pub(crate) fn current_at(alloc: Global, text: &[u8], at: u64) -> Result<Option<Script>, NoMemory>
+/// the script ends before it, by its end, by `exit`, or by a fault after which it cannot be read on.
+///
+/// Commands that are refused change nothing, and are passed over. Of the script the first 2^26 bytes are read. `NoMemory`
+/// may come at any allocation, and says nothing of the script. Source: SMT-LIB 2.6, sections 4.1.4 and 4.2.5.
+pub fn current_at(alloc: Global, text: &[u8], at: u64) -> Result<Option<Script>, NoMemory>
     ensures { Loads text.now at result }
 {
     current_in(alloc, LimitedText::new(text), at)
