@@ -1,0 +1,4 @@
+-- The lemmas of this crate.
+pub mod Firsts
+pub mod AllTrue
+pub mod Judged
