@@ -1,5 +1,5 @@
 -- From the end of a run to what was passed on after it.
-use Rattle.std.proofs.Common.{◌≡◌, ◌≢◌, ◌⊎◌, inl, inr, sym, ap, ◌∙◌, ℕ, ◌-◌, ◌≤◌, Bool, true, false, List, length, Option, Some, None, arith}
+use Rattle.std.proofs.Common.{◌≡◌, ◌≢◌, refl, ◌⊎◌, inl, inr, sym, ap, ◌∙◌, ℕ, ◌-◌, ◌≤◌, Bool, true, false, List, length, Option, Some, None, arith}
 use Rattle.std.specs.Prelude.{Ok}
 use Rattle.std.proofs.lemmas.Bool.{false≢true}
 use Rattle.world_io.specs.Writing.{SinkView, HasRoom, Sent, NotSent, Flushed, NotFlushed}
@@ -15,9 +15,10 @@ use Rattle.spec_sessions.specs.Statements.{OnTranscript, OnBegun}
 use Rattle.script_run.specs.Runs.{Delivered}
 use Rattle.script_run.specs.Scripts.{Holdings}
 use Rattle.smt_session.proofs.Delivering.{flushed, not_flushed}
-use Rattle.smt_top.specs.Arguments.{Asked, runs, checks, generates, limits_by}
-use Rattle.smt_top.specs.Output.{longest_line}
-use Rattle.smt_top.specs.RunMeans.{RunMeans, IsUnread, is_answered}
+use Rattle.smt_top.specs.Arguments.{Asked, runs, judges, generates, limits_by}
+use Rattle.judge_run.specs.Judgings.{longest_line}
+use Rattle.judge_run.specs.Runs.{IsUnread}
+use Rattle.smt_top.specs.RunMeans.{RunMeans, is_answered}
 
 -- a whole transcript is one that was begun
 whole_is_begun : (limits : Limits) (mode : Mode) (text : List ℕ) (refused : Bool) (P Q : List ℕ → Type 0) → ((all : List ℕ) → P all → Q all) → OnTranscript limits mode text refused P → OnBegun limits mode text Q
@@ -35,16 +36,16 @@ module _ (holds : Holdings) (old mid new : SinkView) where
     -- what waited was passed on, and nothing else is changed
     pub ends_kept : (status : Status) (asked : Option Asked) → is_answered status ≡ true → RunMeans status asked holds old mid → RunMeans status asked holds old new
     ends_kept Done None e r = absurd r
-    ends_kept Done (Some (checks n)) e (script, proof, s, p, (valid, w)) = (script, proof, s, p, (valid, kept _ w))
+    ends_kept Done (Some (judges n)) e (script, text, s, t, (accepted, w)) = (script, text, s, t, (accepted, kept _ w))
     ends_kept Done (Some (generates n)) e (line, is, w) = (line, is, kept _ w)
     ends_kept Done (Some (runs mode name conflicts)) e (text, held, (all, t, say, w)) = (text, held, (all, t, say, kept_all all w))
     ends_kept Refused None e r = absurd r
-    ends_kept Refused (Some (checks n)) e (script, proof, s, p, (fault, r)) =
-        (script, proof, s, p, (fault, record { verdict = r.verdict; short = r.short; written = kept _ r.written }))
+    ends_kept Refused (Some (judges n)) e (script, text, s, t, r) =
+        (script, text, s, t, record { line = r.line; refuses = r.refuses; short = r.short; written = kept _ r.written })
     ends_kept Refused (Some (generates n)) e r = absurd r
     ends_kept Refused (Some (runs mode name conflicts)) e (text, held, (all, t, say, w)) = (text, held, (all, t, say, kept_all all w))
-    ends_kept Words None e (is, w) = (is, kept _ w)
-    ends_kept Words (Some (checks n)) e (is, w) = (is, kept _ w)
+    ends_kept Words None e w = kept _ w
+    ends_kept Words (Some (judges n)) e r = absurd r
     ends_kept Words (Some (generates n)) e r = absurd r
     ends_kept Words (Some (runs mode name conflicts)) e r = absurd r
     ends_kept Memory asked e r = cc
@@ -62,16 +63,17 @@ module _ (holds : Holdings) (old mid new : SinkView) where
     -- what waited could not be passed on
     pub ends_cut : (status : Status) (asked : Option Asked) → is_answered status ≡ true → RunMeans status asked holds old mid → RunMeans WriteFault asked holds old new
     ends_cut Done None e r = absurd r
-    ends_cut Done (Some (checks n)) e (script, proof, s, p, (valid, w)) = ((script, proof, s, p, (None, valid.verdict, cut _ w.0)), no_room longest_line _ w.0 (omega arith))
+    ends_cut Done (Some (judges n)) e (script, text, s, t, (accepted, w)) =
+        (script, text, s, t, ((_, inl (accepted, refl), cut _ w.0), no_room longest_line _ w.0 (omega arith)))
     ends_cut Done (Some (generates n)) e (line, is, w) = (line, is, cut _ w.0)
     ends_cut Done (Some (runs mode name conflicts)) e (text, held, t) = (text, held, whole_is_begun (limits_by conflicts) mode text false _ _ (λ all d. cut all d.sent) t)
     ends_cut Refused None e r = absurd r
-    ends_cut Refused (Some (checks n)) e (script, proof, s, p, (fault, r)) =
-        ((script, proof, s, p, (Some fault, r.verdict, cut _ r.written.0)), no_room longest_line _ r.written.0 r.short)
+    ends_cut Refused (Some (judges n)) e (script, text, s, t, r) =
+        (script, text, s, t, ((r.line, inr r.refuses, cut _ r.written.0), no_room longest_line _ r.written.0 r.short))
     ends_cut Refused (Some (generates n)) e r = absurd r
     ends_cut Refused (Some (runs mode name conflicts)) e (text, held, t) = (text, held, whole_is_begun (limits_by conflicts) mode text true _ _ (λ all d. cut all d.sent) t)
-    ends_cut Words None e (is, w) = (cut _ w.0, no_room longest_line _ w.0 (omega arith))
-    ends_cut Words (Some (checks n)) e (is, w) = cc
+    ends_cut Words None e w = (cut _ w.0, no_room longest_line _ w.0 (omega arith))
+    ends_cut Words (Some (judges n)) e r = absurd r
     ends_cut Words (Some (generates n)) e r = absurd r
     ends_cut Words (Some (runs mode name conflicts)) e r = absurd r
     ends_cut Memory asked e r = cc

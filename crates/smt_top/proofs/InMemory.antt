@@ -9,11 +9,12 @@ use Rattle.script_run.specs.declared.status.Status.{Status}
 use Rattle.script_run.specs.declared.status.Status.TheVariants.{Done, Refused, Words, Memory, ReadFault, WriteFault}
 use Rattle.script_run.specs.Scripts.{Holdings, ScriptRun, ScriptMeans}
 use Rattle.script_run.proofs.Leaving.{answered_as}
-use Rattle.smt_top.specs.Arguments.{ProofNames, Asked, runs, checks, generates, limits_by}
-use Rattle.smt_top.specs.Output.{longest_line}
+use Rattle.judge_run.specs.Judgings.{longest_line}
+use Rattle.judge_run.specs.Runs.{JudgedNames, JudgeMeans, BothHold, IsUnread}
+use Rattle.smt_top.specs.Arguments.{Asked, runs, judges, generates, limits_by}
 use Rattle.smt_top.specs.Generated.{GenMeans}
-use Rattle.smt_top.specs.RunMeans.{CheckMeans, RunMeans, AreHeld, BothHold, IsUnread}
-use Rattle.smt_top.specs.InMemory.{WritesBytes, LacksRoom, GrowsByPrefix, CheckEndsInMemory, ScriptEndsInMemory, UsageEndsInMemory, GenEndsInMemory, EndsInMemory}
+use Rattle.smt_top.specs.RunMeans.{UsageMeans, RunMeans, AreHeld}
+use Rattle.smt_top.specs.InMemory.{WritesBytes, LacksRoom, GrowsByPrefix, JudgeEndsInMemory, ScriptEndsInMemory, UsageEndsInMemory, GenEndsInMemory, EndsInMemory}
 
 -- a text that is known, and is this one
 known_is : (o : Option (List ℕ)) (text : List ℕ) → IsSome o → IfSome o (λ t. t ≡ text) → o ≡ Some text
@@ -48,12 +49,12 @@ module _ (texts : List Text) (old new : SinkState) where
   cut : (x : List ℕ) → NotSent x before after → GrowsByPrefix old new x
   cut x s = (s.prefix, lacks_room (length x) s.room)
 
-  usage_ends : (status : Status) → CheckMeans status None (text_named texts) before after → UsageEndsInMemory status old new
+  usage_ends : (status : Status) → UsageMeans status before after → UsageEndsInMemory status old new
   usage_ends Done h = h
   usage_ends Refused h = h
-  usage_ends Words h = grows _ h.1.0
+  usage_ends Words h = grows _ h.0
   usage_ends Memory h = same_written old new h
-  usage_ends ReadFault h = absurd (false≢true h.0)
+  usage_ends ReadFault h = h
   usage_ends WriteFault h = (cut _ h.0, lacks_room longest_line h.1)
 
   made : (status : Status) (n : ℕ) → GenMeans status n before after → GenEndsInMemory status n old new
@@ -64,21 +65,21 @@ module _ (texts : List Text) (old new : SinkState) where
   made ReadFault n h = h
   made WriteFault n (line, is, w) = (line, is, cut _ w)
 
-  checked : (status : Status) (n : ProofNames) → CheckMeans status (Some n) (text_named texts) before after
-      → BothHold (Some n) (text_named texts) ⊎ IsUnread status before after → CheckEndsInMemory status n texts old new
-  checked Done n (script, proof, s, p, (valid, w)) (inl held) = (script, proof, known_is _ script held.0 s, known_is _ proof held.1 p, (valid, grows _ w.0))
-  checked Done n h (inr (inl e, same)) = cc
-  checked Done n h (inr (inr e, same)) = cc
-  checked Refused n (script, proof, s, p, (f, r)) (inl held) = (script, proof, known_is _ script held.0 s, known_is _ proof held.1 p, (f, r.verdict, grows _ r.written.0))
-  checked Refused n h (inr (inl e, same)) = cc
-  checked Refused n h (inr (inr e, same)) = cc
-  checked Words n h found = cc
-  checked Memory n h found = same_written old new h
-  checked ReadFault n h found = same_written old new h.1
-  checked WriteFault n ((script, proof, s, p, (found, v, w)), room) (inl held) =
-      ((script, proof, known_is _ script held.0 s, known_is _ proof held.1 p, (found, v, cut _ w)), lacks_room longest_line room)
-  checked WriteFault n h (inr (inl e, same)) = cc
-  checked WriteFault n h (inr (inr e, same)) = cc
+  judged : (status : Status) (n : JudgedNames) → JudgeMeans status n (text_named texts) before after
+      → BothHold n (text_named texts) ⊎ IsUnread status before after → JudgeEndsInMemory status n texts old new
+  judged Done n (script, text, s, t, (accepted, w)) (inl held) = (script, text, known_is _ script held.0 s, known_is _ text held.1 t, (accepted, grows _ w.0))
+  judged Done n h (inr (inl e, same)) = cc
+  judged Done n h (inr (inr e, same)) = cc
+  judged Refused n (script, text, s, t, r) (inl held) = (script, text, known_is _ script held.0 s, known_is _ text held.1 t, (r.line, r.refuses, grows _ r.written.0))
+  judged Refused n h (inr (inl e, same)) = cc
+  judged Refused n h (inr (inr e, same)) = cc
+  judged Words n h found = absurd h
+  judged Memory n h found = same_written old new h
+  judged ReadFault n h found = same_written old new h
+  judged WriteFault n (script, text, s, t, ((line, is, w), room)) (inl held) =
+      ((script, text, known_is _ script held.0 s, known_is _ text held.1 t, (line, is, cut _ w)), lacks_room longest_line room)
+  judged WriteFault n h (inr (inl e, same)) = cc
+  judged WriteFault n h (inr (inr e, same)) = cc
 
   ran : (status : Status) (r : ScriptRun) → ScriptMeans status r (text_named texts) before after
       → IsSome (text_named texts r.name) ⊎ IsUnread status before after → ScriptEndsInMemory status r texts old new
@@ -102,7 +103,7 @@ module _ (texts : List Text) (old new : SinkState) where
   pub ends_in_memory : (status : Status) (asked : Option Asked) → RunMeans status asked (text_named texts) before after
       → AreHeld asked (text_named texts) ⊎ IsUnread status before after → EndsInMemory status asked texts old new
   ends_in_memory status None h found = usage_ends status h
-  ends_in_memory status (Some (checks n)) h found = checked status n h found
+  ends_in_memory status (Some (judges n)) h found = judged status n h found
   ends_in_memory status (Some (generates n)) h found = made status n h
   ends_in_memory status (Some (runs mode name conflicts)) h found = ran status (record { mode = mode; name = name; limits = limits_by conflicts }) h found
 
@@ -110,5 +111,5 @@ module _ (texts : List Text) (old new : SinkState) where
 pub fault_counted : (asked : Option Asked) (holds : Holdings) (old new : SinkView) → RunMeans WriteFault asked holds old new → Rose old.faults new.faults
 fault_counted None holds old new h = h.0.failed
 fault_counted (Some (generates n)) holds old new (line, is, w) = w.failed
-fault_counted (Some (checks n)) holds old new ((script, proof, s, p, (found, v, w)), room) = w.failed
+fault_counted (Some (judges n)) holds old new (script, text, s, t, ((line, is, w), room)) = w.failed
 fault_counted (Some (runs mode name conflicts)) holds old new (text, e, (begun, t, say, d)) = d.failed

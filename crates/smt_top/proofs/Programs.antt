@@ -5,7 +5,7 @@ use Rattle.script_run.specs.declared.status.Status.{Status}
 use Rattle.script_run.specs.declared.status.Status.TheVariants.{Done, Refused, Words, Memory, ReadFault, WriteFault}
 use Rattle.script_run.specs.Runs.{code_of}
 use Rattle.script_run.specs.Scripts.{Holdings}
-use Rattle.smt_top.specs.Arguments.{Asked, runs, checks, generates, asked, asked_of}
+use Rattle.smt_top.specs.Arguments.{Asked, runs, judges, generates, asked, asked_of}
 use Rattle.smt_top.specs.CommandLine.{AreTaken}
 use Rattle.smt_top.specs.RunMeans.{RunMeans, is_answered}
 use Rattle.smt_top.specs.Program.{Exits}
@@ -18,7 +18,7 @@ asked_by_bytes arguments = refl
 -- where memory runs out before anything is read or written, that is a run
 runs_out : (wanted : Option Asked) (holds : Holdings) (s : SinkView) → RunMeans Memory wanted holds s s
 runs_out None holds s = refl
-runs_out (Some (checks n)) holds s = refl
+runs_out (Some (judges n)) holds s = refl
 runs_out (Some (generates n)) holds s = refl
 runs_out (Some (runs mode name conflicts)) holds s = inr refl
 

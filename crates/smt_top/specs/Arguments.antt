@@ -9,22 +9,15 @@ use Rattle.clap.specs.Words.{with_rule, with_subcommand}
 use Rattle.spec_commands.specs.Checks.{term_limit}
 use Rattle.spec_sessions.specs.Evidence.{Limits}
 use Rattle.spec_sessions.specs.Responses.{Mode, solve, certify}
-
--- The names of a script and of a proof, and the check that is meant.
-pub record ProofNames : Type 0 where
-  -- the script's name
-  pub script : List ℕ
-  -- the proof's name
-  pub proof : List ℕ
-  -- which of the script's checks is meant, from 1
-  pub at : ℕ
+use Rattle.judge_run.specs.Judgings.{Judging, a_proof, a_model}
+use Rattle.judge_run.specs.Runs.{JudgedNames}
 
 -- What the arguments of a run ask for.
 pub data Asked : Type 0 where
   -- a script is to be run: how much is written, its name, and how many conflicts each search of a check may learn from
   runs : Mode → List ℕ → ℕ → Asked
-  -- a proof is to be judged against a script
-  checks : ProofNames → Asked
+  -- a text is to be judged against a script, as a proof or as a model
+  judges : JudgedNames → Asked
   -- the script of this size is to be made and run
   generates : ℕ → Asked
 
@@ -40,10 +33,10 @@ required_argument id = record (new_rule id) { required = true }
 abbrev pub run_app : Text → App
 run_app name = with_rule (with_rule (new_app name) (option_named (codes "conflicts"))) (new_rule (codes "name"))
 
--- the command `check [--at K] SCRIPT PROOF`
-abbrev pub check_app : App
-check_app = with_rule (with_rule (with_rule (new_app (codes "check")) (option_named (codes "at")))
-    (required_argument (codes "script"))) (required_argument (codes "proof"))
+-- a command of this name with the arguments `[--at K] SCRIPT TEXT`, the last one of another name
+abbrev pub judge_app : (name text : Text) → App
+judge_app name text = with_rule (with_rule (with_rule (new_app name) (option_named (codes "at")))
+    (required_argument (codes "script"))) (required_argument text)
 
 -- the command `gen N`
 abbrev pub gen_app : App
@@ -66,9 +59,14 @@ bare_app =
 abbrev pub app_with_runs : App
 app_with_runs = with_subcommand (with_subcommand bare_app (run_app (codes "solve")).top) (run_app (codes "certify")).top
 
+-- the program with these and the commands that judge a text, and no other
+abbrev pub app_with_judgings : App
+app_with_judgings = with_subcommand (with_subcommand app_with_runs (judge_app (codes "check") (codes "proof")).top)
+    (judge_app (codes "validate") (codes "model")).top
+
 -- the program
 abbrev pub smt_app : App
-smt_app = with_subcommand (with_subcommand app_with_runs check_app.top) gen_app.top
+smt_app = with_subcommand app_with_judgings gen_app.top
 
 -- no number of the arguments is greater
 abbrev pub most_number : ℕ
@@ -115,14 +113,15 @@ abbrev pub run_in : Mode → List Row → Option Asked
 run_in mode rows = option_map (runs mode (unwrap_or (first_of (codes "name") rows) []))
     (number_or usual_conflicts (first_of (codes "conflicts") rows))
 
--- all three are there
-abbrev pub all_three : Option Text → Option Text → Option ℕ → Option ProofNames
-all_three (Some script) (Some proof) (Some at) = Some (record { script = script; proof = proof; at = at })
-all_three _ _ _ = None
+-- all three are there, for a text that is judged so
+abbrev pub all_three : Judging → Option Text → Option Text → Option ℕ → Option JudgedNames
+all_three judging (Some script) (Some text) (Some at) =
+    Some (record { judging = judging; script = script; at = at; text = text })
+all_three _ _ _ _ = None
 
--- the values of `script`, `proof` and `at` of a command's matches
-abbrev pub names_in : List Row → Option ProofNames
-names_in rows = all_three (first_of (codes "script") rows) (first_of (codes "proof") rows)
+-- the values of `script`, `at` and the argument of this name, of a command's matches
+abbrev pub names_in : Judging → Text → List Row → Option JudgedNames
+names_in judging text rows = all_three judging (first_of (codes "script") rows) (first_of text rows)
     (number_or 1 (first_of (codes "at") rows))
 
 -- the size that the value of `size` of a command's matches stands for
@@ -134,7 +133,8 @@ abbrev pub asked_in : Text × List Row → Option Asked
 asked_in m =
     if bytes_eq m.0 (codes "solve") then run_in solve m.1
     else if bytes_eq m.0 (codes "certify") then run_in certify m.1
-    else if bytes_eq m.0 (codes "check") then option_map checks (names_in m.1)
+    else if bytes_eq m.0 (codes "check") then option_map judges (names_in a_proof (codes "proof") m.1)
+    else if bytes_eq m.0 (codes "validate") then option_map judges (names_in a_model (codes "model") m.1)
     else if bytes_eq m.0 (codes "gen") then option_map generates (size_in m.1)
     else None
 

@@ -1,22 +1,21 @@
 -- A run from memory to memory.
 use Rattle.std.specs.Prelude.{◌≡◌, ℕ, ◌<◌, ◌≤◌, true, false, List, [], ◌++◌, length, take, Option, Some, None, ◌⊎◌}
 use Rattle.world_io.specs.Memory.{Text, text_named, SinkState}
-use Rattle.spec_proofs.specs.Faults.{Fault}
-use Rattle.spec_checking.specs.Accepted.{IsVerdict}
 use Rattle.script_run.specs.declared.status.Status.{Status}
 use Rattle.script_run.specs.declared.status.Status.TheVariants.{Done, Refused, Words, Memory, ReadFault, WriteFault}
 use Rattle.spec_sessions.specs.Statements.{OnTranscript, OnBegun}
-use Rattle.smt_top.specs.Arguments.{ProofNames, Asked, runs, checks, generates, limits_by}
 use Rattle.script_run.specs.Scripts.{ScriptRun, OnRead}
-use Rattle.smt_top.specs.RunMeans.{IsValid}
-use Rattle.smt_top.specs.Output.{usage, valid, error_line, output_of, longest_line}
+use Rattle.judge_run.specs.Judgings.{JudgedTexts, Accepts, Refuses, IsVerdictLine, valid, longest_line}
+use Rattle.judge_run.specs.Runs.{JudgedNames, judged_texts}
+use Rattle.smt_top.specs.Arguments.{Asked, runs, judges, generates, limits_by}
+use Rattle.smt_top.specs.Output.{usage}
 use Rattle.smt_top.specs.Generated.{IsLineOf}
 
--- both names have texts, and P is true of these and of the check that is meant
-abbrev pub OnNamed : ProofNames → List Text → (List ℕ → ℕ → List ℕ → Type 0) → Type 0
+-- both names have texts, and P is true of these, judged as they are to be
+abbrev pub OnNamed : JudgedNames → List Text → (JudgedTexts → Type 0) → Type 0
 OnNamed n texts P =
-    (script : List ℕ) × (proof : List ℕ) × (text_named texts n.script ≡ Some script)
-    × (text_named texts n.proof ≡ Some proof) × P script n.at proof
+    (script : List ℕ) × (text : List ℕ) × (text_named texts n.script ≡ Some script)
+    × (text_named texts n.text ≡ Some text) × P (judged_texts n script text)
 
 -- the bytes were written
 abbrev pub WritesBytes : SinkState → SinkState → List ℕ → Type 0
@@ -31,19 +30,16 @@ abbrev pub GrowsByPrefix : SinkState → SinkState → List ℕ → Type 0
 GrowsByPrefix old new bytes = ((n : ℕ) × (n ≤ length bytes) × (new.written ≡ old.written ++ take n bytes))
     × LacksRoom old (length bytes)
 
--- how a run that judges a proof ends, by its status
-abbrev pub CheckEndsInMemory : Status → ProofNames → List Text → SinkState → SinkState → Type 0
-CheckEndsInMemory Done n texts old new = OnNamed n texts (λ script at proof. IsValid script at proof
-    × WritesBytes old new valid)
-CheckEndsInMemory Refused n texts old new =
-    OnNamed n texts (λ script at proof. (f : Fault) × IsVerdict script at proof (Some f)
-    × WritesBytes old new (error_line proof f))
-CheckEndsInMemory Words n texts old new = ⊥
-CheckEndsInMemory Memory n texts old new = new.written ≡ old.written
-CheckEndsInMemory ReadFault n texts old new = new.written ≡ old.written
-CheckEndsInMemory WriteFault n texts old new =
-    OnNamed n texts (λ script at proof. (found : Option Fault) × IsVerdict script at proof found
-    × GrowsByPrefix old new (output_of proof found))
+-- how a run that judges a text ends, by its status
+abbrev pub JudgeEndsInMemory : Status → JudgedNames → List Text → SinkState → SinkState → Type 0
+JudgeEndsInMemory Done n texts old new = OnNamed n texts (λ t. Accepts t × WritesBytes old new valid)
+JudgeEndsInMemory Refused n texts old new =
+    OnNamed n texts (λ t. (line : List ℕ) × Refuses t line × WritesBytes old new line)
+JudgeEndsInMemory Words n texts old new = ⊥
+JudgeEndsInMemory Memory n texts old new = new.written ≡ old.written
+JudgeEndsInMemory ReadFault n texts old new = new.written ≡ old.written
+JudgeEndsInMemory WriteFault n texts old new =
+    OnNamed n texts (λ t. (line : List ℕ) × IsVerdictLine t line × GrowsByPrefix old new line)
     × LacksRoom old longest_line
 
 -- the name has a text, and P is true of it
@@ -81,7 +77,7 @@ GenEndsInMemory _ n old new = ⊥
 -- how a run ends, by what its arguments ask for and its status
 abbrev pub EndsInMemory : Status → Option Asked → List Text → SinkState → SinkState → Type 0
 EndsInMemory status None texts old new = UsageEndsInMemory status old new
-EndsInMemory status (Some (checks n)) texts old new = CheckEndsInMemory status n texts old new
+EndsInMemory status (Some (judges n)) texts old new = JudgeEndsInMemory status n texts old new
 EndsInMemory status (Some (generates n)) texts old new = GenEndsInMemory status n old new
 EndsInMemory status (Some (runs mode name conflicts)) texts old new =
     ScriptEndsInMemory status (record { mode = mode; name = name; limits = limits_by conflicts }) texts old new

@@ -4,12 +4,14 @@ ghost use Rattle.std.specs.Prelude.{◌≡◌, ◌↔◌, ℕ, [], false, map, o
 ghost use Rattle.clap.specs.Words.{app_of, rule_of, FailsBy, fault_of, first_of, found_of, kind_of, rows_of, subcommand_of, subcommand_rows_of};
 ghost use Rattle.clap.specs.declared.builder.command.Command.TheViews.{out-Command};
 ghost use Rattle.smt_session.specs.Sessions.{mode_meant};
-ghost use Rattle.smt_top.specs.Calls.{names_of, asked_by, Asks};
-ghost use Rattle.smt_top.specs.Arguments.{asked, asked_in, IsNumber, number_of, number_or, run_in, names_in, size_of, size_in, option_named, required_argument, run_app, check_app, gen_app, bare_app, app_with_runs, smt_app};
+ghost use Rattle.judge_run.specs.Calls.{judging_meant, names_of};
+ghost use Rattle.smt_top.specs.Calls.{asked_by, Asks};
+ghost use Rattle.smt_top.specs.Arguments.{asked, asked_in, IsNumber, number_of, number_or, run_in, names_in, size_of, size_in, option_named, required_argument, run_app, judge_app, gen_app, bare_app, app_with_runs, app_with_judgings, smt_app};
 
 use clap::error::ErrorKind;
 use clap::{Arg, ArgMatches, Command, Error};
 use itoa::Buffer;
+use judge_run::{JudgeRequest, Names, Subject};
 use smt_session::Mode;
 use std::alloc::{AllocError, Global};
 
@@ -21,24 +23,6 @@ pub(crate) const USUAL_CONFLICTS: u64 = 1_000_000;
 
 /// No script that is made has a greater size.
 const MOST_SIZE: u64 = 10_000;
-
-/// Holds the names of the two texts.
-#[derive(Clone, Copy)]
-pub(crate) struct Names<'a> {
-    /// The script's name.
-    pub(crate) script: &'a str,
-    /// The proof's name.
-    pub(crate) proof: &'a str,
-}
-
-/// Holds what the arguments of `check` ask for.
-#[derive(Clone, Copy)]
-pub(crate) struct CheckRequest<'a> {
-    /// The names of the two texts.
-    pub(crate) names: Names<'a>,
-    /// Which of the script's checks is meant, from 1 to 1,000,000,000.
-    pub(crate) at: u64,
-}
 
 /// Holds what the arguments of `solve` and of `certify` ask for.
 #[derive(Clone, Copy)]
@@ -56,8 +40,8 @@ pub(crate) struct RunRequest<'a> {
 pub(crate) enum Request<'a> {
     /// A script is to be run.
     Run(RunRequest<'a>),
-    /// A proof is to be judged against a script.
-    Check(CheckRequest<'a>),
+    /// A text is to be judged against a script, as a proof or as a model.
+    Judge(JudgeRequest<'a>),
     /// The script of this size, from 1 to 10,000, is to be made and run.
     Generate(u64),
 }
@@ -72,7 +56,7 @@ pub(crate) enum ArgumentsStop {
 }
 
 /// Gives what the arguments after the program's name ask for: `solve [--conflicts N] [NAME]`, `certify` with the same,
-/// `check [--at K] SCRIPT PROOF`, or `gen SIZE`.
+/// `check [--at K] SCRIPT PROOF`, `validate [--at K] SCRIPT MODEL`, or `gen SIZE`.
 ///
 /// N and K are from 1 to 1,000,000,000, SIZE is from 1 to 10,000, in decimal digits. Where they are not given, a search may
 /// learn from 1,000,000 conflicts, K is 1, and NAME is empty. `Wrong` comes for all other arguments. `Memory` comes only where
@@ -128,17 +112,17 @@ fn run_command<'a>(alloc: Global, name: &'a str) -> Result<Command<'a>, AllocErr
         .arg(Arg::new(alloc, "name"))
 }
 
-/// Makes the command `check`.
+/// Makes a command that judges a text against a script, `check` or `validate`.
 ///
 /// `AllocError` comes where an allocation was refused.
-fn check_command<'a>(alloc: Global) -> Result<Command<'a>, AllocError>
-    ensures app { IfOk result (λ c. app_of c ≡ check_app) }
+fn judge_command<'a>(alloc: Global, name: &'a str, text: &'a str) -> Result<Command<'a>, AllocError>
+    ensures app { IfOk result (λ c. app_of c ≡ judge_app name.entry.now text.entry.now) }
     ensures own { IfOk result (λ c. (out-Command c).has_globals ≡ false) }
 {
-    Command::new(alloc, "check")
+    Command::new(alloc, name)
         .arg(option_named(alloc, "at"))?
         .arg(required_argument(alloc, "script"))?
-        .arg(required_argument(alloc, "proof"))
+        .arg(required_argument(alloc, text))
 }
 
 /// Makes the command `gen`.
@@ -173,17 +157,27 @@ fn command_with_runs<'a>(alloc: Global) -> Result<Command<'a>, AllocError>
     bare_command(alloc).subcommand(solve)?.subcommand(certify)
 }
 
-/// Makes the program's command, with `solve`, `certify`, `check` and `gen` below it.
+/// Makes the program's command with these and with `check` and `validate` below it.
+///
+/// `AllocError` comes where an allocation was refused.
+fn command_with_judgings<'a>(alloc: Global) -> Result<Command<'a>, AllocError>
+    ensures { IfOk result (λ c. app_of c ≡ app_with_judgings) }
+{
+    let check = judge_command(alloc, "check", "proof")?;
+    let validate = judge_command(alloc, "validate", "model")?;
+    command_with_runs(alloc)?
+        .subcommand(check)?
+        .subcommand(validate)
+}
+
+/// Makes the program's command, with `solve`, `certify`, `check`, `validate` and `gen` below it.
 ///
 /// `AllocError` comes where an allocation was refused.
 fn whole_command<'a>(alloc: Global) -> Result<Command<'a>, AllocError>
     ensures { IfOk result (λ c. app_of c ≡ smt_app) }
 {
-    let check = check_command(alloc)?;
     let generate = gen_command(alloc)?;
-    command_with_runs(alloc)?
-        .subcommand(check)?
-        .subcommand(generate)
+    command_with_judgings(alloc)?.subcommand(generate)
 }
 
 /// Reads the arguments by the program's command.
@@ -207,7 +201,7 @@ fn request_of<'a>(matches: &ArgMatches<'a>) -> Option<Request<'a>>
     request_in(name, found)
 }
 
-/// Gives what a command of this name asks for by its matches, and `None` where it is none of the four, or a value is missing or
+/// Gives what a command of this name asks for by its matches, and `None` where it is none of the five, or a value is missing or
 /// is no number.
 fn request_in<'a>(name: &str, found: &ArgMatches<'a>) -> Option<Request<'a>>
     ensures { option_map asked_by result ≡ asked_in (name.now, rows_of (found_of found.now)) }
@@ -215,7 +209,8 @@ fn request_in<'a>(name: &str, found: &ArgMatches<'a>) -> Option<Request<'a>>
     match name {
         "solve" => Some(Request::Run(run_in(Mode::Solve, found)?)),
         "certify" => Some(Request::Run(run_in(Mode::Certify, found)?)),
-        "check" => Some(Request::Check(check_in(found)?)),
+        "check" => Some(Request::Judge(judge_in(Subject::Proof, "proof", found)?)),
+        "validate" => Some(Request::Judge(judge_in(Subject::Model, "model", found)?)),
         "gen" => Some(Request::Generate(size_in(found)?)),
         _ => None,
     }
@@ -234,15 +229,17 @@ fn run_in<'a>(mode: Mode, found: &ArgMatches<'a>) -> Option<RunRequest<'a>>
     })
 }
 
-/// Gives what the matches of `check` ask for, and `None` where a name is missing or the value of `--at` is no number.
-fn check_in<'a>(found: &ArgMatches<'a>) -> Option<CheckRequest<'a>>
-    ensures { option_map names_of result ≡ names_in (rows_of (found_of found.now)) }
+/// Gives what the matches of `check` or `validate` ask for, by the name of the argument that is judged, and `None` where a name
+/// is missing or the value of `--at` is no number.
+fn judge_in<'a>(subject: Subject, id: &str, found: &ArgMatches<'a>) -> Option<JudgeRequest<'a>>
+    ensures { option_map names_of result ≡ names_in (judging_meant subject) id.now (rows_of (found_of found.now)) }
 {
     let script = value_of(found, "script")?;
-    let proof = value_of(found, "proof")?;
+    let text = value_of(found, id)?;
     let at = number_or(1, value_of(found, "at"))?;
-    Some(CheckRequest {
-        names: Names { script, proof },
+    Some(JudgeRequest {
+        subject,
+        names: Names { script, text },
         at,
     })
 }

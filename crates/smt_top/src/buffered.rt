@@ -3,7 +3,8 @@
 ghost use Rattle.std.specs.Prelude.{◌≡◌, ◌≢◌, ◌≤◌, ◌⊎◌, ℕ, List, [], IsSome};
 ghost use Rattle.world_io.specs.Outside.{Rose};
 ghost use Rattle.smt_top.specs.Arguments.{asked};
-ghost use Rattle.smt_top.specs.RunMeans.{RunMeans, AnswersSoFar, AsksNoText, AreHeld, LastIsRead, IsUnread, is_answered, through};
+ghost use Rattle.smt_top.specs.RunMeans.{RunMeans, AnswersSoFar, AsksNoText, AreHeld, LastIsRead, is_answered, through};
+ghost use Rattle.judge_run.specs.Runs.{IsUnread};
 
 use crate::run;
 use script_run::Status;

@@ -1,52 +1,22 @@
 //! The run.
 
-ghost use Rattle.std.specs.Prelude.{◌≡◌, ◌≢◌, ℕ, ◌≤◌, ◌⊎◌, List, Some, None, IsSome};
+ghost use Rattle.std.specs.Prelude.{◌≡◌, ◌≢◌, ℕ, ◌≤◌, ◌⊎◌, List, IsSome};
 ghost use Rattle.world_io.specs.Outside.{Rose};
 ghost use Rattle.smt_top.specs.Arguments.{asked};
-ghost use Rattle.smt_top.specs.Calls.{names_of, run_of};
-ghost use Rattle.smt_top.specs.RunMeans.{BothHold, ProofIsLast, CheckMeans, RunMeans, AnswersSoFar, AsksNoText, AreHeld, LastIsRead, IsUnread};
-ghost use Rattle.script_run.specs.Scripts.{Holdings, TakesText, ScriptMeans, ReadsSoFar};
+ghost use Rattle.smt_top.specs.Calls.{run_of};
+ghost use Rattle.smt_top.specs.RunMeans.{UsageMeans, RunMeans, AnswersSoFar, AsksNoText, AreHeld, LastIsRead};
+ghost use Rattle.judge_run.specs.Runs.{IsUnread};
+ghost use Rattle.script_run.specs.Scripts.{TakesText, ScriptMeans, ReadsSoFar};
 
-use crate::arguments::{ArgumentsStop, CheckRequest, Request, RunRequest, request_from};
+use crate::arguments::{ArgumentsStop, Request, RunRequest, request_from};
 use crate::generated::run_generated;
 use crate::output::write_usage;
-use crate::read::read_both;
-use crate::verdict::{judge, report};
 use assertion_stack::TERM_LIMIT;
+use judge_run::run_judge;
 use sat_budget::Limits;
 use script_run::Status;
 use std::alloc::Global;
-use world_io::{ReadStop, Shelf, Sink};
-
-/// Judges the proof of a request against its script, and writes the verdict.
-///
-/// Both texts are read, the script first, before anything is judged. Of each text the first 2^26 bytes are judged: a check
-/// after them is not there, and a proof that goes on after them has a fault.
-fn run_check<F: Shelf, K: Sink>(
-    alloc: Global,
-    request: CheckRequest<'_>,
-    shelf: &mut F,
-    out: &mut K,
-) -> Status
-    ensures ends { CheckMeans result (Some (names_of request.entry)) (F.holds shelf.old) (K.state out.old)
-        (K.state out.new) }
-    ensures read_fault { result ≡ Status.ReadFault → Rose (F.faults shelf.old) (F.faults shelf.new) }
-    ensures read { F.is_sound shelf.old → BothHold (Some (names_of request.entry)) (F.holds shelf.old)
-        → result ≢ Status.ReadFault }
-    ensures order { result ≢ Status.Memory → result ≢ Status.ReadFault
-        → ProofIsLast (Some (names_of request.entry)) (F.holds shelf.old) (F.left shelf.new) }
-    ensures found { ((s : F) → IsSome (F.left s)) → BothHold (Some (names_of request.entry)) (F.holds shelf.old)
-        ⊎ IsUnread result (K.state out.old) (K.state out.new) }
-    ensures same { (n : List ℕ) → F.holds shelf.new n ≡ F.holds shelf.old n }
-    ensures reads { F.faults shelf.old ≤ F.faults shelf.new }
-    ensures sound { F.is_sound shelf.old → F.is_sound shelf.new }
-{
-    match read_both(alloc, shelf, request.names) {
-        Ok(texts) => report(judge(alloc, &texts, request.at), out),
-        Err(ReadStop::Failed) => Status::ReadFault,
-        Err(ReadStop::Memory) => Status::Memory,
-    }
-}
+use world_io::{Shelf, Sink};
 
 /// Runs the script of a request: each command is taken as soon as it has come, and its response is written and passed on before
 /// more of the text is read.
@@ -79,7 +49,7 @@ fn run_script<F: Shelf, K: Sink>(
 
 /// Writes the usage text.
 fn run_usage<K: Sink>(out: &mut K) -> Status
-    ensures ends { (holds : Holdings) → CheckMeans result None holds (K.state out.old) (K.state out.new) }
+    ensures ends { UsageMeans result (K.state out.old) (K.state out.new) }
     ensures no_read { (result ≡ Status.Words) ⊎ (result ≡ Status.WriteFault) }
 {
     match write_usage(out) {
@@ -97,15 +67,17 @@ fn run_usage<K: Sink>(out: &mut K) -> Status
 ///   responses to all that are were written and passed on.
 /// - `check [--at K] SCRIPT PROOF` judges the proof against the script's K-th check, from 1, or the first where K is not
 ///   given: it writes `valid`, or the proof's first fault with its line and column.
+/// - `validate [--at K] SCRIPT MODEL` judges the model against the same check: it writes `valid`, or the model's first fault
+///   with its line and column, or that of the first expression of the script that is not found true.
 /// - `gen SIZE` makes the script of that size, runs it as `certify` does, and writes a line: the size, the answer of its one
-///   check, how many clauses were learned and pivots made, and of how many bytes the evidence is. The proof is judged
-///   before, if `check` would read it.
+///   check, how many clauses were learned and pivots made, and of how many bytes the evidence is. The proof or the model is
+///   judged before, if `check` or `validate` would read it.
 /// - All other arguments give the usage text, and `Words`.
 ///
-/// `Done` and `Refused` tell of a script whether something in it was refused, of a proof whether it is accepted. `Refused`
-/// never comes of a script that is made. `Memory` comes where an allocation was refused, `ReadFault` where the shelf failed.
-/// Of a script exactly the responses to the commands are written then that the bytes hold which were read: a shelf may fail
-/// at each read, so this is so where each read begins.
+/// `Done` and `Refused` tell of a script whether something in it was refused, of a text that is judged whether it is accepted.
+/// `Refused` never comes of a script that is made. `Memory` comes where an allocation was refused, `ReadFault` where the shelf
+/// failed. Of a script exactly the responses to the commands are written then that the bytes hold which were read: a shelf may
+/// fail at each read, so this is so where each read begins.
 /// `WriteFault` comes where the sink failed: what was written is a prefix of what was to be written for the commands that were
 /// run, or of the line, and the sink had no room for all of it.
 ///
@@ -134,7 +106,7 @@ pub fn run<F: Shelf, K: Sink>(
     ensures sound { F.is_sound shelf.old → F.is_sound shelf.new }
 {
     match request_from(alloc, arguments) {
-        Ok(Request::Check(request)) => run_check(alloc, request, shelf, out),
+        Ok(Request::Judge(request)) => run_judge(alloc, request, shelf, out),
         Ok(Request::Run(request)) => run_script(alloc, request, shelf, out),
         Ok(Request::Generate(size)) => run_generated(alloc, size, out),
         Err(ArgumentsStop::Wrong) => run_usage(out),

@@ -16,6 +16,7 @@ use alethe_check::{ProofStop, check};
 use assertion_stack::TERM_LIMIT;
 use gen_script::text;
 use itoa::Buffer;
+use model_judge::{ModelStop, judge as judge_file};
 use sat_budget::Limits;
 use script_run::Status;
 use smt_session::{ExecutionMode, Mode, Session};
@@ -79,7 +80,21 @@ fn after_line<'a>(written: &'a [u8], word: &[u8]) -> &'a [u8]
     &written[word.len() + 1..]
 }
 
-/// Judges the evidence of the one check of a script, by the mode after it: a proof that `check` would read. It is accepted.
+/// Judges a model of the one check of a script. What is found of it changes nothing: of one that is right an operation may
+/// leave the bound on fractions.
+///
+/// `Memory` comes where an allocation was refused. `Fault` never comes.
+fn judge_model(alloc: Global, script: &[u8], model: &[u8]) -> Result<(), ProofStop>
+    ensures { IsNoFault result }
+{
+    match judge_file(alloc, script, 1, model) {
+        Err(ModelStop::Memory) => Err(ProofStop::Memory),
+        _ => Ok(()),
+    }
+}
+
+/// Judges the evidence of the one check of a script, by the mode after it: a proof that `check` would read, which is accepted,
+/// or a model that `validate` would read.
 ///
 /// `Memory` comes where an allocation was refused. `Fault` never comes of evidence of the script's check.
 fn judge(
@@ -95,6 +110,7 @@ fn judge(
     spec_checking::laws::verdict_is_one();
     match mode {
         ExecutionMode::Unsat if evidence.len() <= TEXT_LIMIT => check(alloc, script, 1, evidence),
+        ExecutionMode::Sat if evidence.len() <= TEXT_LIMIT => judge_model(alloc, script, evidence),
         _ => Ok(()),
     }
 }
@@ -144,9 +160,9 @@ fn write_line<K: Sink>(n: u64, session: &Session, bytes: u64, out: &mut K) -> St
 
 /// Makes the script of a size, runs it, and writes its line.
 ///
-/// The budget of its check is the usual one. A proof that `check` would read is judged before the line is written. `Memory` comes
-/// where an allocation was refused; nothing was written. `WriteFault` comes where the sink failed; a prefix of the line was
-/// written.
+/// The budget of its check is the usual one. A proof that `check` would read, or a model that `validate` would, is judged
+/// before the line is written. `Memory` comes where an allocation was refused; nothing was written. `WriteFault` comes where
+/// the sink failed; a prefix of the line was written.
 pub(crate) fn run_generated<K: Sink>(alloc: Global, n: u64, out: &mut K) -> Status
     ensures ends { GenMeans result n (K.state out.old) (K.state out.new) }
     ensures no_read { result ≢ Status.ReadFault }

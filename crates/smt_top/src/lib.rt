@@ -1,5 +1,5 @@
-//! One run over the whole language: it reads the arguments, and runs a script, or judges a proof against one, or makes a
-//! script and runs it.
+//! One run over the whole language: it reads the arguments, and runs a script, or judges a proof or a model against one,
+//! or makes a script and runs it.
 #![tactic(auto)]
 
 mod answered;
@@ -11,9 +11,7 @@ mod generated;
 mod in_memory;
 mod output;
 mod program;
-mod read;
 mod vec_sink;
-mod verdict;
 
 pub use buffered::run_buffered;
 pub use check_run::run;

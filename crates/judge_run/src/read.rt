@@ -5,7 +5,7 @@ ghost use Rattle.world_io.specs.Outside.{Rose};
 ghost use Rattle.spec_text.specs.Readings.{prefix};
 ghost use Rattle.script_run.specs.Scripts.{TakesText};
 
-use crate::arguments::Names;
+use crate::request::Names;
 use smt_sexpr::TEXT_LIMIT;
 use std::alloc::Global;
 use world_io::{Bytes, ReadStop, Shelf, read_prefix};
@@ -18,18 +18,14 @@ const FRONT: u64 = TEXT_LIMIT as u64 + 1;
 pub(crate) struct Texts {
     /// The script.
     pub(crate) script: Bytes,
-    /// The proof.
-    pub(crate) proof: Bytes,
+    /// The text that is judged.
+    pub(crate) judged: Bytes,
 }
 
 /// Reads the prefix of a name's text.
 ///
 /// `Failed` comes only where the count of faults of the shelf rose in this call, `Memory` where an allocation was refused.
-pub(crate) fn read_text<F: Shelf>(
-    alloc: Global,
-    shelf: &mut F,
-    name: &str,
-) -> Result<Bytes, ReadStop>
+fn read_text<F: Shelf>(alloc: Global, shelf: &mut F, name: &str) -> Result<Bytes, ReadStop>
     ensures end { IfOk result (λ bytes. (text : List ℕ) × (bytes ≡ prefix text)
         × IfSome (F.holds shelf.old name.now) (λ t. t ≡ text)) }
     ensures found { ((s : F) → IsSome (F.left s)) → IsOk result → IsSome (F.holds shelf.old name.now) }
@@ -54,19 +50,19 @@ pub(crate) fn read_both<F: Shelf>(
 ) -> Result<Texts, ReadStop>
     ensures script { IfOk result (λ texts. (text : List ℕ) × (texts.script ≡ prefix text)
         × IfSome (F.holds shelf.old names.entry.script.now) (λ t. t ≡ text)) }
-    ensures proof { IfOk result (λ texts. (text : List ℕ) × (texts.proof ≡ prefix text)
-        × IfSome (F.holds shelf.old names.entry.proof.now) (λ t. t ≡ text)) }
-    ensures last { IsOk result → TakesText (F.holds shelf.old names.entry.proof.now) (F.left shelf.new) }
+    ensures judged { IfOk result (λ texts. (text : List ℕ) × (texts.judged ≡ prefix text)
+        × IfSome (F.holds shelf.old names.entry.text.now) (λ t. t ≡ text)) }
+    ensures last { IsOk result → TakesText (F.holds shelf.old names.entry.text.now) (F.left shelf.new) }
     ensures found { ((s : F) → IsSome (F.left s)) → IsOk result
-        → IsSome (F.holds shelf.old names.entry.script.now) × IsSome (F.holds shelf.old names.entry.proof.now) }
+        → IsSome (F.holds shelf.old names.entry.script.now) × IsSome (F.holds shelf.old names.entry.text.now) }
     ensures same { (n : List ℕ) → F.holds shelf.new n ≡ F.holds shelf.old n }
     ensures count { F.faults shelf.old ≤ F.faults shelf.new }
     ensures failed { IsErrOf result ReadStop.Failed → Rose (F.faults shelf.old) (F.faults shelf.new) }
     ensures sound { F.is_sound shelf.old → F.is_sound shelf.new
-        × (IsSome (F.holds shelf.old names.entry.script.now) → IsSome (F.holds shelf.old names.entry.proof.now)
+        × (IsSome (F.holds shelf.old names.entry.script.now) → IsSome (F.holds shelf.old names.entry.text.now)
         → result ≢ Err ReadStop.Failed) }
 {
     let script = read_text(alloc, shelf, names.script)?;
-    let proof = read_text(alloc, shelf, names.proof)?;
-    Ok(Texts { script, proof })
+    let judged = read_text(alloc, shelf, names.text)?;
+    Ok(Texts { script, judged })
 }
