@@ -5,16 +5,16 @@
 #
 # Tables in README.md: arguments are those after the program's name; after ` < ` comes the file that is standard input. An output is one
 # line, or the name of a file that has it to the byte, or nothing. Where a row of `solve` or `certify` begins with the line `unsat`, all
-# that `certify` writes for the same arguments is given to `check` as the proof, and has to be `valid`.
+# that `certify` writes for the same arguments is given to `check` as the proof, and has to be `valid`. Where it begins with `sat`, and
+# `certify` writes one model and nothing else, all of that is given to `validate`, and has to be `valid`, too.
 #
-# Files NAME.rows: a row has three or four parts, set apart by lines `----`: its runs, a line each; the script; the proof, if there is
-# one; what is written. A script or a proof `=` is that of the row before. A line `====` is between rows. A run is a status and the
+# Files NAME.rows: a row has three or four parts, set apart by lines `----`: its runs, a line each; the script; the proof or model, if there
+# is one; what is written. A script or a proof `=` is that of the row before. A line `====` is between rows. A run is a status and the
 # arguments, from the program's name on, with `|` between them; after tabs may come the names of the script and of the proof, which are
 # else `script.smt2` and `proof.alethe`, and how many bytes the script has with spaces after it. Standard input is a text of no name, or
 # the script where it has its usual name. A line alone that ends with ` ..` stands for each line that begins with what is before.
 #
-# Files NAME.lines: an answer, a tab, and what a script states. `solve` gives the answer. Where that is `unsat`, `check` accepts the
-# proof that `certify` writes.
+# Files NAME.lines: an answer, a tab, and what a script states. `solve` gives the answer. What `certify` writes is judged in the same way.
 #
 # Each row that comes out otherwise is printed, and the script then ends with status 1.
 set -euo pipefail
@@ -28,7 +28,7 @@ cd "$(dirname "$0")"
 folder=$(mktemp -d)
 trap 'rm -rf "$folder"' EXIT
 
-rows=0 proofs=0 wrong=0
+rows=0 proofs=0 models=0 wrong=0
 
 # The text of a cell, without the spaces and the quotes round it.
 cell() {
@@ -45,16 +45,27 @@ differs() {
     diff "$folder/wanted" "$folder/output" || true
 }
 
-# Gives what `certify` writes for these words to `check`, which has to find it valid.
-check_proof() {
-    local words
+# Tells whether a file is the answer `sat` and one model.
+is_model() {
+    [ "$(sed -n '1p;2p' "$1")" = $'sat\n(' ] && [ "$(grep -cx ')' "$1")" = 1 ] && [ "$(tail -n 1 "$1")" = ')' ]
+}
+
+# Gives what `certify` writes for these words to `check`, or a single model to `validate`, which has to find it valid.
+judge_evidence() {
+    local words judging
     read -ra words <<<"$1"
     words[0]=certify
-    proofs=$((proofs + 1))
+    "$executable" "${words[@]}" </dev/null >"$folder/evidence" || true
+    if [ "$2" = unsat ]; then
+        judging=check proofs=$((proofs + 1))
+    elif [ "$2" = sat ] && is_model "$folder/evidence"; then
+        judging=validate models=$((models + 1))
+    else
+        return 0
+    fi
     echo valid >"$folder/wanted"
-    "$executable" "${words[@]}" </dev/null >"$folder/proof" || true
-    "$executable" check "${words[-1]}" "$folder/proof" >"$folder/output" || true
-    cmp -s "$folder/wanted" "$folder/output" || differs "${words[*]}, as a proof of ${words[-1]}:"
+    "$executable" "$judging" "${words[-1]}" "$folder/evidence" >"$folder/output" || true
+    cmp -s "$folder/wanted" "$folder/output" || differs "$judging ${words[-1]}, and what ${words[*]} writes:"
 }
 
 # Runs the program with these words, and compares its output and its status.
@@ -75,8 +86,8 @@ run_row() {
         differs "$1: status $status, and $3 is wanted"
     elif ! cmp -s "$folder/wanted" "$folder/output"; then
         differs "$1: another output"
-    elif [ "${words[0]}" != check ] && [ "$(head -n 1 "$folder/wanted")" = unsat ]; then
-        check_proof "$1"
+    elif [ "${words[0]}" != check ] && [ -f "${words[-1]}" ]; then
+        judge_evidence "$1" "$(head -n 1 "$folder/wanted")"
     fi
 }
 
@@ -197,8 +208,8 @@ run_lines() {
         "$executable" solve "$folder/stated" >"$folder/output" || true
         if ! cmp -s "$folder/wanted" "$folder/output"; then
             differs "$stated"
-        elif [ "$answer" = unsat ]; then
-            check_proof "solve $folder/stated"
+        else
+            judge_evidence "solve $folder/stated" "$answer"
         fi
     done <"$1"
 }
@@ -222,6 +233,8 @@ run_faults() {
     run_fault 5 /dev/full solve answers/sat.smt2
     run_fault 5 /dev/full certify answers/unsat.smt2
     run_fault 5 /dev/full check proofs/valid.smt2 proofs/valid.alethe
+    run_fault 4 "$folder/output" validate answers/sat.smt2 answers
+    run_fault 5 /dev/full validate answers/sat.smt2 answers/sat.smt2
     run_fault 5 /dev/full gen 8
     run_fault 5 /dev/full
 }
@@ -236,5 +249,5 @@ for file in */*.rows; do run_rows "$file"; done
 for file in */*.lines; do run_lines "$file"; done
 run_faults
 
-echo "$rows rows and $proofs proofs, $wrong otherwise than they should be"
+echo "$rows rows, $proofs proofs and $models models, $wrong otherwise than they should be"
 [ "$rows" -gt 0 ] && [ "$wrong" -eq 0 ]

@@ -32,6 +32,9 @@ resets                 scripts in one text with `reset` between them, which have
 questions              scripts with `get-` commands in all modes, and options turned on and off: models, proofs and reasons
                        are those that `certify` shows for the same check, and values are those of the terms under its
                        model; by `certify`, and by `solve`, which is foretold to the byte; the others answer the checks
+validate               models that `certify` printed, which have to be valid, and such models with something changed
+cores                  scripts with one check, of which assertions are named, and some assumed: what the core and the literals
+                       leave of them has to be unsat, also for z3 and cvc5
 
 With --only these kinds alone are run, and with --rounds so many rounds of each, in as many seconds as it takes. A round
 with a run of more than two minutes is left.
@@ -40,9 +43,8 @@ Whether there is a model is known from truth tables, or else by trying values up
 Where that is too much, and where there are numbers, the model, the proof or the reason of `unknown` alone decides. Of
 each `valid` it is looked up that no model was found of all assertions, too.
 
-It prints a table of the kinds with the number of runs and of differences, and of some kinds how the checks
-were answered. What each difference is on is written to files in a temporary folder, which is printed. It ends with
-status 1 where there is a difference, else with 0.
+It prints a table of the kinds with the number of runs and of differences, and of some kinds how checks were answered.
+What each difference is on is in files of a temporary folder, which is printed. Then the status is 1, else 0.
 """
 
 import argparse
@@ -57,13 +59,15 @@ from collections import Counter
 
 import bool_scripts
 from changes import changed, proof_text
+from check_answers import predict_check
 from commands import checks_of, read_script
+from core_runs import cores
 from forms import SCRIPTS, a_form
 from function_scripts import a_function_script
-from judging import predict_check
 from layout import damaged, laid_out, tree_of_item
 from level_runs import assuming, levels, resets
 from mixed_scripts import a_mixed_script
+from model_runs import validate
 from number_scripts import a_number_script
 from others import answers_in, answers_of, are_at_odds, may_be_asked, solvers
 from proofs import proof_of_single_steps, some_trees
@@ -342,6 +346,8 @@ KINDS = {
     "assuming": assuming,
     "resets": resets,
     "questions": questions,
+    "validate": validate,
+    "cores": cores,
 }
 
 

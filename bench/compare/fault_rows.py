@@ -7,8 +7,8 @@ there is none), `=` what is written, by `check` where there is a proof and else 
 """
 
 from antt import lines_written
+from check_answers import predict_check
 from commands import read_script
-from judging import predict_check
 from proof_rows import LEXICAL, statement
 from script_rows import faults_in
 from sessions import is_open, judge_solve, predict_solve, run_script

@@ -6,10 +6,10 @@ A proof's terms are read as those of its script, with the names that the proof d
 
 from typing import NamedTuple
 
-from commands import checks_of, define_fun, read_script
+from defining import define_fun
 from language import Definition, Reader, State
 from proof_texts import step_parts, take_all
-from reading import Fault, error_line
+from reading import Fault
 from rules import RULES, follows
 from terms import BOOL
 from values import Overflow
@@ -180,12 +180,3 @@ def first_fault(check, proof):
     except Fault as fault:
         return fault
     return None if judge.has_empty else Fault(len(proof), b"NoEmptyClause")
-
-
-def predict_check(script, number, proof, limit=2**24):
-    """Returns what `check` is to print for the check with this number, from 1, and its status."""
-    checks = checks_of(read_script(script, limit)[0])
-    if len(checks) < number:
-        return b'(error "1:1: NoSuchCheck")\n', 1
-    fault = first_fault(checks[number - 1], proof)
-    return (error_line(proof, fault), 1) if fault else (b"valid\n", 0)

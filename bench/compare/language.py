@@ -13,7 +13,9 @@ from terms import BOOL, GREATEST, REAL, Terms
 from truths import Tables
 
 # The options that are known, with what they are at first.
-OPTIONS = {b":print-success": True, b":produce-models": False, b":produce-proofs": False, b":produce-assertions": False}
+OPTIONS = {b":print-success": True} | {
+    b":produce-" + kind: False for kind in (b"models", b"proofs", b"assertions", b"unsat-cores", b"unsat-assumptions")
+}
 OPTIONS[b":global-declarations"] = False
 BOOL_HEADS = {b"not": (1, 1), b"and": (1, None), b"or": (1, None), b"xor": (2, None), b"=>": (2, None)}
 REAL_HEADS = {b"-": 1, b"+": 1, b"*": 1, b"/": 2, b"<": 2, b"<=": 2, b">": 2, b">=": 2}
@@ -357,6 +359,7 @@ class Check(State):
     """What is current at a check: what it asks about, its declared symbols in their order, and its answer.
 
     Its assertions are those of all levels, and after them what the check assumes; `places` has the offset of each in the script.
+    `stated` and `supposed` have the two as they are written.
     """
 
     def __init__(self, state, assumed):
@@ -364,7 +367,8 @@ class Check(State):
         self.terms = state.terms
         self.sorts, self.functions = dict(state.sorts), dict(state.functions)
         self.assertions = [*state.assertions, *assumed]
-        self.places = [item[2] for item in (*state.written, *state.literals)]
+        self.stated, self.supposed = list(state.written), list(state.literals)
+        self.places = [item[2] for item in (*self.stated, *self.supposed)]
         self.order = [name for name, known in self.functions.items() if not isinstance(known, Definition)]
 
     @cached_property

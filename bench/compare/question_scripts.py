@@ -14,9 +14,17 @@ from level_scripts import MAKERS, a_level_script, commands_of
 from reading import Fault, printed_name, read_one
 from scripts import NAMES, Maker
 
-OPTIONS = (b":produce-models", b":produce-proofs", b":produce-assertions", b":print-success", b":global-declarations")
+OPTIONS = (
+    b":produce-models",
+    b":produce-proofs",
+    b":produce-assertions",
+    b":produce-unsat-cores",
+    b":produce-unsat-assumptions",
+    b":print-success",
+    b":global-declarations",
+)
 KEYS = (b":name", b":version", b":authors", b":error-behavior", b":reason-unknown", b":assertion-stack-levels")
-ODD_KEYS = (*OPTIONS, b":all-statistics", b":Name", b":x", b":name.", b":named", b":produce-unsat-cores")
+ODD_KEYS = (*OPTIONS, b":all-statistics", b":Name", b":x", b":name.", b":named", b":produce-assignments")
 ODD = b"""(get-model 1)
 (get-model ())
 (get-model :a)
@@ -71,13 +79,15 @@ ODD = b"""(get-model 1)
 (get-info :name :name)
 (get-info (:name))
 (get-info let)
-(get-unsat-core)
-(get-unsat-assumptions)
+(get-unsat-core ())
+(get-unsat-assumptions 1)
+(|get-unsat-core|)
 (get-assignment)
 (set-option :produce-models 1)
 (set-option :produce-proofs True)
 (set-option :global-declarations true)
-(set-option :produce-unsat-cores true)
+(set-option :produce-unsat-cores 1)
+(set-option :produce-assignments true)
 (set-info :status unknown)
 (echo "(get-model) ""x"" y")
 (assert zz)
@@ -137,7 +147,9 @@ def a_question(state, share):
     if choice < 0.4:
         return a_value_question(state, share)
     if choice < 0.7:
-        return random.choice([b"(get-model)", b"(get-proof)", b"(get-assertions)"])
+        return random.choice(
+            [b"(get-model)", b"(get-proof)", b"(get-unsat-core)", b"(get-unsat-assumptions)", b"(get-assertions)"]
+        )
     if choice < 0.77:
         return b"(get-info " + random.choice(KEYS + (b":reason-unknown",) * 4) + b")"
     if choice < 0.81:
@@ -152,7 +164,7 @@ def with_questions(script):
     share = random.choice([0, 0, 0, 0.1, 0.5])
     texts = [b"(set-option :print-success false)"] if random.random() < 0.6 else []
     if random.random() < 0.8:
-        texts += [b"(set-option " + option + b" true)" for option in OPTIONS[:3]]
+        texts += [b"(set-option " + option + b" true)" for option in OPTIONS[:5]]
     state = State(2**24)
     for text in texts:
         perform(state, read_one(text, 0)[0])

@@ -1,11 +1,12 @@
-"""Performs what a script asks beside its checks: `get-model`, `get-value`, `get-proof`, `get-assertions`, and `get-option`
-and `get-info`.
+"""Performs what a script asks beside its checks: `get-model`, `get-value`, `get-proof`, `get-assertions`, `get-option`,
+`get-info`, and what a proof rests on: `get-unsat-core` and `get-unsat-assumptions`.
 
 What depends on a check is a `Question`: it is answered once it is known what was found there.
 """
 
 from typing import NamedTuple
 
+from cores import core, used
 from language import Check
 from printed_proofs import printed
 from reading import Fault, printed_name
@@ -54,6 +55,10 @@ class Question(NamedTuple):
             return None
         if self.word == b"get-value":
             return self.values(found.tables)
+        if self.word == b"get-unsat-core":
+            return b"(" + b" ".join(map(printed_name, core(self.check, found.text))) + b")\n"
+        if self.word == b"get-unsat-assumptions":
+            return b"(" + b" ".join(map(printed, used(self.check, found.text))) + b")\n"
         return b"(:reason-unknown " + found.text[:-1] + b")\n" if self.word == b"get-info" else found.text
 
     def values(self, tables):
@@ -87,6 +92,20 @@ def get_proof(state, parts, start):
     if len(parts) != 1:
         raise Fault(start, b"BadShape")
     return question(state, b"get-proof", start, UNSAT, state.options[b":produce-proofs"])
+
+
+def get_unsat_core(state, parts, start):
+    """Performs `get-unsat-core`."""
+    if len(parts) != 1:
+        raise Fault(start, b"BadShape")
+    return question(state, b"get-unsat-core", start, UNSAT, state.options[b":produce-unsat-cores"])
+
+
+def get_unsat_assumptions(state, parts, start):
+    """Performs `get-unsat-assumptions`."""
+    if len(parts) != 1:
+        raise Fault(start, b"BadShape")
+    return question(state, b"get-unsat-assumptions", start, UNSAT, state.options[b":produce-unsat-assumptions"])
 
 
 def get_value(state, parts, start):
@@ -136,6 +155,8 @@ def get_info(state, parts, start):
 QUESTIONS = {
     b"get-model": get_model,
     b"get-proof": get_proof,
+    b"get-unsat-core": get_unsat_core,
+    b"get-unsat-assumptions": get_unsat_assumptions,
     b"get-value": get_value,
     b"get-assertions": get_assertions,
     b"get-option": get_option,
