@@ -140,16 +140,20 @@ class Comparison:
             self.tell(f"{wrong} {errors!r}", script)
         return proofs
 
-    def check(self, script, number, proof, must_be_valid=False):
-        """Compares `check` on a script and a proof, which it reads from a file or from standard input."""
-        wanted, status = predict_check(script, number, proof)
-        paths = [os.path.join(self.folder, name) for name in ("script", "proof")]
-        for path, text in zip(paths, (script, proof)):
+    def judge(self, command, script, number, judged):
+        """Runs `check` or `validate` on a script and what it judges, which it reads from a file or from standard input."""
+        paths = [os.path.join(self.folder, name) for name in ("script", "judged")]
+        for path, text in zip(paths, (script, judged)):
             with open(path, "wb") as out:
                 out.write(text)
-        words = ["check"] if number == 1 and random.random() < 0.8 else ["check", "--at", str(number)]
+        words = [command] if number == 1 and random.random() < 0.8 else [command, "--at", str(number)]
         from_input = random.random() < 0.3
-        got = self.run([*words, paths[0], "" if from_input else paths[1]], proof if from_input else b"")
+        return self.run([*words, paths[0], "" if from_input else paths[1]], judged if from_input else b"")
+
+    def check(self, script, number, proof, must_be_valid=False):
+        """Compares `check` on a script and a proof."""
+        wanted, status = predict_check(script, number, proof)
+        got = self.judge("check", script, number, proof)
         if got != (wanted, status, b"") or (must_be_valid and status != 0):
             self.tell(f"at {number}, wanted {wanted!r} and {status}, got {got!r}", script, proof)
         elif status == 0 and current_checks(script)[number - 1].is_satisfiable is True:

@@ -1,6 +1,5 @@
 """Runs of `validate` on models that `certify` prints, and on such models with something changed."""
 
-import os
 import random
 import re
 
@@ -55,15 +54,9 @@ def with_other_definitions(model):
 
 
 def judge_model(comparison, script, number, model, is_printed=False):
-    """Compares `validate` on a script and a model file, which it reads from a file or from standard input."""
+    """Compares `validate` on a script and a model file."""
     wanted, status = predict_validate(script, number, model)
-    paths = [os.path.join(comparison.folder, name) for name in ("script", "model")]
-    for path, text in zip(paths, (script, model)):
-        with open(path, "wb") as out:
-            out.write(text)
-    words = ["validate"] if number == 1 and random.random() < 0.8 else ["validate", "--at", str(number)]
-    from_input = random.random() < 0.3
-    got = comparison.run([*words, paths[0], "" if from_input else paths[1]], model if from_input else b"")
+    got = comparison.judge("validate", script, number, model)
     if got != (wanted, status, b""):
         comparison.tell(f"at {number}, wanted {wanted!r} and {status}, got {got!r}", script, model)
     elif is_printed and got != VALID and b"ValueWide" not in wanted:

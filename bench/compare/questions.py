@@ -80,32 +80,15 @@ def question(state, word, start, needs, is_enabled, **given):
     return Question(word, start, state.asked, needs, is_enabled, **given)
 
 
-def get_model(state, parts, start):
-    """Performs `get-model`."""
-    if len(parts) != 1:
-        raise Fault(start, b"BadShape")
-    return question(state, b"get-model", start, SAT, state.options[b":produce-models"])
+def plain(word, mode, option):
+    """Gives what performs a question that is a word alone, in a mode and with an option."""
 
+    def perform(state, parts, start):
+        if len(parts) != 1:
+            raise Fault(start, b"BadShape")
+        return question(state, word, start, mode, state.options[option])
 
-def get_proof(state, parts, start):
-    """Performs `get-proof`."""
-    if len(parts) != 1:
-        raise Fault(start, b"BadShape")
-    return question(state, b"get-proof", start, UNSAT, state.options[b":produce-proofs"])
-
-
-def get_unsat_core(state, parts, start):
-    """Performs `get-unsat-core`."""
-    if len(parts) != 1:
-        raise Fault(start, b"BadShape")
-    return question(state, b"get-unsat-core", start, UNSAT, state.options[b":produce-unsat-cores"])
-
-
-def get_unsat_assumptions(state, parts, start):
-    """Performs `get-unsat-assumptions`."""
-    if len(parts) != 1:
-        raise Fault(start, b"BadShape")
-    return question(state, b"get-unsat-assumptions", start, UNSAT, state.options[b":produce-unsat-assumptions"])
+    return perform
 
 
 def get_value(state, parts, start):
@@ -153,10 +136,10 @@ def get_info(state, parts, start):
 
 
 QUESTIONS = {
-    b"get-model": get_model,
-    b"get-proof": get_proof,
-    b"get-unsat-core": get_unsat_core,
-    b"get-unsat-assumptions": get_unsat_assumptions,
+    b"get-model": plain(b"get-model", SAT, b":produce-models"),
+    b"get-proof": plain(b"get-proof", UNSAT, b":produce-proofs"),
+    b"get-unsat-core": plain(b"get-unsat-core", UNSAT, b":produce-unsat-cores"),
+    b"get-unsat-assumptions": plain(b"get-unsat-assumptions", UNSAT, b":produce-unsat-assumptions"),
     b"get-value": get_value,
     b"get-assertions": get_assertions,
     b"get-option": get_option,

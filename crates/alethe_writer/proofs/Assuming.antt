@@ -1,5 +1,5 @@
 -- The terms that printed assumes have are marked, from the last clause on.
-use Rattle.std.proofs.Common.{◌≡◌, ℕ, zero, suc, ◌+◌, ◌<◌, ◌≤◌, Bool, true, false, ◌||◌, inl, inr, List, [], ◌∷◌, length, drop, get_or, map, Contains, Option, Some, None, refl, sym, ap, ◌∙◌, subst, arith}
+use Rattle.std.proofs.Common.{◌≡◌, ℕ, zero, suc, ◌+◌, ◌<◌, ◌≤◌, Bool, true, false, ◌||◌, inl, inr, List, [], ◌∷◌, length, drop, get_or, Contains, Option, Some, None, refl, sym, ap, ◌∙◌, subst, arith}
 use Rattle.std.specs.Prelude.{MatchBool, slice_index_or, replicate}
 use Rattle.std.proofs.lemmas.Bool.{false≢true, cases_eq}
 use Rattle.std.proofs.lemmas.List.Elements.{All-contains}
@@ -8,7 +8,7 @@ use Rattle.spec_text.proofs.Members.{first, only}
 use Rattle.spec_sorts.specs.Terms.{Term, no_term, same_term}
 use Rattle.spec_sorts.specs.Subterms.{has_term}
 use Rattle.spec_sorts.proofs.SameTerms.{terms_decide}
-use Rattle.spec_derivations.specs.Derivations.{Inference, «assumption», by_rule, Derivation}
+use Rattle.spec_derivations.specs.Derivations.{«assumption», by_rule, Derivation}
 use Rattle.spec_proof_texts.specs.Plans.{terms_planned}
 use Rattle.term_core.specs.declared.ids.TermId.{TermId}
 use Rattle.term_core.specs.Tables.{TableView, term_at, IsIn, AreDifferent}

@@ -1,8 +1,7 @@
 -- Marks of a table's terms, and the assumes of what is printed.
-use Rattle.std.specs.Prelude.{◌≡◌, ℕ, ◌<◌, Bool, true, false, List, [], ◌∷◌, length, Option, Some, None, get_or}
+use Rattle.std.specs.Prelude.{◌≡◌, ℕ, ◌<◌, Bool, true, false, List, length, Option, Some, None, get_or}
 use Rattle.std.specs.Prelude.{slice_index_or}
 use Rattle.spec_sorts.specs.Terms.{Term, no_term}
-use Rattle.spec_derivations.specs.Derivations.{Inference, «assumption», by_rule}
 use Rattle.term_core.specs.Tables.{TableView}
 use Rattle.proof_log.specs.Logs.{Logged}
 use Rattle.proof_log.specs.Logs as logged

@@ -1,6 +1,6 @@
 //! What stays of the lists by clauses, in place.
 
-ghost use Rattle.std.specs.Prelude.{◌≡◌, ◌+◌, ◌<◌, ◌≤◌, ◌^◌, length, set, get_or, None};
+ghost use Rattle.std.specs.Prelude.{◌≡◌, ◌+◌, ◌<◌, ◌≤◌, ◌^◌, length, get_or, None};
 ghost use Rattle.clause_store.specs.Entries.{clauses_of, steps_of};
 ghost use Rattle.clause_store.specs.Keeping.{staying, steps_in, count_first, number_if, next_after as after, numbered_from, ChoosesOne, with_step};
 

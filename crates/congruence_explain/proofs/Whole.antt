@@ -9,7 +9,7 @@ use Rattle.spec_derivations.proofs.Exact.{same_chain}
 use Rattle.term_core.specs.declared.ids.TermId.{TermId}
 use Rattle.term_core.specs.declared.ids.Lit.{Lit}
 use Rattle.term_core.specs.Tables.{TableView, IsIn, AreDifferent, literal_at, clause_at}
-use Rattle.clause_literals.specs.Literals.{lit_complement, AreLiteralsIn, LiteralsMean}
+use Rattle.clause_literals.specs.Literals.{lit_complement, LiteralsMean}
 use Rattle.clause_literals.proofs.LiteralLists.{negation_twice}
 use Rattle.clause_literals.proofs.TableLiterals.{literals_apart}
 use Rattle.rule_bool.specs.Resolvents.{MeansEach}

@@ -1,5 +1,5 @@
 -- A conjunction within the bound has the value true where each of its terms has.
-use Rattle.std.proofs.Common.{◌≡◌, ◌≤◌, ℕ, List, [], ◌∷◌, length, map, slice_index_or, All, Bool, true, if◌then◌else◌, Option, Some, None, refl, sym, ap, ◌∙◌, subst}
+use Rattle.std.proofs.Common.{◌≡◌, ◌≤◌, ℕ, List, [], ◌∷◌, length, map, slice_index_or, All, Bool, true, if◌then◌else◌, Some, None, refl, sym, ap, ◌∙◌, subst}
 use Rattle.std.proofs.lemmas.Bool.{and_parts}
 use Rattle.std.specs.Prelude.{Result, Ok, Err, IfOk}
 use Rattle.no_memory.specs.declared.NoMemory.{NoMemory}
@@ -19,7 +19,7 @@ use Rattle.term_walks.specs.declared.values.Interp.{Interp}
 use Rattle.term_walks.specs.Valuations.{no_table, table_meant, IsTableNamed, HasTables, HasSymbolTables}
 use Rattle.script_standing.specs.declared.standing.Expression.{Expression}
 use Rattle.script_standing.specs.Standings.{terms_of}
-use Rattle.model_judge.specs.Untrue.{untrue_at, first_untrue_at, conjunction_at, IsTrueAt}
+use Rattle.model_judge.specs.Untrue.{first_untrue_at, conjunction_at, IsTrueAt}
 
 -- the first of values, and the others
 first_value : (at : ℕ) (a : Result Value Overflow) (b : Result (List Value) Overflow) (vs : List Value) → (a >>= λ v. b >>= λ ws. Ok (v ∷ ws)) ≡ Ok vs → all_true vs ≡ true

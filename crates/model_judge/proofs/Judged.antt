@@ -1,14 +1,14 @@
 -- From what was read and valued to the verdict.
-use Rattle.std.proofs.Common.{◌≡◌, ◌≤◌, ℕ, inl, inr, List, length, Option, Some, None, false, option_map, refl, sym, ap, ◌∙◌, subst, if◌then◌else◌}
+use Rattle.std.proofs.Common.{◌≡◌, ◌≤◌, ℕ, inl, inr, List, length, Option, Some, None, false, option_map, refl, sym, ◌∙◌, subst, if◌then◌else◌}
 use Rattle.std.specs.Prelude.{Result, Ok, Err, OnOk}
 use Rattle.spec_text.specs.Places.{IsPlaceOf}
 use Rattle.spec_sorts.specs.Signatures.{Signature}
 use Rattle.spec_commands.specs.Stack.{signature_of}
 use Rattle.spec_commands.specs.Checks.{asked, term_limit, HasNoCheck}
 use Rattle.spec_model_files.specs.declared.ModelKind.TheVariants.{NoSuchCheck}
-use Rattle.spec_model_files.specs.Faults.{ModelFault, model_fault, is_of_script, faulty_text, ReadModel}
+use Rattle.spec_model_files.specs.Faults.{ModelFault, is_of_script, faulty_text, ReadModel}
 use Rattle.spec_model_files.specs.Definitions.{DefinedSymbol, interpretation_of}
-use Rattle.spec_model_files.specs.Verdicts.{IsModelReading, IsModelVerdict, first_untrue, judged, no_such_check}
+use Rattle.spec_model_files.specs.Verdicts.{IsModelReading, IsModelVerdict, judged, no_such_check}
 use Rattle.term_walks.specs.declared.values.Interp.{Interp}
 use Rattle.script_standing.specs.declared.standing.Standing.{Standing}
 use Rattle.script_standing.specs.Standings.{Stands}

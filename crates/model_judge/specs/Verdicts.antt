@@ -17,8 +17,8 @@ use Rattle.model_read.specs.declared.errors.ModelStop.TheVariants as stops
 abbrev pub fault_view : CodeFault → ModelFault
 fault_view f = model_fault f.place.offset f.kind
 
--- the verdict on a model file of the k-th check of a script, with the place of a fault in the text that it is in; out of
--- memory is free
+-- the verdict on a model file of the k-th check of a script, with the place of a fault in the text that it is in; out
+-- of memory is free
 abbrev pub AnswersModel : List ℕ → ℕ → List ℕ → Result (Unit {0}) ModelStop → Type 0
 AnswersModel script k model (Ok u) = IsModelVerdict script k model None
 AnswersModel script k model (Err (stops.Fault f)) = IsModelVerdict script k model (Some (fault_view f))

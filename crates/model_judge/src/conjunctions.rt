@@ -1,6 +1,6 @@
 //! Whether expressions are all true, by the value of their conjunction.
 
-ghost use Rattle.std.specs.Prelude.{◌≡◌, [], true, map, IfOk, IfSome};
+ghost use Rattle.std.specs.Prelude.{◌≡◌, true, IfOk, IfSome};
 ghost use Rattle.spec_sorts.specs.Values.{Interpretation};
 ghost use Rattle.term_reader.specs.Building.{KeepsTable, MeansTerm};
 ghost use Rattle.term_walks.specs.Valuations.{HasTables, HasSymbolTables};

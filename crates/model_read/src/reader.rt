@@ -1,6 +1,6 @@
 //! The definitions of a model's text, one after the other.
 
-ghost use Rattle.std.specs.Prelude.{◌≡◌, ℕ, ◌∷◌};
+ghost use Rattle.std.specs.Prelude.{◌≡◌};
 ghost use Rattle.spec_text.specs.Places.{IsPlaceOf};
 ghost use Rattle.spec_text.specs.Lexemes.{lexemes, lexemes_from};
 ghost use Rattle.spec_text.specs.Readings.{kept};

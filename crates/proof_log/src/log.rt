@@ -1,6 +1,6 @@
 //! The log: clauses in the order in which they came.
 
-ghost use Rattle.std.specs.Prelude.{◌≡◌, ◌<◌, [], ◌∷◌, ◌++◌, length, take, All, MatchOption, MatchResult};
+ghost use Rattle.std.specs.Prelude.{◌≡◌, ◌<◌, [], ◌∷◌, ◌++◌, length, take, MatchOption, MatchResult};
 ghost use Rattle.spec_derivations.specs.Derivations.{FollowsFrom};
 ghost use Rattle.term_core.specs.Tables.{TableView};
 ghost use Rattle.proof_log.specs.Logs.{AreFormulasIn, AreStepsOf, IsLogOf, named, premises_in, stepped, logged_at, inference_of, derivation_in, IsAssumed, AreEarlier};

@@ -19,8 +19,6 @@ pub struct Reach {
 }
 
 impl Reach {
-    ghost use Rattle.proof_log.specs.Levels.{LevelMark};
-
     /// Tells whether all that the clause rests on is of the first so many terms, and what is assumed of the first so many clauses.
     pub fn is_within(self, terms: u64, steps: u64) -> bool
         ensures { (result ≡ true) ↔ IsReachWithin (record { terms = terms; steps = steps }) (reach_view self) }

@@ -1,5 +1,5 @@
 -- Marks of a table's terms, of which some are taken.
-use Rattle.std.proofs.Common.{◌≡◌, ℕ, ◌+◌, ◌<◌, Bool, true, false, not, ◌&&◌, ◌||◌, inl, inr, List, [], ◌∷◌, ◌++◌, cond, length, drop, map, get_or, Option, Some, None, refl, sym, ap, ◌∙◌, subst, arith, append_assoc, append-nil}
+use Rattle.std.proofs.Common.{◌≡◌, ℕ, ◌+◌, ◌<◌, Bool, true, false, not, ◌&&◌, ◌||◌, inl, inr, List, [], ◌∷◌, ◌++◌, cond, length, drop, get_or, Option, Some, None, refl, sym, ap, ◌∙◌, subst, arith, append_assoc, append-nil}
 use Rattle.std.specs.Prelude.{◌≤◌, slice_index_or}
 use Rattle.std.specs.List.{slice_set}
 use Rattle.std.proofs.lemmas.Bool.{false≢true, cases_eq}
@@ -12,8 +12,8 @@ use Rattle.spec_sorts.specs.Subterms.{has_term}
 use Rattle.spec_sorts.specs.Signatures.{is_some}
 use Rattle.spec_sorts.proofs.SameTerms.{terms_decide}
 use Rattle.spec_commands.specs.Labels.{label_of}
-use Rattle.spec_commands.specs.Stack.{Assertion, Stack, assertions_of, terms_asserted}
-use Rattle.spec_sessions.specs.Cores.{unnamed_by, unnamed, named_by, names_from, core_names, literals_from, core_literals}
+use Rattle.spec_commands.specs.Stack.{Assertion, Stack, assertions_of}
+use Rattle.spec_sessions.specs.Cores.{unnamed_by, unnamed, named_by, names_from, core_names, literals_from}
 use Rattle.term_core.specs.declared.ids.TermId.{TermId}
 use Rattle.term_core.specs.Tables.{TableView, term_at, IsIn, AreDifferent}
 use Rattle.alethe_writer.specs.Assumes.{SaysWhether}

@@ -5,7 +5,7 @@ ghost use Rattle.std.specs.Prelude.{slice_index_or, option_map, IfOk};
 ghost use Rattle.spec_sorts.specs.Signatures.{is_some};
 ghost use Rattle.spec_sorts.specs.Terms.{Term};
 ghost use Rattle.spec_sorts.specs.Subterms.{has_term};
-ghost use Rattle.spec_commands.specs.Stack.{Assertion, Stack as ScriptStack, assertions_of, terms_asserted};
+ghost use Rattle.spec_commands.specs.Stack.{Assertion, Stack as ScriptStack, assertions_of};
 ghost use Rattle.spec_sessions.specs.Cores.{unnamed, core_names, literals_from, core_literals};
 ghost use Rattle.term_core.specs.Tables.{AreIn};
 ghost use Rattle.proof_log.specs.Logs.{IsLogOf};

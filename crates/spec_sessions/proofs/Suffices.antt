@@ -19,7 +19,7 @@ use Rattle.spec_proof_texts.specs.ReadBack.{AreScriptNames}
 use Rattle.spec_proof_texts.proofs.Numbers.{planned_there}
 use Rattle.spec_proof_texts.proofs.Assumed.{assumes_planned}
 use Rattle.spec_sessions.specs.Refutations.{IsProofOf}
-use Rattle.spec_sessions.specs.Cores.{core_names, literals_from, core_literals, core_of, assumptions_of, stays, without_others, asked_by_core, asked_by_assumptions}
+use Rattle.spec_sessions.specs.Cores.{literals_from, core_of, assumptions_of, stays, without_others, asked_by_core, asked_by_assumptions}
 use Rattle.spec_sessions.proofs.Cored.{core_has, assumptions_have}
 
 -- no number is marked beyond the marks

@@ -27,7 +27,8 @@ both_of commands = by (check_of commands) (assuming (codes "p") (codes "(not p)"
     by c text = (core_of c text, map (λ (a : Assertion). printed a.text) (assumptions_of c text))
 
 -- of two named assertions with one term the first is named
-pub first_counts : both_of (codes "(assert (! p :named a))(assert (! p :named b))(assert (! (not p) :named c))(check-sat)")
+pub first_counts : both_of
+    (codes "(assert (! p :named a))(assert (! p :named b))(assert (! (not p) :named c))(check-sat)")
     ≡ (codes "a" ∷ codes "c" ∷ [], [])
 unfolding proofs_on_literals commands_in names_from literals_from
 first_counts = refl
@@ -58,7 +59,7 @@ bars_are_none = refl
 
 -- what the proof does not assume is not named; what it defines is read
 pub only_assumed : core_of
-    (check_of (codes "(assert (! p :named a))(assert (! (or q (not q)) :named b))(assert (! (not p) :named c))(check-sat)"))
+    (check_of (codes "(assert (! p :named a))(assert (! q :named b))(assert (! (not p) :named c))(check-sat)"))
     (codes "unsat (define-fun @p1 () Bool (not p)) (assume h1 p) (assume h2 @p1) (step t1 (cl) :rule resolution)")
     ≡ codes "a" ∷ codes "c" ∷ []
 unfolding proofs_on_literals commands_in names_from

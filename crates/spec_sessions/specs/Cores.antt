@@ -1,7 +1,7 @@
 -- The unsat core of a check, and the assumptions that its proof rests on: both are told by the terms that the proof's
 -- text assumes. Source: SMT-LIB 2.6, section 4.2.7; which of equal terms is named, and that a term which needs no name
 -- has none, is own.
-use Rattle.std.specs.Prelude.{ℕ, Bool, true, not, ◌||◌, ◌&&◌, List, [], ◌∷◌, ◌++◌, map, Option, Some, None}
+use Rattle.std.specs.Prelude.{ℕ, Bool, true, not, ◌||◌, ◌&&◌, List, [], ◌∷◌, ◌++◌, Option, Some, None}
 use Rattle.std.specs.Prelude.{if◌then◌else◌}
 use Rattle.std.specs.List.{filter}
 use Rattle.spec_text.specs.Bytes.{Name, among}

@@ -1,5 +1,5 @@
 -- One literal more is looked at.
-use Rattle.std.proofs.Common.{◌≡◌, [], Some, ◌<◌, ◌≤◌, length, get_or, sym, ap, ◌∙◌, subst, arith}
+use Rattle.std.proofs.Common.{◌≡◌, [], Some, ◌<◌, length, get_or, sym, ◌∙◌, subst, arith}
 use Rattle.std.proofs.lemmas.List.{get_or_default}
 use Rattle.term_core.specs.declared.ids.TermId.{TermId}
 use Rattle.smt_reply.specs.Cores.{ListsMarked}

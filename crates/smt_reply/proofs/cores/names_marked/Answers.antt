@@ -1,5 +1,5 @@
 -- One assertion more is looked at.
-use Rattle.std.proofs.Common.{◌≡◌, false, ◌<◌, ◌≤◌, length, get_or, sym, ap, ◌∙◌, subst, arith}
+use Rattle.std.proofs.Common.{false, ◌<◌, length, get_or, sym, ap, ◌∙◌, subst, arith}
 use Rattle.spec_commands.specs.Stack.{assertions_of}
 use Rattle.term_core.specs.declared.ids.TermId.{TermId}
 use Rattle.assertion_stack.specs.Assertions.{no_written}

@@ -1,5 +1,5 @@
 -- One assertion more is struck, or is not.
-use Rattle.std.proofs.Common.{◌≡◌, true, false, not, ◌||◌, ◌<◌, ◌+◌, ◌-◌, drop, length, get_or, refl, sym, ap, ◌∙◌, subst, arith}
+use Rattle.std.proofs.Common.{◌≡◌, true, false, ◌<◌, ◌+◌, ◌-◌, drop, length, get_or, refl, sym, ap, ◌∙◌, subst, arith}
 use Rattle.std.specs.List.{slice_set}
 use Rattle.std.proofs.lemmas.List.{length-set}
 use Rattle.spec_commands.specs.Stack.{assertions_of}

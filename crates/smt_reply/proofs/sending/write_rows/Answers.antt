@@ -1,5 +1,5 @@
 -- One of the rows more was written, or a prefix of it.
-use Rattle.std.proofs.Common.{◌<◌, [], length, arith}
+use Rattle.std.proofs.Common.{◌<◌, length, arith}
 use Rattle.world_io.proofs.Chains.{next, fails}
 use Rattle.smt_reply.proofs.Listed.{next_row}
 use Rattle.smt_reply.proofs.sending.write_rows.Goals as goal

@@ -1,10 +1,10 @@
 -- By what the command came to.
-use Rattle.std.proofs.Common.{◌≡◌, refl, sym, subst}
+use Rattle.std.proofs.Common.{◌≡◌, refl}
 use Rattle.spec_commands.specs.Stack.{done, unsupported, say, leave}
 use Rattle.spec_commands.specs.Checks.{Check}
 use Rattle.spec_sessions.specs.Responses.{success, not_supported, echoed, ended}
 use Rattle.assertion_stack.specs.Stacks.{OverTable, over_table}
-use Rattle.check_evidence.specs.Evidence.{limits_meant, IsHeldCheck}
+use Rattle.check_evidence.specs.Evidence.{limits_meant}
 use Rattle.smt_session.specs.declared.script.Script.{Script}
 use Rattle.smt_session.proofs.Taking.{held_next, check_held, done_so, found_so, on_error, refused_as, refused_keeps, refused_script}
 use Rattle.smt_session.proofs.script.take_command.Goals as goal

@@ -1,7 +1,7 @@
 -- That what is shown is so.
 use Rattle.std.proofs.Common.{◌≡◌, ℕ, List, [], ◌++◌, All, Contains, None, get_or, refl, sym, ap, ◌∙◌, subst}
 use Rattle.std.proofs.lemmas.List.Elements.{All-nil, All-map, All-contains, All-contains_itself, All-weaker, Contains-get_or}
-use Rattle.spec_sorts.specs.Values.{is_true, Interpretation, Interprets}
+use Rattle.spec_sorts.specs.Values.{is_true, Interpretation}
 use Rattle.spec_sorts.specs.WellSorted.{IsFormulaOver}
 use Rattle.spec_sorts.specs.TermValues.{value_at}
 use Rattle.spec_sorts.specs.Signatures.{Signature, symbols_in}
@@ -9,7 +9,7 @@ use Rattle.spec_sorts.specs.Meaning.{value_under}
 use Rattle.spec_reading.specs.WellSorted.{AreWellSorted}
 use Rattle.spec_text.specs.Readings.{is_long}
 use Rattle.spec_commands.specs.Stack.{Assertion, terms_asserted, signature_of}
-use Rattle.spec_commands.specs.Checks.{Check, asked, IsTrueAssertion, IsCurrent, MakesTrue}
+use Rattle.spec_commands.specs.Checks.{Check, asked, IsCurrent, MakesTrue}
 use Rattle.spec_commands.proofs.Carried.{Property, here}
 use Rattle.spec_commands.proofs.Asked.{asked_sound}
 use Rattle.spec_commands.proofs.Kept.{sound_here, sound_values, sound_formulas}
