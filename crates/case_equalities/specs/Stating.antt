@@ -68,13 +68,13 @@ abbrev pub AreStepsIn : Batch → List Logged → List StepId → Type 0
 AreStepsIn b log ids = All (IsStepOf b log) ids
 
 -- the step of a rule without premises
-abbrev pub alone : Rule → List TermId → Logged
-alone rule clause = stepped rule [] [] clause
+abbrev pub without_premises : Rule → List TermId → Logged
+without_premises rule clause = stepped rule [] [] clause
 
 -- it does not follow, or whether it does cannot be told within the bound on numbers
 abbrev pub IsNotTaken : TableView → List Logged → Rule → List TermId → Type 0
-IsNotTaken t log rule clause = (FollowsFrom (derivation_in t log) (inference_of t (alone rule clause)) → ⊥)
-    ⊎ IsWideFrom (derivation_in t log) (inference_of t (alone rule clause))
+IsNotTaken t log rule clause = (FollowsFrom (derivation_in t log) (inference_of t (without_premises rule clause)) → ⊥)
+    ⊎ IsWideFrom (derivation_in t log) (inference_of t (without_premises rule clause))
 
 -- it is one of this clause
 abbrev pub StatesBoth : Batch → List Logged → TermId → TermId → StepId → Type 0

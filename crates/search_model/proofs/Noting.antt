@@ -18,7 +18,7 @@ use Rattle.term_walks.specs.declared.values.Value.{Value as CodeValue}
 use Rattle.term_walks.specs.declared.values.Table.{Table as CodeTable}
 use Rattle.term_walks.specs.Valuations.{no_table, value_meant, values_meant, IsTableNamed}
 use Rattle.search_model.specs.Models.{symbol_in}
-use Rattle.search_model.specs.Made.{value_at_id, IsValueOf, HasValues, meant, with_row, with_default, row_put, default_put, AreTables}
+use Rattle.search_model.specs.Made.{value_at_id, IsValueOf, HasValues, meant, with_table_row, with_default, row_put, default_put, AreTables}
 use Rattle.search_model.proofs.SymbolRows.{no_arguments, table_with_row, table_with_default}
 use Rattle.search_model.proofs.TablesMade.{tables_put, valued, arguments_valued}
 
@@ -88,7 +88,7 @@ module _ (t : TableView) (different : AreDifferent t.terms) (apart : HaveNoTwice
         let r : TableRow = record { arguments = values_meant t.sorts (map (value_at_id vs) s.arguments); value = value_meant t.sorts (value_at_id vs id) } in
         let arguments : values_meant t.sorts (map (value_at_id vs) s.arguments) ≡ values_by v ts =
         arguments_valued t v ids vs values different s.arguments argument_valued ∙ ap (map v) (sym (list_of-terms_of (clause_at t s.arguments))) in
-        tables_put t v done u is_there tables old k.0 ts new (with_row x r) apart symbol_there term_is new_is
+        tables_put t v done u is_there tables old k.0 ts new (with_table_row x r) apart symbol_there term_is new_is
         (table_with_row v f done u x r ts p.0 p.1 (old.each k.0 symbol_there) p.2 term_is (λ i. record { arguments = arguments i; value = its_value.means i }))
         named
 

@@ -9,7 +9,7 @@ use Rattle.spec_sorts.specs.Terms.{Sort, Symbol, Apply, Term, Terms, app, nil, c
 use Rattle.spec_sorts.specs.Values.{Value, TableRow, Table, first_fit, same_values}
 use Rattle.spec_sorts.proofs.SameTerms.{one_symbol, symbol_itself}
 use Rattle.spec_valuations.specs.Tables.{Valuation, values_by, default_value, arguments_at, rows_at, rows_of, table_by, table_of}
-use Rattle.search_model.specs.Made.{with_row, with_default}
+use Rattle.search_model.specs.Made.{with_table_row, with_default}
 
 -- the arguments that are given, where some are
 abbrev given : Option Terms → Terms
@@ -59,11 +59,11 @@ module _ (v : Valuation) (s : Symbol) where
 
     -- one with arguments that it heads gives a row
     pub table_with_row : (x : Table) (r : TableRow) (ts : Terms) (p : Sort) (ps : List Sort) → x ≡ table_of v s done → s.parameters ≡ p ∷ ps → u ≡ app (Apply s) ts
-        → r ≡ record { arguments = values_by v ts; value = v u } → with_row x r ≡ table_of v s (done ++ u ∷ [])
+        → r ≡ record { arguments = values_by v ts; value = v u } → with_table_row x r ≡ table_of v s (done ++ u ∷ [])
     table_with_row x r ts p ps x_is takes u_is r_is =
         let rows : rows_of v s (done ++ u ∷ []) ≡ rows_of v s done ++ r ∷ [] =
         rows_more done u ∙ ap (λ o. rows_of v s done ++ rows_at v o (v u)) (ap (arguments_at s) u_is ∙ arguments_own s ts) ∙ ap (λ (y : TableRow). rows_of v s done ++ y ∷ []) (sym r_is) in
-        ap (λ (y : Table). with_row y r) (x_is ∙ ap (λ qs. table_by v s qs done) takes)
+        ap (λ (y : Table). with_table_row y r) (x_is ∙ ap (λ qs. table_by v s qs done) takes)
         ∙ ap (λ (rs : List TableRow). let y : Table = record { rows = rs; default = default_value s.result } in y) (sym rows) ∙ sym (ap (λ qs. table_by v s qs (done ++ u ∷ [])) takes)
 
   -- the value of a constant is what its rows give

@@ -48,8 +48,8 @@ abbrev pub meant : List Name → List CodeTable → List Table
 meant sorts tables = map (table_meant sorts) tables
 
 -- the table with a row more
-abbrev pub with_row : Table → TableRow → Table
-with_row x r = record { rows = x.rows ++ r ∷ []; default = x.default }
+abbrev pub with_table_row : Table → TableRow → Table
+with_table_row x r = record { rows = x.rows ++ r ∷ []; default = x.default }
 
 -- the table with another default
 abbrev pub with_default : Table → Value → Table
@@ -57,7 +57,7 @@ with_default x d = record { rows = x.rows; default = d }
 
 -- the tables with a row more in one of them
 abbrev pub row_put : List Table → ℕ → TableRow → List Table
-row_put tables k r = slice_set tables k (with_row (get_or tables k no_table) r)
+row_put tables k r = slice_set tables k (with_table_row (get_or tables k no_table) r)
 
 -- the tables with another default in one of them
 abbrev pub default_put : List Table → ℕ → Value → List Table

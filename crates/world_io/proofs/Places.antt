@@ -3,24 +3,24 @@ use Rattle.std.proofs.Common.{◌≡◌, ℕ, zero, suc, ◌+◌, ◌≤◌, ◌
 use Rattle.std.specs.Prelude.{string_bytes}
 use Rattle.std.specs.Str.{bytes_eq}
 use Rattle.std.proofs.lemmas.List.{take_at, drop-drop, take-append-drop, length-take-le}
-use Rattle.world_io.specs.Memory.{NamedText, text_of, text_named, text_at}
+use Rattle.world_io.specs.Memory.{NamedText, bytes_of_entry, text_named, text_at}
 
 -- the text of the entry at an index
-pub text_at-is : (es : List NamedText) (k : ℕ) (t : NamedText) → k < length es → t ≡ get_or es k t → t.1 ≡ text_at (map text_of es) k
+pub text_at-is : (es : List NamedText) (k : ℕ) (t : NamedText) → k < length es → t ≡ get_or es k t → t.1 ≡ text_at (map bytes_of_entry es) k
 text_at-is [] k t h e = absurd (omega arith)
 text_at-is (u ∷ es) zero t h e = ap (λ (x : NamedText). x.1) e
 text_at-is (u ∷ es) (suc k) t h e = text_at-is es k t (omega arith) e
 
 -- no text is past the last
-pub text_at-past : (es : List NamedText) (k : ℕ) → length es ≤ k → [] ≡ text_at (map text_of es) k
+pub text_at-past : (es : List NamedText) (k : ℕ) → length es ≤ k → [] ≡ text_at (map bytes_of_entry es) k
 text_at-past [] k h = refl
 text_at-past (u ∷ es) zero h = absurd (omega arith)
 text_at-past (u ∷ es) (suc k) h = text_at-past es k (omega arith)
 
 -- the text at an index that has the name is found from there on
-pub named_at : (es : List NamedText) (k : ℕ) (t : NamedText) (name : List ℕ) → k < length es → t ≡ get_or es k t → bytes_eq (string_bytes t.0) name ≡ true → text_named (map text_of (drop k es)) name ≡ Some t.1
+pub named_at : (es : List NamedText) (k : ℕ) (t : NamedText) (name : List ℕ) → k < length es → t ≡ get_or es k t → bytes_eq (string_bytes t.0) name ≡ true → text_named (map bytes_of_entry (drop k es)) name ≡ Some t.1
 named_at [] k t name h e s = absurd (omega arith)
-named_at (u ∷ es) zero t name h e s = rw (← e) (ap (λ b. cond b (Some t.1) (text_named (map text_of es) name)) s)
+named_at (u ∷ es) zero t name h e s = rw (← e) (ap (λ b. cond b (Some t.1) (text_named (map bytes_of_entry es) name)) s)
 named_at (u ∷ es) (suc k) t name h e s = named_at es k t name (omega arith) e s
 
 -- a prefix that was copied, and what comes after it

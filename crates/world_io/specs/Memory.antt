@@ -17,8 +17,8 @@ abbrev pub NamedText : Type 0
 NamedText = String Global × Bytes
 
 -- an entry's bytes
-abbrev pub text_of : NamedText → Text
-text_of entry = (string_bytes entry.0, entry.1)
+abbrev pub bytes_of_entry : NamedText → Text
+bytes_of_entry entry = (string_bytes entry.0, entry.1)
 
 -- the first text of that name
 abbrev pub text_named : List Text → List ℕ → Option (List ℕ)

@@ -1,7 +1,7 @@
 //! A shelf and a sink in memory, which can be made to fail.
 
 ghost use Rattle.std.specs.Prelude.{◌≡◌, ◌+◌, ◌-◌, ◌≤◌, ◌<◌, ◌++◌, ◌⊎◌, [], length, map, min, take, drop, Some, None, MatchBool, MatchOption, Contains, IfOk, IsOk, vec_len, vec_capacity};
-ghost use Rattle.world_io.specs.Memory.{text_of, text_named, text_at, ShelfState, SinkState, next_number, seen_sink, BeginsText, ReadsShelf, Writes};
+ghost use Rattle.world_io.specs.Memory.{bytes_of_entry, text_named, text_at, ShelfState, SinkState, next_number, seen_sink, BeginsText, ReadsShelf, Writes};
 
 use crate::fault::{counted, one_more};
 use crate::{Bytes, Failed, Shelf, Sink};
@@ -26,13 +26,13 @@ pub struct MemShelf {
 
 impl Model for MemShelf {
     ghost use Rattle.std.specs.Prelude.{map, drop};
-    ghost use Rattle.world_io.specs.Memory.{text_of, text_at, ShelfState};
+    ghost use Rattle.world_io.specs.Memory.{bytes_of_entry, text_at, ShelfState};
 
     ghost Value = { ShelfState };
 
     ghost view = { λ s. record {
-      texts = map text_of s.texts.items;
-      left = drop s.offset (text_at (map text_of s.texts.items) s.current);
+      texts = map bytes_of_entry s.texts.items;
+      left = drop s.offset (text_at (map bytes_of_entry s.texts.items) s.current);
       most = s.most;
       failing = s.failing.items;
       calls = s.calls;
@@ -54,7 +54,7 @@ impl MemShelf {
         ensures made { IsOk result }
         ensures state { IfOk result (λ s. s
             ≡ record {
-              texts = map text_of texts.items;
+              texts = map bytes_of_entry texts.items;
               left = [];
               most = most;
               failing = failing.items;
@@ -209,9 +209,9 @@ fn is_to_fail(failing: &[u64], calls: &mut u64) -> bool
 
 /// Finds the index of the first text of a name.
 fn place_of(texts: &[(String, Bytes)], name: &str) -> Option<usize>
-    ensures { MatchOption result (text_named (map text_of texts.now) name.now ≡ None)
-        (λ k. (k < length texts.now) × (text_named (map text_of texts.now) name.now
-        ≡ Some (text_at (map text_of texts.now) k))) }
+    ensures { MatchOption result (text_named (map bytes_of_entry texts.now) name.now ≡ None)
+        (λ k. (k < length texts.now) × (text_named (map bytes_of_entry texts.now) name.now
+        ≡ Some (text_at (map bytes_of_entry texts.now) k))) }
 {
     for (k, t) in texts.iter().enumerate() {
         if t.0.as_str() == name {
@@ -223,7 +223,7 @@ fn place_of(texts: &[(String, Bytes)], name: &str) -> Option<usize>
 
 /// Lends the text at an index, empty where there is none.
 fn bytes_at(texts: &[(String, Bytes)], k: usize) -> &[u8]
-    ensures { result.now ≡ text_at (map text_of texts.now) k }
+    ensures { result.now ≡ text_at (map bytes_of_entry texts.now) k }
 {
     match texts.get(k) {
         Some(t) => t.1.as_slice(),
