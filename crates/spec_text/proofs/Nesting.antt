@@ -1,10 +1,8 @@
 -- Trees from lexemes, read from the last to the first.
-use Rattle.std.proofs.Common.{◌≡◌, ℕ, zero, suc, Bool, true, false, cond, List, [], ◌∷◌, ◌++◌, length, Option, None, IfSome, sym, ap, ◌∙◌, refl, append_assoc, append-nil, arith, subst}
-use Rattle.std.specs.Prelude.{nat_lt}
-use Rattle.spec_text.specs.declared.Fault.TheVariants.{TooDeep}
+use Rattle.std.proofs.Common.{◌≡◌, ℕ, zero, suc, List, [], ◌∷◌, ◌++◌, length, None, sym, ap, ◌∙◌, refl, append_assoc, append-nil, arith}
 use Rattle.spec_text.specs.Lexemes.{Lexeme, blank, opens, closes, word, wrong}
 use Rattle.spec_text.specs.Trees.{Tree, Trees, atom, list, none, more, spelled, spelled_all}
-use Rattle.spec_text.specs.Faults.{Located, located, first_fault}
+use Rattle.spec_text.specs.Faults.{first_fault}
 use Rattle.spec_text.proofs.Blanks.{HasNoBlank}
 
 -- trees, and after them the ends of lists that began before, each with the trees after it
@@ -44,55 +42,42 @@ built_open n at xs ts ((end, us) ∷ rest) h = record {
   text = ap (λ (ys : List (ℕ × Lexeme)). (at, opens) ∷ ys) (h.text ∙ sym (append_assoc (spelled_all ts ++ (end, closes) ∷ []) (spelled_all us) (spelled_outer rest) ∙ append_assoc (spelled_all ts) ((end, closes) ∷ []) (spelled_all us ++ spelled_outer rest)));
 }
 
-pub without_fault : (limit end n : ℕ) (xs : List (ℕ × Lexeme)) → HasNoBlank xs → first_fault limit end n xs ≡ None → IsBuilt n xs (built xs)
+pub without_fault : (end n : ℕ) (xs : List (ℕ × Lexeme)) → HasNoBlank xs → first_fault end n xs ≡ None → IsBuilt n xs (built xs)
 unfolding first_fault
-without_fault limit end zero [] h e = record { depth = refl; text = refl }
-without_fault limit end (suc n) [] h e = cc
-without_fault limit end n ((at, blank) ∷ xs) h e = absurd h
-without_fault limit end n ((at, opens) ∷ xs) h e = go (nat_lt n limit) (without_fault limit end (suc n) xs h) e
-  where
-    go : (t : Bool) → (first_fault limit end (suc n) xs ≡ None → IsBuilt (suc n) xs (built xs)) → cond t (first_fault limit end (suc n) xs) (located at TooDeep) ≡ None → IsBuilt n ((at, opens) ∷ xs) (built ((at, opens) ∷ xs))
-    go true f k = built_open n at xs (built xs).trees (built xs).outer (f k)
-    go false f k = cc
-without_fault limit end zero ((at, closes) ∷ xs) h e = cc
-without_fault limit end (suc n) ((at, closes) ∷ xs) h e =
-    let b = without_fault limit end n xs h e in
+without_fault end zero [] h e = record { depth = refl; text = refl }
+without_fault end (suc n) [] h e = cc
+without_fault end n ((at, blank) ∷ xs) h e = absurd h
+without_fault end n ((at, opens) ∷ xs) h e = built_open n at xs (built xs).trees (built xs).outer (without_fault end (suc n) xs h e)
+without_fault end zero ((at, closes) ∷ xs) h e = cc
+without_fault end (suc n) ((at, closes) ∷ xs) h e =
+    let b = without_fault end n xs h e in
     record { depth = omega (arith, b.depth); text = ap (λ (ys : List (ℕ × Lexeme)). (at, closes) ∷ ys) b.text }
-without_fault limit end n ((at, word k bytes) ∷ xs) h e =
-    let b = without_fault limit end n xs h e in
+without_fault end n ((at, word k bytes) ∷ xs) h e =
+    let b = without_fault end n xs h e in
     record { depth = b.depth; text = ap (λ (ys : List (ℕ × Lexeme)). (at, word k bytes) ∷ ys) b.text }
-without_fault limit end n ((at, wrong f) ∷ xs) h e = cc
+without_fault end n ((at, wrong f) ∷ xs) h e = cc
 
-pub trees_without_fault : (limit end : ℕ) (xs : List (ℕ × Lexeme)) → HasNoBlank xs → first_fault limit end 0 xs ≡ None → (ts : Trees) × (xs ≡ spelled_all ts)
-trees_without_fault limit end xs h e = go (built xs).trees (built xs).outer (without_fault limit end 0 xs h e)
+pub trees_without_fault : (end : ℕ) (xs : List (ℕ × Lexeme)) → HasNoBlank xs → first_fault end 0 xs ≡ None → (ts : Trees) × (xs ≡ spelled_all ts)
+trees_without_fault end xs h e = go (built xs).trees (built xs).outer (without_fault end 0 xs h e)
   where
     go : (ts : Trees) (outer : List (ℕ × Trees)) → IsBuilt 0 xs record { trees = ts; outer = outer } → (us : Trees) × (xs ≡ spelled_all us)
     go ts [] b = (ts, b.text ∙ append-nil (spelled_all ts))
     go ts (r ∷ rest) b = absurd (omega (arith, b.depth))
 
--- where there is a fault, lists are nested too deep
-abbrev pub IsDepth : Option Located → Type 0
-IsDepth o = IfSome o (λ f. f.fault ≡ TooDeep)
-
-IsDepthOf : (limit end n : ℕ) → List (ℕ × Lexeme) → Type 0
-IsDepthOf limit end n xs = IsDepth (first_fault limit end n xs)
-
+-- trees have no fault
 mutual
-  unfolding first_fault IsDepthOf
+  unfolding first_fault
 
-  depth_of_tree : (limit end n : ℕ) (t : Tree) (xs : List (ℕ × Lexeme)) → IsDepthOf limit end n xs → IsDepthOf limit end n (spelled t ++ xs)
-  depth_of_tree limit end n (atom at k bytes) xs h = h
-  depth_of_tree limit end n (list at ts close) xs h =
-      go (nat_lt n limit) (subst (IsDepthOf limit end (suc n)) (sym (append_assoc (spelled_all ts) ((close, closes) ∷ []) xs)) (depth_of_trees limit end (suc n) ts ((close, closes) ∷ xs) h))
-    where
-      go : (t : Bool) → IsDepthOf limit end (suc n) ((spelled_all ts ++ (close, closes) ∷ []) ++ xs) → IsDepth (cond t (first_fault limit end (suc n) ((spelled_all ts ++ (close, closes) ∷ []) ++ xs)) (located at TooDeep))
-      go true k = k
-      go false k = refl
+  pub passed : (end n : ℕ) (t : Tree) (xs : List (ℕ × Lexeme)) → first_fault end n (spelled t ++ xs) ≡ first_fault end n xs
+  passed end n (atom at k bytes) xs = refl
+  passed end n (list at ts close) xs =
+      ap (first_fault end (suc n)) (append_assoc (spelled_all ts) ((close, closes) ∷ []) xs) ∙ passed_all end (suc n) ts ((close, closes) ∷ xs)
 
-  depth_of_trees : (limit end n : ℕ) (ts : Trees) (xs : List (ℕ × Lexeme)) → IsDepthOf limit end n xs → IsDepthOf limit end n (spelled_all ts ++ xs)
-  depth_of_trees limit end n none xs h = h
-  depth_of_trees limit end n (more t ts) xs h = subst (IsDepthOf limit end n) (sym (append_assoc (spelled t) (spelled_all ts) xs)) (depth_of_tree limit end n t (spelled_all ts ++ xs) (depth_of_trees limit end n ts xs h))
+  pub passed_all : (end n : ℕ) (ts : Trees) (xs : List (ℕ × Lexeme)) → first_fault end n (spelled_all ts ++ xs) ≡ first_fault end n xs
+  passed_all end n none xs = refl
+  passed_all end n (more t ts) xs =
+      ap (first_fault end n) (append_assoc (spelled t) (spelled_all ts) xs) ∙ passed end n t (spelled_all ts ++ xs) ∙ passed_all end n ts xs
 
-pub depth_alone : (limit end : ℕ) (ts : Trees) → IsDepth (first_fault limit end 0 (spelled_all ts))
-unfolding first_fault IsDepthOf
-depth_alone limit end ts = subst (IsDepthOf limit end 0) (append-nil (spelled_all ts)) (depth_of_trees limit end 0 ts [] tt)
+pub no_fault_alone : (end : ℕ) (ts : Trees) → first_fault end 0 (spelled_all ts) ≡ None
+unfolding first_fault
+no_fault_alone end ts = ap (first_fault end 0) (sym (append-nil (spelled_all ts))) ∙ passed_all end 0 ts []

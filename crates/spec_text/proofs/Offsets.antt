@@ -1,6 +1,5 @@
 -- Lexemes are in their text, and so do the trees that they are, and their first fault.
 use Rattle.std.proofs.Common.{◌≡◌, ◌≤◌, ◌<◌, ℕ, zero, suc, ◌+◌, ◌-◌, ◌==◌, Bool, true, false, cond, List, [], ◌∷◌, ◌++◌, length, drop, Option, Some, None, refl, sym, ap, ◌∙◌, arith, subst, append_assoc, length-append, length-drop}
-use Rattle.std.specs.Prelude.{nat_lt}
 use Rattle.std.proofs.lemmas.List.{drop-drop}
 use Rattle.spec_text.specs.declared.Fault.TheVariants.{BadChar}
 use Rattle.spec_text.specs.declared.Kind.{Kind}
@@ -137,21 +136,17 @@ abbrev IsFaultAt : ℕ → Option Located → Type 0
 IsFaultAt high None = Unit {0}
 IsFaultAt high (Some f) = f.offset ≤ high
 
-one_or_other : (high : ℕ) (c : Bool) (o p : Option Located) → IsFaultAt high o → IsFaultAt high p → IsFaultAt high (cond c o p)
-one_or_other high true o p h k = h
-one_or_other high false o p h k = k
-
 -- the first fault of lexemes is among them, or at the end
-first_within : (limit low high n : ℕ) (xs : List (ℕ × Lexeme)) → AreFaultsWithin low high xs → IsFaultAt high (first_fault limit high n xs)
+first_within : (low high n : ℕ) (xs : List (ℕ × Lexeme)) → AreFaultsWithin low high xs → IsFaultAt high (first_fault high n xs)
 unfolding first_fault
-first_within limit low high zero [] h = tt
-first_within limit low high (suc n) [] h = omega arith
-first_within limit low high n ((at, blank) ∷ xs) h = first_within limit low high n xs h.1
-first_within limit low high n ((at, opens) ∷ xs) h = one_or_other high (nat_lt n limit) _ _ (first_within limit low high (suc n) xs h.1) (omega (arith, h.0.1))
-first_within limit low high zero ((at, closes) ∷ xs) h = omega (arith, h.0.1)
-first_within limit low high (suc n) ((at, closes) ∷ xs) h = first_within limit low high n xs h.1
-first_within limit low high n ((at, word k bytes) ∷ xs) h = first_within limit low high n xs h.1
-first_within limit low high n ((at, wrong f) ∷ xs) h = h.0
+first_within low high zero [] h = tt
+first_within low high (suc n) [] h = omega arith
+first_within low high n ((at, blank) ∷ xs) h = first_within low high n xs h.1
+first_within low high n ((at, opens) ∷ xs) h = first_within low high (suc n) xs h.1
+first_within low high zero ((at, closes) ∷ xs) h = omega (arith, h.0.1)
+first_within low high (suc n) ((at, closes) ∷ xs) h = first_within low high n xs h.1
+first_within low high n ((at, word k bytes) ∷ xs) h = first_within low high n xs h.1
+first_within low high n ((at, wrong f) ∷ xs) h = h.0
 
 -- trees that are in a text after other lexemes have their offsets there
 pub trees_in_text : (text : List ℕ) (at : ℕ) (earlier rest : List (ℕ × Lexeme)) (ts : Trees) → lexemes_from text at ≡ earlier ++ (spelled_all ts ++ rest) → AllOffsetsOf (λ n. (at ≤ n) × (n < length text)) ts
@@ -161,5 +156,5 @@ pub tree_in_text : (text : List ℕ) (at : ℕ) (t : Tree) (rest : List (ℕ × 
 tree_in_text text at t rest e = (tree_is_within at (length text) t rest (subst (AreFaultsWithin at (length text)) e (lexemes_within text at))).0
 
 -- the first fault of what is in a text after other lexemes has its offset there
-pub fault_in_text : (text : List ℕ) (at limit n : ℕ) (earlier rest : List (ℕ × Lexeme)) (f : Located) → lexemes_from text at ≡ earlier ++ rest → first_fault limit (length text) n rest ≡ Some f → f.offset ≤ length text
-fault_in_text text at limit n earlier rest f e h = subst (IsFaultAt (length text)) h (first_within limit at (length text) n rest (within_behind at (length text) earlier rest (subst (AreFaultsWithin at (length text)) e (lexemes_within text at))))
+pub fault_in_text : (text : List ℕ) (at n : ℕ) (earlier rest : List (ℕ × Lexeme)) (f : Located) → lexemes_from text at ≡ earlier ++ rest → first_fault (length text) n rest ≡ Some f → f.offset ≤ length text
+fault_in_text text at n earlier rest f e h = subst (IsFaultAt (length text)) h (first_within at (length text) n rest (within_behind at (length text) earlier rest (subst (AreFaultsWithin at (length text)) e (lexemes_within text at))))

@@ -3,7 +3,7 @@ use Rattle.std.specs.Prelude.{◌≡◌, ℕ, ◌+◌, ◌≤◌, List, [], ◌�
 use Rattle.spec_text.specs.declared.Place.{Place}
 use Rattle.spec_text.specs.declared.Fault.{Fault}
 use Rattle.spec_text.specs.declared.Fault.TheVariants.{BadChar, UnclosedString, UnclosedQuote, UnclosedList, StrayClose}
-use Rattle.spec_text.specs.declared.Fault.TheVariants.{TooDeep, TooLong, UnknownCommand, BadShape, UnknownSymbol}
+use Rattle.spec_text.specs.declared.Fault.TheVariants.{TooLong, UnknownCommand, BadShape, UnknownSymbol}
 use Rattle.spec_text.specs.declared.Fault.TheVariants.{UnknownSort, Twice, Reserved, WrongCount, WrongSort, NotLinear}
 use Rattle.spec_text.specs.declared.Fault.TheVariants.{ZeroDivisor, NumberWide, PopTooFar, WrongMode, NotEnabled}
 use Rattle.spec_text.specs.declared.Fault.TheVariants.{UnknownLogic, NotLiteral, Full, ValueWide}
@@ -27,14 +27,13 @@ pub record IsPlaceOf (text : List ℕ) (p : Place) : Type 0 where
   pub line : p.line ≡ line_of text p.offset
   pub col : p.col ≡ column_of text p.offset
 
--- E1 to E25
+-- E1 to E25 without E6
 abbrev pub number_of : Fault → ℕ
 number_of BadChar = 1
 number_of UnclosedString = 2
 number_of UnclosedQuote = 3
 number_of UnclosedList = 4
 number_of StrayClose = 5
-number_of TooDeep = 6
 number_of TooLong = 7
 number_of UnknownCommand = 8
 number_of BadShape = 9
@@ -62,7 +61,6 @@ name_of UnclosedString = codes "UnclosedString"
 name_of UnclosedQuote = codes "UnclosedQuote"
 name_of UnclosedList = codes "UnclosedList"
 name_of StrayClose = codes "StrayClose"
-name_of TooDeep = codes "TooDeep"
 name_of TooLong = codes "TooLong"
 name_of UnknownCommand = codes "UnknownCommand"
 name_of BadShape = codes "BadShape"

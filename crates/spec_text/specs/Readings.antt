@@ -1,40 +1,29 @@
 -- A text as s-expressions, one after the other, up to its end or to its first fault. Source: SMT-LIB 2.6, section 3.2;
 -- limits and faults are own.
-use Rattle.std.specs.Prelude.{◌≡◌, ◌≢◌, ◌⊎◌, ℕ, suc, ◌+◌, ◌<◌, ◌≤◌, ◌^◌, max, Bool, true, false, ◌&&◌, List, [], ◌∷◌}
-use Rattle.std.specs.Prelude.{◌++◌, length, take, nat_lt, Option, Some, None, if◌then◌else◌}
+use Rattle.std.specs.Prelude.{◌≡◌, ◌≢◌, ◌⊎◌, ℕ, ◌+◌, ◌^◌, Bool, true, false, ◌&&◌, List, [], ◌∷◌, ◌++◌, length, take}
+use Rattle.std.specs.Prelude.{nat_lt, Option, Some, None, if◌then◌else◌}
 use Rattle.spec_text.specs.declared.Fault.{Fault}
 use Rattle.spec_text.specs.declared.Fault.TheVariants.{UnclosedString, UnclosedQuote, UnclosedList, TooLong}
 use Rattle.spec_text.specs.Lexemes.{Lexeme, closes, lexemes}
-use Rattle.spec_text.specs.Trees.{Tree, Trees, atom, list, none, more, spelled, spelled_all}
-use Rattle.spec_text.specs.Faults.{Located, nesting_limit, first_fault}
+use Rattle.spec_text.specs.Trees.{Tree, Trees, spelled, spelled_all}
+use Rattle.spec_text.specs.Faults.{Located, first_fault}
 
--- how many lists are open at once, at most
-abbrev mutual
-  -- in a tree
-  pub depth : Tree → ℕ
-  depth (atom at k bytes) = 0
-  depth (list at ts end) = suc (depth_all ts)
-
-  -- in trees, one after the other
-  pub depth_all : Trees → ℕ
-  depth_all none = 0
-  depth_all (more t ts) = max (depth t) (depth_all ts)
+-- the lexemes begin with no tree
+abbrev pub BeginsNoTree : List (ℕ × Lexeme) → Type 0
+BeginsNoTree xs = (t : Tree) (ys : List (ℕ × Lexeme)) → xs ≡ spelled t ++ ys → ⊥
 
 -- after n open lists the lexemes begin with no tree and with no end of a list: their first fault is before
 pub record IsBroken (end n : ℕ) (xs : List (ℕ × Lexeme)) (f : Located) : Type 0 where
   -- it is their first fault
-  pub fault : first_fault nesting_limit end n xs ≡ Some f
+  pub fault : first_fault end n xs ≡ Some f
   -- a list that could end is none of the n
   pub no_end : (at : ℕ) (ys : List (ℕ × Lexeme)) → xs ≡ (at, closes) ∷ ys → n ≡ 0
-  -- the first tree is nested too deep
-  pub no_tree : (t : Tree) (ys : List (ℕ × Lexeme)) → xs ≡ spelled t ++ ys → nesting_limit < n + depth t
+  -- no tree comes before it
+  pub no_tree : BeginsNoTree xs
 
--- the lexemes are these trees, nested no deeper than they may be after n open lists, and then the rest
-pub record AreTrees (n : ℕ) (xs : List (ℕ × Lexeme)) (ts : Trees) (rest : List (ℕ × Lexeme)) : Type 0 where
-  -- the trees come before the rest
-  pub split : xs ≡ spelled_all ts ++ rest
-  -- none is nested too deep
-  pub within : n + depth_all ts ≤ nesting_limit
+-- the lexemes are these trees, and then the rest
+abbrev pub AreTrees : List (ℕ × Lexeme) → Trees → List (ℕ × Lexeme) → Type 0
+AreTrees xs ts rest = xs ≡ spelled_all ts ++ rest
 
 -- where the reading of trees after n open lists stops: at the end of the lexemes where none is open, at the end of the
 -- innermost open list, or at what is broken
@@ -51,7 +40,7 @@ EndsTrees end rest (Some f) = IsBroken end 0 rest f
 
 -- how many bytes of a text are read
 abbrev pub text_limit : ℕ
-text_limit = 2 ^ 26
+text_limit = 2 ^ 30
 
 -- the bytes that are read
 abbrev pub kept : List ℕ → List ℕ
@@ -90,7 +79,7 @@ pub record IsReadUpTo (text : List ℕ) (ts : Trees) (found : Option Located) : 
   -- the lexemes after the trees
   pub rest : List (ℕ × Lexeme)
   -- the trees come first
-  pub trees : AreTrees 0 (lexemes 0 0 (kept text)) ts rest
+  pub trees : AreTrees (lexemes 0 0 (kept text)) ts rest
   -- what stops the reading of the bytes that are kept
   pub stop : Option Located
   -- it comes after the trees

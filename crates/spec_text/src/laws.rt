@@ -1,14 +1,13 @@
 //! Laws of texts, lexemes and trees: functions with empty bodies, whose clauses are proved of the definitions.
 
-ghost use Rattle.std.specs.Prelude.{◌≤◌, length, ◌≡◌, ℕ, ◌+◌, ◌<◌, List, ◌∷◌, ◌++◌, Option, Some, None, IfSome};
+ghost use Rattle.std.specs.Prelude.{◌≤◌, length, ◌≡◌, ℕ, ◌<◌, List, ◌∷◌, ◌++◌, Option, Some, None};
 ghost use Rattle.spec_text.specs.Lexemes.{lexemes_from, Lexeme, first_piece};
 ghost use Rattle.spec_text.specs.Lexicon.{Spells, IsFirst};
 ghost use Rattle.spec_text.specs.Trees.{Tree, Trees, none, more, spelled, spelled_all, IsRead};
 ghost use Rattle.spec_text.specs.Printed.{printed, SameTree};
 ghost use Rattle.spec_text.specs.Offsets.{AllOffsets, AllOffsetsOf};
-ghost use Rattle.spec_text.specs.Faults.{Located, nesting_limit, first_fault, lexical_fault};
-ghost use Rattle.spec_text.specs.Readings.{StopsAt, depth, AreTrees, IsReadUpTo};
-ghost use Rattle.spec_text.specs.declared.Fault.TheVariants.{TooDeep};
+ghost use Rattle.spec_text.specs.Faults.{Located, first_fault, lexical_fault};
+ghost use Rattle.spec_text.specs.Readings.{StopsAt, BeginsNoTree, AreTrees, IsReadUpTo};
 
 /// Says that a text has one reading at most. Source: SMT-LIB 2.6, section 3.2.
 pub fn trees_are_unique()
@@ -20,9 +19,9 @@ pub fn a_text_without_fault_is_read()
     ensures { (text : List ℕ) → lexical_fault text ≡ None → (ts : Trees) × IsRead text ts }
 {}
 
-/// Says that a text with a reading has no lexical fault but lists nested too deep.
-pub fn a_read_text_has_no_fault_but_depth()
-    ensures { (text : List ℕ) (ts : Trees) → IsRead text ts → IfSome (lexical_fault text) (λ f. f.fault ≡ TooDeep) }
+/// Says that a text with a reading has no lexical fault.
+pub fn a_read_text_has_no_fault()
+    ensures { (text : List ℕ) (ts : Trees) → IsRead text ts → lexical_fault text ≡ None }
 {}
 
 /// Says that an s-expression of a text is read back from how it is printed, but for offsets and the bars of symbols.
@@ -48,21 +47,17 @@ pub fn a_text_is_read_up_to_one_end()
         → (ts ≡ us) × (f ≡ g) }
 {}
 
-/// Says that after so many open lists lexemes are trees up to one end: where what is after the trees begins with no
-/// tree, but for one nested too deep, the trees and what is after them are one.
+/// Says that lexemes are trees up to one end: where what is after the trees begins with no tree, the trees and what is
+/// after them are one.
 pub fn lexemes_are_read_up_to_one_end()
-    ensures { (n : ℕ) (xs rest others : List (ℕ × Lexeme)) (ts us : Trees) → AreTrees n xs ts rest
-        → AreTrees n xs us others
-        → ((t : Tree) (ys : List (ℕ × Lexeme)) → rest ≡ spelled t ++ ys → nesting_limit < n + depth t)
-        → ((t : Tree) (ys : List (ℕ × Lexeme)) → others ≡ spelled t ++ ys → nesting_limit < n + depth t)
-        → (ts ≡ us) × (rest ≡ others) }
+    ensures { (xs rest others : List (ℕ × Lexeme)) (ts us : Trees) → AreTrees xs ts rest → AreTrees xs us others
+        → BeginsNoTree rest → BeginsNoTree others → (ts ≡ us) × (rest ≡ others) }
 {}
 
 /// Says that each text is s-expressions, from each offset on and after so many open lists, up to what stops their reading.
 pub fn each_text_is_read()
-    ensures { (text : List ℕ) (at n : ℕ) → n ≤ nesting_limit
-        → (ts : Trees) × (rest : List (ℕ × Lexeme)) × AreTrees n (lexemes_from text at) ts rest
-        × StopsAt (length text) n rest }
+    ensures { (text : List ℕ) (at n : ℕ) → (ts : Trees) × (rest : List (ℕ × Lexeme))
+        × AreTrees (lexemes_from text at) ts rest × StopsAt (length text) n rest }
 {}
 
 /// Says that the offsets of trees lie in the text that they are in, from the offset on from which it was read: that of
@@ -81,5 +76,5 @@ pub fn trees_are_in_their_text()
 pub fn lexical_faults_are_in_their_text()
     ensures { (text : List ℕ) (at n : ℕ) (earlier rest : List (ℕ × Lexeme)) (f : Located)
         → lexemes_from text at ≡ earlier ++ rest
-        → first_fault nesting_limit (length text) n rest ≡ Some f → f.offset ≤ length text }
+        → first_fault (length text) n rest ≡ Some f → f.offset ≤ length text }
 {}

@@ -40,7 +40,8 @@ pub struct Place {
     pub col: u64,
 }
 
-/// Why a text or a script is refused. The numbers E1 to E25 and the names are part of the product.
+/// Why a text or a script is refused. The numbers, E1 to E25 without E6, and the names are part of
+/// the product.
 #[derive(Clone, Copy, Debug, PartialEq, Eq)]
 pub enum Fault {
     /// A byte that begins no token, or may not are where it does.
@@ -53,8 +54,6 @@ pub enum Fault {
     UnclosedList,
     /// A closing parenthesis that closes nothing.
     StrayClose,
-    /// The opening parenthesis that would be the 501st open one.
-    TooDeep,
     /// The first byte beyond the limit on the length of a text.
     TooLong,
     /// A list that begins with the name of no command.
@@ -96,7 +95,7 @@ pub enum Fault {
 }
 
 impl Fault {
-    /// Gives the number of the fault, from 1 to 25: E1 is 1.
+    /// Gives the number of the fault, from 1 to 25: E1 is 1, and none is 6.
     pub fn number(self) -> u8
         ensures { result ≡ number_of self }
     {
@@ -106,7 +105,6 @@ impl Fault {
             Fault::UnclosedQuote => 3,
             Fault::UnclosedList => 4,
             Fault::StrayClose => 5,
-            Fault::TooDeep => 6,
             Fault::TooLong => 7,
             Fault::UnknownCommand => 8,
             Fault::BadShape => 9,
@@ -139,7 +137,6 @@ impl Fault {
             Fault::UnclosedQuote => "UnclosedQuote",
             Fault::UnclosedList => "UnclosedList",
             Fault::StrayClose => "StrayClose",
-            Fault::TooDeep => "TooDeep",
             Fault::TooLong => "TooLong",
             Fault::UnknownCommand => "UnknownCommand",
             Fault::BadShape => "BadShape",

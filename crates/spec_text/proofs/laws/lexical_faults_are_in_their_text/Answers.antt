@@ -1,7 +1,6 @@
 -- The lexemes are there.
-use Rattle.spec_text.specs.Faults.{nesting_limit}
 use Rattle.spec_text.proofs.Offsets.{fault_in_text}
 use Rattle.spec_text.proofs.laws.lexical_faults_are_in_their_text.Goals as goal
 
 pub returns : goal.returns
-returns c = λ text at n front rest f. fault_in_text text at nesting_limit n front rest f
+returns c = λ text at n front rest f. fault_in_text text at n front rest f
