@@ -1,23 +1,20 @@
 -- One token more of a list.
-use Rattle.std.proofs.Common.{◌≡◌, ℕ, zero, suc, ◌+◌, ◌-◌, ◌<◌, ◌≤◌, true, List, [], ◌∷◌, ◌++◌, length, drop, Option, sym, ap, ◌∙◌, refl, subst, append_assoc, length-append, append-nil, arith}
-use Rattle.std.specs.Prelude.{nat_lt}
-use Rattle.std.proofs.lemmas.Bool.Decides.{nat_tests}
+use Rattle.std.proofs.Common.{◌≡◌, ℕ, zero, suc, ◌+◌, ◌<◌, List, [], ◌∷◌, ◌++◌, length, drop, Option, sym, ap, ◌∙◌, refl, subst, append_assoc, length-append, append-nil, arith}
 use Rattle.std.proofs.lemmas.List.{drop_at}
-use Rattle.std.proofs.Math.Nat.{le-max_left, le-max_right}
 use Rattle.spec_text.specs.declared.Kind.{Kind}
 use Rattle.spec_text.specs.declared.Place.{Place}
 use Rattle.spec_text.specs.Lexemes.{Lexeme, opens, closes, word, lexemes_from}
 use Rattle.spec_text.specs.Places.{IsPlaceOf}
-use Rattle.spec_text.specs.Trees.{Tree, Trees, atom, list, none, more, spelled, offset_of}
-use Rattle.spec_text.specs.Faults.{Located, first_fault, nesting_limit}
-use Rattle.spec_text.specs.Readings.{depth, depth_all, IsBroken}
+use Rattle.spec_text.specs.Trees.{Tree, atom, list, none, more, spelled, offset_of}
+use Rattle.spec_text.specs.Faults.{Located, first_fault}
+use Rattle.spec_text.specs.Readings.{IsBroken}
 use Rattle.spec_text.proofs.Reading.{heads}
 use Rattle.smt_sexpr.specs.Means.{trees_in, first_of, tree_in, flat, AreRead}
 use Rattle.smt_sexpr.specs.declared.items.Item.{Item}
 use Rattle.smt_sexpr.specs.declared.items.Item.TheVariants.{List as Group}
 use Rattle.smt_sexpr.specs.declared.sexpr.Sexpr.{Sexpr}
 use Rattle.smt_sexpr.specs.Items.{text_of, items_of, start_of, tree_of, IsWithin}
-use Rattle.smt_sexpr.specs.Open.{Context, top, inside, add, push, closed, spelled_in, flat_in, open_in, IsUnfinished, HoldsContext}
+use Rattle.smt_sexpr.specs.Open.{Context, top, inside, push, closed, spelled_in, flat_in, open_in, IsUnfinished, HoldsContext}
 use Rattle.smt_sexpr.specs.Reads.{BeginsWith, IsFirst}
 use Rattle.smt_sexpr.proofs.Broken.{broken_in}
 use Rattle.smt_sexpr.proofs.Contexts.{spelled_push, open_push, holds_word, holds_begun}
@@ -29,12 +26,12 @@ begins_at at x ys (atom b k w) rest e = sym (heads e).0
 begins_at at x ys (list b ts end) rest e = sym (heads e).0
 
 -- a word
-pub begins_with_word : (text : List ℕ) (n : ℕ) (xs : List (ℕ × Lexeme)) (at : ℕ) (k : Kind) (w : List ℕ) (is : List Item) (after : Place) → is ≡ flat (atom at k w) → xs ≡ (at, word k w) ∷ lexemes_from text after.offset → IsPlaceOf text after → BeginsWith text n xs is after
-begins_with_word text n xs at k w is after items first place = record { tree = atom at k w; items = items; first = first; within = omega arith; place = place }
+pub begins_with_word : (text : List ℕ) (xs : List (ℕ × Lexeme)) (at : ℕ) (k : Kind) (w : List ℕ) (is : List Item) (after : Place) → is ≡ flat (atom at k w) → xs ≡ (at, word k w) ∷ lexemes_from text after.offset → IsPlaceOf text after → BeginsWith text xs is after
+begins_with_word text xs at k w is after items first place = record { tree = atom at k w; items = items; first = first; place = place }
 
 -- what was read from a place on is at its own offset
-pub read_there : (text : List ℕ) (n from at : ℕ) (x : Lexeme) (ys : List (ℕ × Lexeme)) (is : List Item) (after : Place) → IsToken x → lexemes_from text from ≡ (at, x) ∷ ys → BeginsWith text n (lexemes_from text from) is after → AreRead text at is
-read_there text n from at x ys is after token here b =
+pub read_there : (text : List ℕ) (from at : ℕ) (x : Lexeme) (ys : List (ℕ × Lexeme)) (is : List Item) (after : Place) → IsToken x → lexemes_from text from ≡ (at, x) ∷ ys → BeginsWith text (lexemes_from text from) is after → AreRead text at is
+read_there text from at x ys is after token here b =
     let t = b.tree in
     let behind = lexemes_from text after.offset in
     let tree : tree_in text is ≡ t = ap (tree_in text) b.items ∙ ap first_of (means_tree text from t behind b.first) in
@@ -43,8 +40,8 @@ read_there text n from at x ys is after token here b =
     (b.items ∙ ap flat (sym tree), rw (tree, rest) there)
 
 -- it is what an s-expression is
-pub first_is : (text : List ℕ) (n from at : ℕ) (x : Lexeme) (ys : List (ℕ × Lexeme)) (s : Sexpr) (after : Place) → IsToken x → text_of s ≡ text → start_of s ≡ at → lexemes_from text from ≡ (at, x) ∷ ys → BeginsWith text n (lexemes_from text from) (items_of s) after → IsFirst text n (lexemes_from text from) s after
-first_is text n from at x ys s after token text_is start here b =
+pub first_is : (text : List ℕ) (from at : ℕ) (x : Lexeme) (ys : List (ℕ × Lexeme)) (s : Sexpr) (after : Place) → IsToken x → text_of s ≡ text → start_of s ≡ at → lexemes_from text from ≡ (at, x) ∷ ys → BeginsWith text (lexemes_from text from) (items_of s) after → IsFirst text (lexemes_from text from) s after
+first_is text from at x ys s after token text_is start here b =
     let t = b.tree in
     let means : trees_in text (items_of s) ≡ more t none = ap (trees_in text) b.items ∙ means_tree text from t (lexemes_from text after.offset) b.first in
     let tree : tree_of s ≡ t = ap (λ xs. first_of (trees_in xs (items_of s))) text_is ∙ ap first_of means in
@@ -52,57 +49,33 @@ first_is text n from at x ys s after token text_is start here b =
       text_is = text_is;
       first = b.first ∙ ap (λ u. spelled u ++ lexemes_from text after.offset) (sym tree);
       means = means ∙ ap (λ u. more u none) (sym tree);
-      within = rw tree b.within;
       offsets = subst (λ m. IsWithin m (length text) (tree_of s)) (sym start) (rw tree (within_text text at t (lexemes_from text after.offset) (resumes text from [] at x ys here token ∙ sym here ∙ b.first)));
       start = ap offset_of tree ∙ begins_at at x ys t (lexemes_from text after.offset) (sym here ∙ b.first) ∙ sym start;
       place = b.place;
     }
 
--- no tree of the context is nested deeper than so many lists
-abbrev pub IsShallow : ℕ → Context → Type 0
-IsShallow m (top rows) = depth_all rows ≤ m
-IsShallow m (inside outer at rows) = IsShallow m outer × (length (open_in outer) + 1 + depth_all rows ≤ m)
-
-depth_added : (ts : Trees) (t : Tree) (k m : ℕ) → k + depth_all ts ≤ m → k + depth t ≤ m → k + depth_all (add ts t) ≤ m
-depth_added none t k m h one = grind arith
-depth_added (more u us) t k m h one = let rest = depth_added us t k m (omega (arith, h, le-max_right (depth u) (depth_all us))) one in grind arith
-
--- one tree more
-shallow_push : (c : Context) (t : Tree) (m : ℕ) → IsShallow m c → length (open_in c) + depth t ≤ m → IsShallow m (push c t)
-shallow_push (top rows) t m h one = omega (arith, depth_added rows t 0 m (omega (arith, h)) (omega (arith, one)))
-shallow_push (inside outer at rows) t m h one = (h.0, depth_added rows t (length (open_in outer) + 1) m h.1 (omega (arith, one, length-append (open_in outer) (length (flat_in outer) ∷ []))))
-
--- the innermost list ends
-shallow_closed : (c : Context) (end m : ℕ) → IsShallow m c → IsShallow m (closed c end)
-shallow_closed (top rows) end m h = h
-shallow_closed (inside outer at rows) end m h = shallow_push outer (list at rows end) m h.0 (omega (arith, h.1))
-
 -- a fault at a depth
 abbrev fault_at_depth : List ℕ → ℕ → List (ℕ × Lexeme) → Option Located
-fault_at_depth text n xs = first_fault nesting_limit (length text) n xs
+fault_at_depth text n xs = first_fault (length text) n xs
 
 -- what is known of lexemes after n open lists when they were read up to an offset, and more lists are open
 pub record Reading (text : List ℕ) (n : ℕ) (xs : List (ℕ × Lexeme)) (items : List Item) (places : List ℕ) (at : ℕ) : Type 0 where
   pub context : Context
   pub unfinished : IsUnfinished context
-  pub shallow : IsShallow (nesting_limit - n) context
   pub holds : HoldsContext context items places
   pub read : xs ≡ spelled_in context ++ lexemes_from text at
   pub faults : fault_at_depth text n xs ≡ fault_at_depth text (n + length places) (lexemes_from text at)
 
 -- a list has begun
-pub reading_begins : (text : List ℕ) (n start behind : ℕ) (items : List Item) → n < nesting_limit → items ≡ [] ++ Group start 0 0 ∷ [] → Reading text n ((start, opens) ∷ lexemes_from text behind) items (0 ∷ []) behind
+pub reading_begins : (text : List ℕ) (n start behind : ℕ) (items : List Item) → items ≡ [] ++ Group start 0 0 ∷ [] → Reading text n ((start, opens) ∷ lexemes_from text behind) items (0 ∷ []) behind
 unfolding first_fault
-reading_begins text n start behind items room e =
-    let room_left : nat_lt n 500 ≡ true = grind (arith, nat_tests) in
-    record {
-      context = inside (top none) start none;
-      unfinished = tt;
-      shallow = (omega arith, omega arith);
-      holds = record { items_are = e; open_are = refl };
-      read = refl;
-      faults = rw room_left (ap (λ k. fault_at_depth text k (lexemes_from text behind)) (omega arith));
-    }
+reading_begins text n start behind items e = record {
+  context = inside (top none) start none;
+  unfinished = tt;
+  holds = record { items_are = e; open_are = refl };
+  read = refl;
+  faults = ap (λ k. fault_at_depth text k (lexemes_from text behind)) (omega arith);
+}
 
 module _ (text : List ℕ) (n : ℕ) (xs : List (ℕ × Lexeme)) (items : List Item) (places : List ℕ) (at : ℕ) (r : Reading text n xs items places at) where
   -- what stops here stops all
@@ -116,19 +89,16 @@ module _ (text : List ℕ) (n : ℕ) (xs : List (ℕ × Lexeme)) (items : List I
     moved : (x : Lexeme) → lexemes_from text at ≡ (place, x) ∷ lexemes_from text after → fault_at_depth text n xs ≡ fault_at_depth text (n + length places) ((place, x) ∷ lexemes_from text after)
     moved x e = r.faults ∙ ap (fault_at_depth text (n + length places)) e
 
-    pub opened : lexemes_from text at ≡ (place, opens) ∷ lexemes_from text after → n + length places < 500
+    pub opened : lexemes_from text at ≡ (place, opens) ∷ lexemes_from text after
         → (next : List Item) (index : ℕ) → next ≡ items ++ Group place 0 0 ∷ [] → index ≡ length items → Reading text n xs next (places ++ index ∷ []) after
     unfolding first_fault
-    opened e room next index n_is i_is =
-        let room_left : nat_lt (n + length places) 500 ≡ true = grind (arith, nat_tests) in
-        record {
-          context = inside r.context place none;
-          unfinished = r.unfinished;
-          shallow = (r.shallow, omega (arith, ap length r.holds.open_are));
-          holds = holds_begun r.context items next places index place n_is i_is r.holds;
-          read = r.read ∙ ap (λ ts. spelled_in r.context ++ ts) e ∙ sym (append_assoc (spelled_in r.context) ((place, opens) ∷ []) (lexemes_from text after));
-          faults = moved opens e ∙ rw room_left (ap (λ k. fault_at_depth text k (lexemes_from text after)) (omega (arith, length-append places (index ∷ []))));
-        }
+    opened e next index n_is i_is = record {
+      context = inside r.context place none;
+      unfinished = r.unfinished;
+      holds = holds_begun r.context items next places index place n_is i_is r.holds;
+      read = r.read ∙ ap (λ ts. spelled_in r.context ++ ts) e ∙ sym (append_assoc (spelled_in r.context) ((place, opens) ∷ []) (lexemes_from text after));
+      faults = moved opens e ∙ ap (λ k. fault_at_depth text k (lexemes_from text after)) (omega (arith, length-append places (index ∷ [])));
+    }
 
     word_fault : (m : ℕ) (k : Kind) (w : List ℕ) (ys : List (ℕ × Lexeme)) → fault_at_depth text m ((place, word k w) ∷ ys) ≡ fault_at_depth text m ys
     unfolding first_fault
@@ -139,12 +109,11 @@ module _ (text : List ℕ) (n : ℕ) (xs : List (ℕ × Lexeme)) (items : List I
     unfinished_push (top rows) t h l = absurd (omega arith)
     unfinished_push (inside outer b rows) t h l = h
 
-    pub word_within : (k : Kind) (w : List ℕ) → lexemes_from text at ≡ (place, word k w) ∷ lexemes_from text after → 0 < length places → n + length places ≤ nesting_limit
+    pub word_within : (k : Kind) (w : List ℕ) → lexemes_from text at ≡ (place, word k w) ∷ lexemes_from text after → 0 < length places
         → (next : List Item) → next ≡ items ++ flat (atom place k w) → Reading text n xs next places after
-    word_within k w e some room next next_is = record {
+    word_within k w e some next next_is = record {
       context = push r.context (atom place k w);
       unfinished = unfinished_push r.context (atom place k w) r.unfinished (omega (arith, ap length r.holds.open_are));
-      shallow = shallow_push r.context (atom place k w) (nesting_limit - n) r.shallow (omega (arith, ap length r.holds.open_are));
       holds = holds_word r.context items next places w k place next_is r.holds;
       read = r.read ∙ ap (λ ts. spelled_in r.context ++ ts) e ∙ (sym (append_assoc (spelled_in r.context) ((place, word k w) ∷ []) (lexemes_from text after)) ∙ sym (ap (λ x. x ++ lexemes_from text after) (spelled_push r.context (atom place k w))));
       faults = moved (word k w) e ∙ word_fault (n + length places) k w (lexemes_from text after);
@@ -169,7 +138,6 @@ module _ (text : List ℕ) (n : ℕ) (xs : List (ℕ × Lexeme)) (items : List I
     closed_within e next open_at m some h = record {
       context = closed r.context place;
       unfinished = go r.context r.unfinished (omega (arith, ap length r.holds.open_are)) h;
-      shallow = shallow_closed r.context place (nesting_limit - n) r.shallow;
       holds = h;
       read = close_read e (omega arith);
       faults = close_fault e open_at m;
@@ -180,23 +148,22 @@ module _ (text : List ℕ) (n : ℕ) (xs : List (ℕ × Lexeme)) (items : List I
         go (inside outer b rows) u k g = unfinished_push outer (list b rows place) u (omega (arith, ap length (g.open_are ∙ open_push outer (list b rows place))))
 
     -- the end of the one list that is open
-    pub closed_whole : (end : Place) → end.offset ≡ after → IsPlaceOf text end → lexemes_from text at ≡ (place, closes) ∷ lexemes_from text after → (next : List Item) → length places ≡ 1 → HoldsContext (closed r.context place) next [] → BeginsWith text n xs next end
-    closed_whole end end_is place_is e next m h = go r.context r.unfinished (omega (arith, ap length r.holds.open_are)) h (shallow_closed r.context place (nesting_limit - n) r.shallow) (close_read e (omega arith))
+    pub closed_whole : (end : Place) → end.offset ≡ after → IsPlaceOf text end → lexemes_from text at ≡ (place, closes) ∷ lexemes_from text after → (next : List Item) → length places ≡ 1 → HoldsContext (closed r.context place) next [] → BeginsWith text xs next end
+    closed_whole end end_is place_is e next m h = go r.context r.unfinished (omega (arith, ap length r.holds.open_are)) h (close_read e (omega arith))
       where
         whole_push : (c : Context) (t : Tree) → IsUnfinished c → open_in c ≡ [] → push c t ≡ top (more t none)
         whole_push (top none) t u k = refl
         whole_push (top (more v vs)) t u k = absurd u
         whole_push (inside outer b rows) t u k = absurd (omega (arith, ap length k, length-append (open_in outer) (length (flat_in outer) ∷ [])))
 
-        go : (c : Context) → IsUnfinished c → 0 < length (open_in c) → HoldsContext (closed c place) next [] → IsShallow (nesting_limit - n) (closed c place) → xs ≡ spelled_in (closed c place) ++ lexemes_from text after → BeginsWith text n xs next end
-        go (top rows) u k g s read = absurd (omega arith)
-        go (inside outer b rows) u k g s read =
+        go : (c : Context) → IsUnfinished c → 0 < length (open_in c) → HoldsContext (closed c place) next [] → xs ≡ spelled_in (closed c place) ++ lexemes_from text after → BeginsWith text xs next end
+        go (top rows) u k g read = absurd (omega arith)
+        go (inside outer b rows) u k g read =
             let t = list b rows place in
             let w : push outer t ≡ top (more t none) = whole_push outer t u (sym (g.open_are ∙ open_push outer t)) in
             record {
               tree = t;
               items = g.items_are ∙ ap flat_in w ∙ append-nil (flat t);
               first = read ∙ ap (λ c. spelled_in c ++ lexemes_from text after) w ∙ ap (λ ys. ys ++ lexemes_from text after) (append-nil (spelled t)) ∙ ap (λ m. spelled t ++ lexemes_from text m) (sym end_is);
-              within = omega (arith, subst (IsShallow (nesting_limit - n)) w s, le-max_left (depth t) 0);
               place = place_is;
             }

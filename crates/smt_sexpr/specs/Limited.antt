@@ -1,4 +1,4 @@
--- What reading a text comes to of which the first 2^26 bytes are read. Source: SMT-LIB 2.6, section 3.2.
+-- What reading a text comes to of which the first 2^30 bytes are read. Source: SMT-LIB 2.6, section 3.2.
 use Rattle.std.specs.Prelude.{◌≡◌, ℕ, false, List, [], length, Option, Some, None, Result, Ok, Err}
 use Rattle.spec_text.specs.declared.Place.{Place}
 use Rattle.spec_text.specs.Places.{IsPlaceOf}
@@ -45,7 +45,7 @@ pub record IsStopped (text : List ℕ) (n : ℕ) (xs : List (ℕ × Lexeme)) (r 
 
 -- an s-expression, or the end of the innermost open list, or the end of the whole text, or a fault of it
 abbrev pub ReadsNextOf : List ℕ → Place → ℕ → Result NextSexpr Refused → Type 0
-ReadsNextOf text from n (Ok (next.One s after)) = ReadsSexpr (kept text) from n s after
+ReadsNextOf text from n (Ok (next.One s after)) = ReadsSexpr (kept text) from s after
 ReadsNextOf text from n (Ok (next.Close after)) = Closes (kept text) from n after
 ReadsNextOf text from n (Ok next.End) = (n ≡ 0) × (lexemes_from (kept text) from.offset ≡ []) × (is_long text ≡ false)
 ReadsNextOf text from n (Err (refused.Fault r)) = IsStopped text n (lexemes_from (kept text) from.offset) r
@@ -53,7 +53,7 @@ ReadsNextOf text from n (Err refused.Memory) = Unit {0}
 
 -- the same where no list is open
 abbrev pub ReadsOneOf : List ℕ → Place → Result (Option (Sexpr × Place)) Refused → Type 0
-ReadsOneOf text from (Ok (Some x)) = ReadsSexpr (kept text) from 0 x.0 x.1
+ReadsOneOf text from (Ok (Some x)) = ReadsSexpr (kept text) from x.0 x.1
 ReadsOneOf text from (Ok None) = (lexemes_from (kept text) from.offset ≡ []) × (is_long text ≡ false)
 ReadsOneOf text from (Err (refused.Fault r)) = IsStopped text 0 (lexemes_from (kept text) from.offset) r
 ReadsOneOf text from (Err refused.Memory) = Unit {0}

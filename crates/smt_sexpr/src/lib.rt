@@ -1,7 +1,7 @@
 //! Reads the s-expressions of a text, one after the other, and looks into them.
 //!
-//! An s-expression is kept as a flat list of items in the order of its text, so nothing here recurses on depth. Lists may
-//! be nested 500 deep.
+//! An s-expression is kept as a flat list of items in the order of its text, so nothing here recurses on depth, and
+//! lists may be nested as deep as they are.
 #![tactic(auto)]
 
 mod items;

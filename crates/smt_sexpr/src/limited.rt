@@ -11,9 +11,9 @@ use smt_lexer::{Fault, Place, Refusal, Refused, place_after, start};
 use std::alloc::Global;
 
 /// How many bytes of a text are read.
-pub const TEXT_LIMIT: usize = 1 << 26;
+pub const TEXT_LIMIT: usize = 1 << 30;
 
-/// A text of which the first 2^26 bytes are read. Where it has more, the first of them is the fault `TooLong`.
+/// A text of which the first 2^30 bytes are read. Where it has more, the first of them is the fault `TooLong`.
 #[derive(Clone, Copy, Debug)]
 pub struct LimitedText<'a> {
     /// The whole text.
@@ -48,7 +48,7 @@ impl<'a> LimitedText<'a> {
         LimitedText { text }
     }
 
-    /// Lends the bytes that are read: the first 2^26.
+    /// Lends the bytes that are read: the first 2^30.
     pub fn bytes(&self) -> &'a [u8]
         ensures { result.now ≡ kept (whole_of self.now) }
     {
@@ -102,10 +102,9 @@ impl<'a> LimitedText<'a> {
     ///
     /// - `Fault` has the first fault after the place, of those that are before the end of an s-expression: a byte that
     ///   begins no token or cannot follow one (`BadChar`), a string or a quoted symbol that does not end (`UnclosedString`,
-    ///   `UnclosedQuote`, at its first byte), the end of the text where a list is open (`UnclosedList`), a closing
-    ///   parenthesis where none is (`StrayClose`), or the opening parenthesis that would be the 501st open one, those of
-    ///   before counted (`TooDeep`). Where the text has more bytes than are read, `TooLong` comes at the first of the others
-    ///   in the place of the end, and of a string, a quoted symbol or a list that does not end before it.
+    ///   `UnclosedQuote`, at its first byte), the end of the text where a list is open (`UnclosedList`), or a closing
+    ///   parenthesis where none is (`StrayClose`). Where the text has more bytes than are read, `TooLong` comes at the first
+    ///   of the others in the place of the end, and of a string, a quoted symbol or a list that does not end before it.
     /// - `Memory` means that an allocation was refused. No clause says when it comes, and it says nothing of the text.
     ///
     /// The text may be read on from any place that an `Ok` has. Source: SMT-LIB 2.6, section 3.2.

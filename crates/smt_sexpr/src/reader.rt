@@ -3,7 +3,6 @@
 ghost use Rattle.std.specs.Prelude.{◌≡◌, ℕ, ◌+◌, ◌^◌, ◌<◌, ◌∷◌, [], ◌++◌, List, length, IfOk, OnOk};
 ghost use Rattle.spec_text.specs.Places.{IsPlaceOf};
 ghost use Rattle.spec_text.specs.Trees.{atom};
-ghost use Rattle.spec_text.specs.Faults.{nesting_limit};
 ghost use Rattle.smt_sexpr.specs.Means.{flat};
 ghost use Rattle.smt_sexpr.specs.declared.items.Item.TheVariants as item;
 ghost use Rattle.smt_sexpr.specs.Open.{Context, closed, HoldsContext};
@@ -25,9 +24,6 @@ pub enum NextSexpr<'a> {
     /// The end of the text, where no list is open.
     End,
 }
-
-/// How many lists may be open at once.
-const NESTING_LIMIT: usize = 500;
 
 /// Adds a word.
 fn add_word(items: &mut Vec<Item>, at: u64, kind: Kind, bytes: &[u8]) -> Result<(), AllocError>
@@ -86,7 +82,6 @@ fn read_list(
     requires small { length text.now < 2 ^ 32 }
     requires start { start < after.offset }
     requires after { IsPlaceOf text.now after }
-    requires few { open_lists < nesting_limit }
     ensures { ReadsList text.now open_lists start after result }
 {
     let mut items = Vec::new(alloc);
@@ -101,9 +96,6 @@ fn read_list(
         match token.kind {
             TokenKind::End => return Err(refused(token.place, Fault::UnclosedList)),
             TokenKind::Open => {
-                if open_lists + outer.len() + 1 >= NESTING_LIMIT {
-                    return Err(refused(token.place, Fault::TooDeep));
-                }
                 outer.push(innermost)?;
                 innermost = begin_list(&mut items, token.place.offset)?;
             }
@@ -137,10 +129,9 @@ fn read_word(alloc: Global, at: u64, kind: Kind, bytes: &[u8]) -> Result<Vec<Ite
 /// innermost of them, or, where none is open, nothing but white space and comments up to the end. An `Err` has the first
 /// fault after the place, of those that are before the end of an s-expression: a byte that begins no token or cannot
 /// follow one (`BadChar`), a string or a quoted symbol that does not end (`UnclosedString`, `UnclosedQuote`, at its first
-/// byte), the end of the text where a list is open (`UnclosedList`), a closing parenthesis where none is (`StrayClose`),
-/// or the opening parenthesis that would be the 501st open one, those of before counted (`TooDeep`). Or it is out of
-/// memory, which comes at any allocation. The text may be read on from any place that an `Ok` has. Items are kept small:
-/// no offset and no size may be 2^32 or more. Source: SMT-LIB 2.6, section 3.2.
+/// byte), the end of the text where a list is open (`UnclosedList`), or a closing parenthesis where none is
+/// (`StrayClose`). Or it is out of memory, which comes at any allocation. The text may be read on from any place that an
+/// `Ok` has. Items are kept small: no offset and no size may be 2^32 or more. Source: SMT-LIB 2.6, section 3.2.
 pub(crate) fn read_next<'a>(
     alloc: Global,
     text: &'a [u8],
@@ -163,9 +154,6 @@ pub(crate) fn read_next<'a>(
             Ok(NextSexpr::End)
         }
         TokenKind::Open => {
-            if open_lists >= NESTING_LIMIT {
-                return Err(refused(token.place, Fault::TooDeep));
-            }
             let start = token.place;
             match read_list(alloc, text, start.offset, after, open_lists) {
                 Ok((items, end)) => Ok(NextSexpr::One(Sexpr { text, start, items }, end)),

@@ -1,7 +1,7 @@
 -- What each token comes to.
 use Rattle.std.proofs.Common.{◌≡◌, ◌+◌, [], ◌∷◌, length, arith, ap, refl, length-append}
 use Rattle.std.proofs.lemmas.List.{nil_from_length}
-use Rattle.smt_sexpr.proofs.Broken.{nothing_broken, wrong_broken, deep_broken}
+use Rattle.smt_sexpr.proofs.Broken.{nothing_broken, wrong_broken}
 use Rattle.smt_sexpr.proofs.Reading.{reading_begins, stops, opened, word_within, closed_within, closed_whole}
 use Rattle.spec_text.specs.Trees.{atom}
 use Rattle.smt_sexpr.specs.Means.{flat}
@@ -11,8 +11,7 @@ use Rattle.smt_sexpr.proofs.reader.read_list.Goals as goal
 
 pub tokens-init : goal.tokens-init
 tokens-init c = record {
-  reading = rw (c.new-outer.ensures.items, c.in_ok-innermost.ensures.index, c.new-items.ensures.items) (reading_begins c.args.text.now c.args.open_lists c.args.start c.args.after.offset c.begin_list.new.items.items c.requires.few (rw c.new-items.ensures.items at c.in_ok-innermost.ensures.items));
-  few = omega (arith, ap length c.new-outer.ensures.items);
+  reading = rw (c.new-outer.ensures.items, c.in_ok-innermost.ensures.index, c.new-items.ensures.items) (reading_begins c.args.text.now c.args.open_lists c.args.start c.args.after.offset c.begin_list.new.items.items (rw c.new-items.ensures.items at c.in_ok-innermost.ensures.items));
   place = c.requires.after;
   count = omega (arith, c.requires.start, ap length c.new-items.ensures.items, ap length c.in_ok-innermost.ensures.items, length-append c.new-items.result.items (Group c.args.start 0 0 ∷ []));
   later = omega arith;
@@ -25,11 +24,6 @@ pub returns-in-End : goal.returns-in-End
 returns-in-End c =
     let t = rw c.in-End.is at c.in-Ok.ensures.0 in
     rw c.refused.ensures (rw t.place_end (stops _ _ _ _ _ _ c.tokens.invariant.reading _ (nothing_broken _ _ _ t.nothing (omega (arith, length-append c.tokens.outer.items (c.tokens.innermost ∷ []))))), c.in-Ok.ensures.1)
-
-pub returns-then-open_lists-len-ge-NESTING_LIMIT : goal.returns-then-open_lists-len-ge-NESTING_LIMIT
-returns-then-open_lists-len-ge-NESTING_LIMIT c =
-    let t = rw c.in-Open.is at c.in-Ok.ensures.0 in
-    rw c.refused-then-open_lists-len-ge-NESTING_LIMIT.ensures (stops _ _ _ _ _ _ c.tokens.invariant.reading _ (deep_broken _ _ _ _ _ t.first (omega (arith, c.if-open_lists-len-ge-NESTING_LIMIT.true, c.tokens.outer.ok.0, length-append c.tokens.outer.items (c.tokens.innermost ∷ [])))), c.in-Ok.ensures.1)
 
 pub returns-in_default : goal.returns-in_default
 returns-in_default c =
@@ -44,8 +38,7 @@ pub tokens-preserved-in_ok-innermost-in-Open : goal.tokens-preserved-in_ok-inner
 tokens-preserved-in_ok-innermost-in-Open c =
     let t = rw c.in-Open.is at c.in-Ok.ensures.0 in
     record {
-      reading = rw c.in_ok-push-in-Open.ensures.items (opened _ _ _ _ _ _ c.tokens.invariant.reading _ _ t.first (omega (arith, c.if-open_lists-len-ge-NESTING_LIMIT.false, c.tokens.outer.ok.0, length-append c.tokens.outer.items (c.tokens.innermost ∷ []))) _ _ c.in_ok-innermost-in-Open.ensures.items c.in_ok-innermost-in-Open.ensures.index);
-      few = omega (arith, c.if-open_lists-len-ge-NESTING_LIMIT.false, c.tokens.outer.ok.0, ap length c.in_ok-push-in-Open.ensures.items, length-append c.tokens.outer.items (c.tokens.innermost ∷ []));
+      reading = rw c.in_ok-push-in-Open.ensures.items (opened _ _ _ _ _ _ c.tokens.invariant.reading _ _ t.first _ _ c.in_ok-innermost-in-Open.ensures.items c.in_ok-innermost-in-Open.ensures.index);
       place = c.in-Ok.ensures.2;
       count = omega (arith, c.tokens.invariant.count, t.behind, t.longer, ap length c.in_ok-innermost-in-Open.ensures.items, length-append c.tokens.items.items (Group c.in-Ok.read.0.place.offset 0 0 ∷ []));
       later = omega (arith, t.behind, t.longer, c.tokens.invariant.later);
@@ -57,7 +50,6 @@ tokens-preserved-in-Some c =
     let more : length c.tokens.outer.items ≡ length c.pop.new.self.items + 1 = omega (arith, ap length c.in-Some.ensures.items, length-append c.pop.new.self.items (c.in-Some.list ∷ [])) in
     record {
       reading = rw (← c.in-Some.ensures.items) (closed_within _ _ _ _ _ _ c.tokens.invariant.reading _ _ t.first _ _ (length-append c.tokens.outer.items (c.tokens.innermost ∷ [])) (omega arith) (c.end_list.ensures.ended _ _ c.tokens.invariant.reading.holds));
-      few = omega (arith, c.tokens.invariant.few);
       place = c.in-Ok.ensures.2;
       count = omega (arith, c.tokens.invariant.count, t.behind, t.longer, c.end_list.ensures.count);
       later = omega (arith, t.behind, t.longer, c.tokens.invariant.later);
@@ -67,8 +59,7 @@ pub tokens-preserved : goal.tokens-preserved
 tokens-preserved c =
     let t = rw c.in-Word.is at c.in-Ok.ensures.0 in
     record {
-      reading = word_within _ _ _ _ _ _ c.tokens.invariant.reading _ _ _ _ t.first (omega (arith, length-append c.tokens.outer.items (c.tokens.innermost ∷ []))) (omega (arith, length-append c.tokens.outer.items (c.tokens.innermost ∷ []))) _ c.in_ok-add_word-in-Word.ensures;
-      few = c.tokens.invariant.few;
+      reading = word_within _ _ _ _ _ _ c.tokens.invariant.reading _ _ _ _ t.first (omega (arith, length-append c.tokens.outer.items (c.tokens.innermost ∷ []))) _ c.in_ok-add_word-in-Word.ensures;
       place = c.in-Ok.ensures.2;
       count = omega (arith, c.tokens.invariant.count, t.behind, t.longer, ap length c.in_ok-add_word-in-Word.ensures, length-append c.tokens.items.items (flat (atom c.in-Ok.read.0.place.offset c.in-Word.kind c.in-Word.bytes.now)));
       later = omega (arith, t.behind, t.longer);
