@@ -4,7 +4,6 @@ use Rattle.std.specs.Prelude.{◌==◌, nat_lt}
 use Rattle.std.proofs.lemmas.Bool.Decides.{nat_tests}
 use Rattle.spec_text.specs.declared.Kind.{Kind}
 use Rattle.spec_text.specs.declared.Fault.{Fault}
-use Rattle.spec_text.specs.declared.Fault.TheVariants.{TooDeep}
 use Rattle.spec_text.specs.Lexemes.{Lexeme, opens, closes, word, wrong}
 use Rattle.spec_text.specs.Readings.{is_of_end}
 use Rattle.stream_scan.specs.Next.{Outcome, nothing, unclosed, whole, stops, prepend, outcome}
@@ -44,51 +43,45 @@ prepend_final x unclosed h = h
 prepend_final x (whole xs) h = tt
 prepend_final x (stops at f) h = h
 
-module _ (limit : ℕ) where
-  -- an end of a list
-  pub outcome_close : (n at : ℕ) (xs : List (ℕ × Lexeme)) → nat_lt 1 n ≡ true → outcome limit n ((at, closes) ∷ xs) ≡ prepend (at, closes) (outcome limit (n - 1) xs)
-  unfolding outcome
-  outcome_close zero at xs e = cc
-  outcome_close (suc zero) at xs e = cc
-  outcome_close (suc (suc n)) at xs e = ap (λ k. prepend (at, closes) (outcome limit k xs)) (omega arith)
+-- an end of a list
+pub outcome_close : (n at : ℕ) (xs : List (ℕ × Lexeme)) → nat_lt 1 n ≡ true → outcome n ((at, closes) ∷ xs) ≡ prepend (at, closes) (outcome (n - 1) xs)
+unfolding outcome
+outcome_close zero at xs e = cc
+outcome_close (suc zero) at xs e = cc
+outcome_close (suc (suc n)) at xs e = ap (λ k. prepend (at, closes) (outcome k xs)) (omega arith)
 
-  -- an end of the outermost list, or of none
-  pub outcome_close_last : (n at : ℕ) (xs ys : List (ℕ × Lexeme)) → nat_lt 1 n ≡ false → outcome limit n ((at, closes) ∷ xs) ≡ outcome limit n ((at, closes) ∷ ys)
-  unfolding outcome
-  outcome_close_last zero at xs ys e = refl
-  outcome_close_last (suc zero) at xs ys e = refl
-  outcome_close_last (suc (suc n)) at xs ys e = absurd (grind (arith, nat_tests))
+-- an end of the outermost list, or of none
+pub outcome_close_last : (n at : ℕ) (xs ys : List (ℕ × Lexeme)) → nat_lt 1 n ≡ false → outcome n ((at, closes) ∷ xs) ≡ outcome n ((at, closes) ∷ ys)
+unfolding outcome
+outcome_close_last zero at xs ys e = refl
+outcome_close_last (suc zero) at xs ys e = refl
+outcome_close_last (suc (suc n)) at xs ys e = absurd (grind (arith, nat_tests))
 
-  pub outcome_close_final : (n at : ℕ) → nat_lt 1 n ≡ false → IsFinal (outcome limit n ((at, closes) ∷ []))
-  unfolding outcome
-  outcome_close_final zero at e = refl
-  outcome_close_final (suc zero) at e = tt
-  outcome_close_final (suc (suc n)) at e = absurd (grind (arith, nat_tests))
+pub outcome_close_final : (n at : ℕ) → nat_lt 1 n ≡ false → IsFinal (outcome n ((at, closes) ∷ []))
+unfolding outcome
+outcome_close_final zero at e = refl
+outcome_close_final (suc zero) at e = tt
+outcome_close_final (suc (suc n)) at e = absurd (grind (arith, nat_tests))
 
-  -- a list
-  pub outcome_open : (n at : ℕ) (xs : List (ℕ × Lexeme)) → nat_lt n limit ≡ true → outcome limit n ((at, opens) ∷ xs) ≡ prepend (at, opens) (outcome limit (n + 1) xs)
-  unfolding outcome
-  outcome_open n at xs e = rw e (ap (λ k. prepend (at, opens) (outcome limit k xs)) (omega arith))
+-- a list
+pub outcome_open : (n at : ℕ) (xs : List (ℕ × Lexeme)) → outcome n ((at, opens) ∷ xs) ≡ prepend (at, opens) (outcome (n + 1) xs)
+unfolding outcome
+outcome_open n at xs = ap (λ k. prepend (at, opens) (outcome k xs)) (omega arith)
 
-  -- a list too deep
-  pub outcome_deep : (n at : ℕ) (xs : List (ℕ × Lexeme)) → nat_lt n limit ≡ false → outcome limit n ((at, opens) ∷ xs) ≡ stops at TooDeep
-  unfolding outcome
-  outcome_deep n at xs e = rw e refl
+-- a word in a list
+pub outcome_word : (n at : ℕ) (k : Kind) (w : List ℕ) (xs : List (ℕ × Lexeme)) → (n == 0) ≡ false → outcome n ((at, word k w) ∷ xs) ≡ prepend (at, word k w) (outcome n xs)
+unfolding outcome
+outcome_word zero at k w xs e = cc
+outcome_word (suc n) at k w xs e = refl
 
-  -- a word in a list
-  pub outcome_word : (n at : ℕ) (k : Kind) (w : List ℕ) (xs : List (ℕ × Lexeme)) → (n == 0) ≡ false → outcome limit n ((at, word k w) ∷ xs) ≡ prepend (at, word k w) (outcome limit n xs)
-  unfolding outcome
-  outcome_word zero at k w xs e = cc
-  outcome_word (suc n) at k w xs e = refl
+-- a word outside of lists
+pub outcome_word_alone : (n at : ℕ) (k : Kind) (w : List ℕ) (xs : List (ℕ × Lexeme)) → (n == 0) ≡ true → outcome n ((at, word k w) ∷ xs) ≡ whole ((at, word k w) ∷ [])
+unfolding outcome
+outcome_word_alone zero at k w xs e = refl
+outcome_word_alone (suc n) at k w xs e = absurd (grind (arith, nat_tests))
 
-  -- a word outside of lists
-  pub outcome_word_alone : (n at : ℕ) (k : Kind) (w : List ℕ) (xs : List (ℕ × Lexeme)) → (n == 0) ≡ true → outcome limit n ((at, word k w) ∷ xs) ≡ whole ((at, word k w) ∷ [])
-  unfolding outcome
-  outcome_word_alone zero at k w xs e = refl
-  outcome_word_alone (suc n) at k w xs e = absurd (grind (arith, nat_tests))
-
-  -- a fault
-  pub outcome_wrong : (n at : ℕ) (f : Fault) (xs : List (ℕ × Lexeme)) → outcome limit n ((at, wrong f) ∷ xs) ≡ stops at f
-  unfolding outcome
-  outcome_wrong zero at f xs = refl
-  outcome_wrong (suc n) at f xs = refl
+-- a fault
+pub outcome_wrong : (n at : ℕ) (f : Fault) (xs : List (ℕ × Lexeme)) → outcome n ((at, wrong f) ∷ xs) ≡ stops at f
+unfolding outcome
+outcome_wrong zero at f xs = refl
+outcome_wrong (suc n) at f xs = refl

@@ -1,14 +1,14 @@
 -- What comes next in a text from an offset on: an s-expression, a fault, or what may be either yet.
 -- Source: SMT-LIB 2.6, sections 3.1 and 3.2; faults, and what is settled, are own.
-use Rattle.std.specs.Prelude.{◌≡◌, ◌+◌, ◌≤◌, ℕ, zero, suc, List, [], ◌∷◌, ◌++◌, length, nat_lt, if◌then◌else◌}
+use Rattle.std.specs.Prelude.{◌≡◌, ◌+◌, ◌≤◌, ℕ, zero, suc, List, [], ◌∷◌, ◌++◌, length}
 use Rattle.spec_text.specs.declared.Kind.{Kind}
 use Rattle.spec_text.specs.declared.Kind.TheVariants.{Text, Quoted, Keyword}
 use Rattle.spec_text.specs.declared.Fault.{Fault}
-use Rattle.spec_text.specs.declared.Fault.TheVariants.{StrayClose, TooDeep}
+use Rattle.spec_text.specs.declared.Fault.TheVariants.{StrayClose}
 use Rattle.spec_text.specs.Lexemes.{Lexeme, blank, opens, closes, word, wrong, lexemes_from}
 use Rattle.spec_text.specs.Trees.{Tree, atom, list, spelled}
-use Rattle.spec_text.specs.Faults.{Located, nesting_limit}
-use Rattle.spec_text.specs.Readings.{depth, IsBroken}
+use Rattle.spec_text.specs.Faults.{Located}
+use Rattle.spec_text.specs.Readings.{IsBroken}
 
 -- What lexemes begin with.
 pub data Outcome : Type 0 where
@@ -28,23 +28,22 @@ prepend x nothing = nothing
 prepend x unclosed = unclosed
 prepend x (stops at f) = stops at f
 
--- what lexemes begin with after n open lists, where so many lists may be open at once
-unfoldable pub outcome : (limit n : ℕ) → List (ℕ × Lexeme) → Outcome
-outcome limit zero [] = nothing
-outcome limit (suc n) [] = unclosed
-outcome limit n ((at, blank) ∷ xs) = outcome limit n xs
-outcome limit n ((at, opens) ∷ xs) =
-    if nat_lt n limit then prepend (at, opens) (outcome limit (suc n) xs) else stops at TooDeep
-outcome limit zero ((at, closes) ∷ xs) = stops at StrayClose
-outcome limit (suc zero) ((at, closes) ∷ xs) = whole ((at, closes) ∷ [])
-outcome limit (suc (suc n)) ((at, closes) ∷ xs) = prepend (at, closes) (outcome limit (suc n) xs)
-outcome limit zero ((at, word k w) ∷ xs) = whole ((at, word k w) ∷ [])
-outcome limit (suc n) ((at, word k w) ∷ xs) = prepend (at, word k w) (outcome limit (suc n) xs)
-outcome limit n ((at, wrong f) ∷ xs) = stops at f
+-- what lexemes begin with after n open lists
+unfoldable pub outcome : ℕ → List (ℕ × Lexeme) → Outcome
+outcome zero [] = nothing
+outcome (suc n) [] = unclosed
+outcome n ((at, blank) ∷ xs) = outcome n xs
+outcome n ((at, opens) ∷ xs) = prepend (at, opens) (outcome (suc n) xs)
+outcome zero ((at, closes) ∷ xs) = stops at StrayClose
+outcome (suc zero) ((at, closes) ∷ xs) = whole ((at, closes) ∷ [])
+outcome (suc (suc n)) ((at, closes) ∷ xs) = prepend (at, closes) (outcome (suc n) xs)
+outcome zero ((at, word k w) ∷ xs) = whole ((at, word k w) ∷ [])
+outcome (suc n) ((at, word k w) ∷ xs) = prepend (at, word k w) (outcome (suc n) xs)
+outcome n ((at, wrong f) ∷ xs) = stops at f
 
 -- what comes next in a text from an offset on
 abbrev pub next_in : List ℕ → ℕ → Outcome
-next_in text at = outcome nesting_limit 0 (lexemes_from text at)
+next_in text at = outcome 0 (lexemes_from text at)
 
 -- it is the same in each text that goes on as this one does
 abbrev pub IsSettled : List ℕ → ℕ → Type 0
@@ -70,8 +69,6 @@ end_of (list at ts end) = end + 1
 pub record IsNext (text : List ℕ) (at : ℕ) (t : Tree) : Type 0 where
   -- its lexemes come first
   pub first : lexemes_from text at ≡ spelled t ++ lexemes_from text (end_of t)
-  -- it is nested no deeper than it may be
-  pub within : depth t ≤ nesting_limit
   -- it ends in the text
   pub ends : end_of t ≤ length text
 

@@ -5,12 +5,12 @@
 //! It says when to read, and builds nothing. What stands next can then be read from the bytes that there are.
 #![tactic(auto)]
 
-ghost use Rattle.std.specs.Prelude.{◌≡◌, ◌≢◌, false, ℕ, ◌≤◌, ◌++◌, length, List, []};
-ghost use Rattle.spec_text.specs.Faults.{nesting_limit, Located};
+ghost use Rattle.std.specs.Prelude.{◌≡◌, ◌≢◌, false, ℕ, ◌+◌, ◌^◌, ◌<◌, ◌≤◌, ◌++◌, length, List, []};
+ghost use Rattle.spec_text.specs.Faults.{Located};
 ghost use Rattle.spec_text.specs.Lexemes.{Lexeme, lexemes_from};
 ghost use Rattle.spec_text.specs.Trees.{Tree, spelled};
-ghost use Rattle.spec_text.specs.Readings.{depth, is_of_end};
-ghost use Rattle.stream_scan.specs.Scanning.{scanned, scanned_from};
+ghost use Rattle.spec_text.specs.Readings.{is_of_end};
+ghost use Rattle.stream_scan.specs.Scanning.{lists_of, scanned, scanned_from};
 ghost use Rattle.stream_scan.specs.Next.{IsSettled, IsOpen, IsNext, IsFault};
 ghost use Rattle.stream_scan.specs.declared.Scan.TheVariants as scans;
 
@@ -51,8 +51,7 @@ pub enum Pending {
 /// What bytes tell of what is next. Own.
 #[derive(Clone, Copy, Debug, PartialEq, Eq)]
 pub enum Scan {
-    /// The pending token, and how many lists are open; one more than 500 is a fault. Nothing is next in each text that goes
-    /// on so.
+    /// The pending token, and how many lists are open. Nothing is next in each text that goes on so.
     Open(Pending, u64),
     /// One s-expression, or one fault, is next however the text goes on.
     Settled,
@@ -63,10 +62,11 @@ pub enum Scan {
 /// s-expression or a fault settles at the first byte that leaves no choice: a list at its closing parenthesis, a quoted symbol
 /// at its closing bar, any other word at the byte after it, a fault at the byte that shows it. No byte after that one is
 /// looked at, and none changes the scan. What is missing at the end of a text never settles, nor does a word that ends there.
-/// Takes no memory.
+/// Each byte opens one list at most, so lists and bytes together have to be fewer than 2^64. Takes no memory.
 /// Source: SMT-LIB 2.6, section 3.1, for the tokens; what is settled is own.
 pub fn scan_on(from: Scan, bytes: &[u8]) -> Scan
-    ensures { result ≡ scanned nesting_limit from bytes.now }
+    requires room { lists_of from + length bytes.now < 2 ^ 64 }
+    ensures { result ≡ scanned from bytes.now }
 {
     let mut scan = from;
     for b in bytes {
@@ -82,7 +82,7 @@ pub fn scan_on(from: Scan, bytes: &[u8]) -> Scan
 /// each text that goes on as these bytes do. Where it is open, no one outcome is that of each such text.
 pub fn scanning_is_exact()
     ensures pieces { (s : Scan) (xs ys : List ℕ)
-        → scanned nesting_limit s (xs ++ ys) ≡ scanned nesting_limit (scanned nesting_limit s xs) ys }
+        → scanned s (xs ++ ys) ≡ scanned (scanned s xs) ys }
     ensures settled { (text : List ℕ) (at : ℕ) → at ≤ length text
         → scanned_from text at ≡ scans.Settled → IsSettled text at }
     ensures open { (text : List ℕ) (at : ℕ) → at ≤ length text
@@ -95,7 +95,7 @@ pub fn scanning_is_exact()
 pub fn settled_trees_and_faults_stay()
     ensures tree { (text : List ℕ) (at : ℕ) (t : Tree) (rest : List (ℕ × Lexeme)) → at ≤ length text
         → scanned_from text at ≡ scans.Settled → lexemes_from text at ≡ spelled t ++ rest
-        → depth t ≤ nesting_limit → (more : List ℕ) → IsNext (text ++ more) at t }
+        → (more : List ℕ) → IsNext (text ++ more) at t }
     ensures fault { (text : List ℕ) (at : ℕ) (f : Located) → at ≤ length text
         → scanned_from text at ≡ scans.Settled → IsFault text at f
         → (more : List ℕ) → IsFault (text ++ more) at f }

@@ -1,14 +1,10 @@
 //! What one byte more makes of a scan: the transitions of the automaton.
 
-ghost use Rattle.std.specs.Prelude.{◌≡◌};
+ghost use Rattle.std.specs.Prelude.{◌≡◌, ◌+◌, ◌^◌, ◌<◌};
 ghost use Rattle.spec_text.specs.Bytes as bytes;
-ghost use Rattle.spec_text.specs.Faults.{nesting_limit};
 ghost use Rattle.stream_scan.specs.Scanning as scanning;
 
 use crate::{Pending, Scan};
-
-/// How many lists may be open at once.
-const NESTING_LIMIT: u64 = 500;
 
 /// Says whether a byte is tab, line feed, carriage return or space. Source: SMT-LIB 2.6, section 3.1.
 fn is_blank(b: u8) -> bool
@@ -31,19 +27,15 @@ fn is_symbol_byte(b: u8) -> bool
 
 /// Takes a byte where no token is pending.
 fn between_tokens(open_lists: u64, b: u8) -> Scan
-    ensures { result ≡ scanning.between_tokens nesting_limit open_lists b }
+    requires { open_lists + 1 < 2 ^ 64 }
+    ensures { result ≡ scanning.between_tokens open_lists b }
 {
     if is_blank(b) {
         return Scan::Open(Pending::Blank, open_lists);
     }
     match b {
         b';' => Scan::Open(Pending::Comment, open_lists),
-        b'(' => {
-            if open_lists < NESTING_LIMIT {
-                return Scan::Open(Pending::Blank, open_lists + 1);
-            }
-            Scan::Settled
-        }
+        b'(' => Scan::Open(Pending::Blank, open_lists + 1),
         b')' => {
             if 1 < open_lists {
                 return Scan::Open(Pending::Blank, open_lists - 1);
@@ -62,7 +54,8 @@ fn between_tokens(open_lists: u64, b: u8) -> Scan
 
 /// Takes a byte that ends a word.
 fn after_word(open_lists: u64, b: u8) -> Scan
-    ensures { result ≡ scanning.after_word nesting_limit open_lists b }
+    requires { open_lists + 1 < 2 ^ 64 }
+    ensures { result ≡ scanning.after_word open_lists b }
 {
     if open_lists == 0 {
         return Scan::Settled;
@@ -72,7 +65,8 @@ fn after_word(open_lists: u64, b: u8) -> Scan
 
 /// Takes a byte after a number.
 fn after_number(open_lists: u64, b: u8) -> Scan
-    ensures { result ≡ scanning.after_number nesting_limit open_lists b }
+    requires { open_lists + 1 < 2 ^ 64 }
+    ensures { result ≡ scanning.after_number open_lists b }
 {
     if is_symbol_byte(b) {
         return Scan::Settled;
@@ -82,7 +76,8 @@ fn after_number(open_lists: u64, b: u8) -> Scan
 
 /// Takes a byte after a numeral.
 fn after_numeral(open_lists: u64, b: u8) -> Scan
-    ensures { result ≡ scanning.after_numeral nesting_limit open_lists b }
+    requires { open_lists + 1 < 2 ^ 64 }
+    ensures { result ≡ scanning.after_numeral open_lists b }
 {
     if b == b'.' {
         return Scan::Open(Pending::Point, open_lists);
@@ -105,7 +100,8 @@ fn between_bars(open_lists: u64, b: u8) -> Scan
 
 /// Takes one byte more.
 pub(crate) fn next_scan(pending: Pending, open_lists: u64, b: u8) -> Scan
-    ensures { result ≡ scanning.next_scan nesting_limit pending open_lists b }
+    requires { open_lists + 1 < 2 ^ 64 }
+    ensures { result ≡ scanning.next_scan pending open_lists b }
 {
     match pending {
         Pending::Blank => between_tokens(open_lists, b),

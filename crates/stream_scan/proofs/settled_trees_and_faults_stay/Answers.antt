@@ -3,7 +3,7 @@ use Rattle.stream_scan.proofs.Continuations.{settled_tree_stays, settled_fault_s
 use Rattle.stream_scan.proofs.settled_trees_and_faults_stay.Goals as goal
 
 pub returns-clause-tree : goal.returns-clause-tree
-returns-clause-tree c text at t rest within e split le more = settled_tree_stays text at t rest within e split le more
+returns-clause-tree c text at t rest within e split more = settled_tree_stays text at t rest within e split more
 
 pub returns-clause-fault : goal.returns-clause-fault
 returns-clause-fault c text at f within e b more = settled_fault_stays text at f within e b more
