@@ -1,18 +1,17 @@
 -- Bytes that go on: what is kept of them, their places, and their scan.
-use Rattle.std.proofs.Common.{◌≡◌, ◌<◌, ◌≤◌, ℕ, ◌+◌, ◌-◌, Bool, true, false, List, ◌++◌, length, take, drop, refl, sym, ap, ◌∙◌, arith, nat_lt, length-append, length-take}
+use Rattle.std.proofs.Common.{◌≡◌, ◌<◌, ◌≤◌, ℕ, ◌+◌, ◌-◌, Bool, true, false, List, ◌++◌, length, take, drop, refl, sym, ap, ◌∙◌, arith, nat_lt, length-append, length-take, length-drop}
 use Rattle.std.proofs.lemmas.Bool.Decides.{nat_tests}
 use Rattle.std.proofs.lemmas.List.{take-append-le, drop-append-le, take-take, take_all}
 use Rattle.std.proofs.Math.Seq.{take-append-add}
 use Rattle.std.specs.Prelude.{count_by, ◌==◌, min}
 use Rattle.spec_text.specs.declared.Place.{Place}
 use Rattle.spec_text.specs.Places.{IsPlaceOf, since_break}
-use Rattle.spec_text.specs.Faults.{nesting_limit}
 use Rattle.spec_text.specs.Readings.{text_limit, kept, prefix, is_long}
 use Rattle.stream_scan.specs.declared.Scan.{Scan}
 use Rattle.stream_scan.specs.declared.Scan.TheVariants.{Open}
 use Rattle.stream_scan.specs.declared.Pending.TheVariants.{Blank}
-use Rattle.stream_scan.specs.Scanning.{scanned, scanned_from}
-use Rattle.stream_scan.proofs.Scans.{in_pieces}
+use Rattle.stream_scan.specs.Scanning.{lists_of, scanned, scanned_from}
+use Rattle.stream_scan.proofs.Scans.{in_pieces, scanned_lists}
 
 -- no more bytes are read than there are, nor than the limit says
 pub kept_within : (bytes : List ℕ) → length (kept bytes) ≤ length bytes
@@ -42,9 +41,13 @@ place_stays old more p h =
     }
 
 -- so is the scan from there on
-pub scan_goes_on : (old more : List ℕ) (at : ℕ) (s t : Scan) → at ≤ length old → s ≡ scanned_from old at → t ≡ scanned nesting_limit s more → t ≡ scanned_from (old ++ more) at
+pub scan_goes_on : (old more : List ℕ) (at : ℕ) (s t : Scan) → at ≤ length old → s ≡ scanned_from old at → t ≡ scanned s more → t ≡ scanned_from (old ++ more) at
 scan_goes_on old more at s t le e f =
-    f ∙ ap (λ r. scanned nesting_limit r more) e ∙ sym (in_pieces nesting_limit (drop at old) more (Open Blank 0)) ∙ ap (scanned nesting_limit (Open Blank 0)) (sym (drop-append-le at old more le))
+    f ∙ ap (λ r. scanned r more) e ∙ sym (in_pieces (drop at old) more (Open Blank 0)) ∙ ap (scanned (Open Blank 0)) (sym (drop-append-le at old more le))
+
+-- no more lists are open than there are bytes
+pub few_lists : (bytes : List ℕ) (at : ℕ) (s : Scan) → s ≡ scanned_from bytes at → lists_of s ≤ length bytes
+few_lists bytes at s e = omega (arith, ap lists_of e, scanned_lists (drop at bytes) (Open Blank 0), length-drop at bytes)
 
 -- no more of a piece than there is
 take_few : (n : ℕ) (piece : List ℕ) → take (min n (length piece)) piece ≡ take n piece

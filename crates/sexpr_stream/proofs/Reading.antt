@@ -4,11 +4,11 @@ use Rattle.std.proofs.lemmas.Bool.Decides.{nat_tests}
 use Rattle.std.specs.Prelude.{Err, ◌||◌}
 use Rattle.spec_text.specs.declared.Place.{Place}
 use Rattle.spec_text.specs.Places.{IsPlaceOf}
-use Rattle.spec_text.specs.Faults.{Located, nesting_limit}
+use Rattle.spec_text.specs.Faults.{Located}
 use Rattle.spec_text.specs.Lexemes.{lexemes_from}
 use Rattle.spec_text.specs.Offsets.{AllOffsets}
 use Rattle.spec_text.specs.Trees.{Tree, atom, list, spelled, offset_of}
-use Rattle.spec_text.specs.Readings.{depth, kept, is_long, limited}
+use Rattle.spec_text.specs.Readings.{kept, is_long, limited}
 use Rattle.stream_scan.specs.declared.Scan.TheVariants.{Settled}
 use Rattle.stream_scan.specs.Next.{IsFault, IsNext, end_of}
 use Rattle.stream_scan.specs.Scanning.{scanned_from}
@@ -75,7 +75,7 @@ module _ (s : Stream) (due : is_fixed s ≡ false → s.scan ≡ Settled) where
   short e = kept_all (bytes_of s) (not_long s.closed (is_long (bytes_of s)) e)
 
   -- an s-expression that is read
-  module _ (x : Sexpr) (behind after : Place) (r : ReadsSexpr (kept (bytes_of s)) s.place 0 x behind) where
+  module _ (x : Sexpr) (behind after : Place) (r : ReadsSexpr (kept (bytes_of s)) s.place x behind) where
     end : (end_of (tree_of x) ≤ length (kept (bytes_of s))) × (lexemes_from (kept (bytes_of s)) behind.offset ≡ lexemes_from (kept (bytes_of s)) (end_of (tree_of x)))
     end = tree_end (kept (bytes_of s)) (taken_to s) (tree_of x) _ s.placed.within r.is.first
 
@@ -88,16 +88,13 @@ module _ (s : Stream) (due : is_fixed s ≡ false → s.scan ≡ Settled) where
     first : lexemes_from (kept (bytes_of s)) (taken_to s) ≡ spelled (tree_of x) ++ lexemes_from (kept (bytes_of s)) (end_of (tree_of x))
     first = r.is.first ∙ ap (λ ys. spelled (tree_of x) ++ ys) end.1
 
-    shallow : depth (tree_of x) ≤ nesting_limit
-    shallow = omega (arith, r.is.within)
-
     next_here : IsNext (kept (bytes_of s)) (taken_to s) (tree_of x)
-    next_here = record { first = first; within = shallow; ends = end.0 }
+    next_here = record { first = first; ends = end.0 }
 
     next_stays : is_fixed s ≡ false → (rest : List ℕ) → IsNext (bytes_of s ++ rest) (taken_to s) (tree_of x)
     next_stays e rest =
         let here : IsNext (bytes_of s) (taken_to s) (tree_of x) = subst (λ (text : List ℕ). IsNext text (taken_to s) (tree_of x)) (short e) next_here in
-        settled_tree_stays (bytes_of s) (taken_to s) (tree_of x) _ within (settles e) here.first here.within rest
+        settled_tree_stays (bytes_of s) (taken_to s) (tree_of x) _ within (settles e) here.first rest
 
     longer : taken_to s < end_of (tree_of x)
     longer =
@@ -111,7 +108,6 @@ module _ (s : Stream) (due : is_fixed s ≡ false → s.scan ≡ Settled) where
           text_is = r.is.text_is;
           first = first ∙ ap (λ n. spelled (tree_of x) ++ lexemes_from (kept (bytes_of s)) n) (sym e);
           means = r.is.means;
-          within = r.is.within;
           start = r.is.start;
           offsets = r.is.offsets;
           place = subst (λ (text : List ℕ). IsPlaceOf text after) r.is.text_is p;

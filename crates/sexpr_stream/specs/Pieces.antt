@@ -17,7 +17,7 @@ pub record HasTaken (s : Stream) (fed : List ℕ) (ts : Trees) : Type 0 where
   pub bytes : bytes_of s ≡ prefix fed
   -- in each text that goes on so the trees come first, and end where the bytes were taken to
   pub trees : (rest : List ℕ) → MayCome s rest
-      → AreTrees 0 (lexemes 0 0 (kept (fed ++ rest))) ts (lexemes_from (kept (fed ++ rest)) (taken_to s))
+      → AreTrees (lexemes 0 0 (kept (fed ++ rest))) ts (lexemes_from (kept (fed ++ rest)) (taken_to s))
 
 -- The bytes of a text that may go on hold these s-expressions: they come first in each text that goes on so, and no one
 -- s-expression, fault or end is next in each.
@@ -26,6 +26,6 @@ pub record HoldTrees (bytes : List ℕ) (ts : Trees) : Type 0 where
   pub at : ℕ
   -- they come first
   pub trees : (rest : List ℕ)
-      → AreTrees 0 (lexemes 0 0 (kept (bytes ++ rest))) ts (lexemes_from (kept (bytes ++ rest)) at)
+      → AreTrees (lexemes 0 0 (kept (bytes ++ rest))) ts (lexemes_from (kept (bytes ++ rest)) at)
   -- what is next depends on bytes that may come
   pub unsettled : IsOpen bytes at

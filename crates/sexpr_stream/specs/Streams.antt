@@ -38,7 +38,7 @@ Each false bytes P = (rest : List ℕ) → P (bytes ++ rest)
 -- this s-expression is next in each text that goes on so, and ends right before this place
 pub record HasItem (s : Stream) (x : Sexpr) (after : Place) : Type 0 where
   -- it is read from the bytes up to the place
-  pub read : ReadsSexpr (kept (bytes_of s)) s.place 0 x after
+  pub read : ReadsSexpr (kept (bytes_of s)) s.place x after
   -- its tree is next in each text that goes on so
   pub next : Each (is_fixed s) (bytes_of s) (λ text. IsNext text (taken_to s) (tree_of x))
   -- the place is right after its last byte

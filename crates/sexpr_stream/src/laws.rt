@@ -15,7 +15,7 @@ ghost use Rattle.sexpr_stream.specs.declared.stream.Stream.{Stream};
 ghost use Rattle.sexpr_stream.specs.Streams.{bytes_of, taken_to, is_fixed, HasItem, HasFault, IsDone};
 ghost use Rattle.sexpr_stream.specs.Pieces.{MayCome, HasTaken};
 
-/// States that what `next` gives is next in each text that goes on as the bytes do, of which the first 2^26 bytes are read.
+/// States that what `next` gives is next in each text that goes on as the bytes do, of which the first 2^30 bytes are read.
 /// It computes nothing.
 pub fn what_is_next_stays()
     ensures item { (s : Stream) (x : Sexpr) (after : Place) (rest : List ℕ) → HasItem s x after → MayCome s rest

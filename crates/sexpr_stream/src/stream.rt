@@ -26,7 +26,7 @@ pub enum NextItem<'a> {
 
 /// A text that comes in pieces. It keeps the bytes of it that are read, and knows up to which place they were taken.
 ///
-/// Of the text the first 2^26 bytes are read, and one more is kept, by which it has more.
+/// Of the text the first 2^30 bytes are read, and one more is kept, by which it has more.
 #[derive(Drop)]
 pub struct Stream {
     /// The bytes that were fed, up to the first that is not read.
@@ -122,14 +122,14 @@ impl Stream {
     /// Gives what is next from the place on up to which the bytes were taken, and changes nothing. It lends the s-expression
     /// from the bytes, and takes time linear in what it reads. Where it answers `More` it reads nothing.
     ///
-    /// Below, a text that goes on so is any that begins with the bytes that were fed. After `close`, or where more than 2^26
-    /// bytes were fed, it is the text of the first 2^26 of them alone.
+    /// Below, a text that goes on so is any that begins with the bytes that were fed. After `close`, or where more than 2^30
+    /// bytes were fed, it is the text of the first 2^30 of them alone.
     ///
     /// - `Item` comes exactly where each text that goes on so has that s-expression next. A list is settled at its closing
     ///   parenthesis, a quoted symbol at its closing bar, and any other word at the byte after it.
     /// - `Done` comes exactly where no more bytes come, all were read, and only white space and comments are left.
     /// - `Fault` comes exactly where each text that goes on so has that fault next, with the place that `LimitedText::next`
-    ///   gives it. `UnclosedString`, `UnclosedQuote` and `UnclosedList` come after `close` alone. Where more than 2^26 bytes
+    ///   gives it. `UnclosedString`, `UnclosedQuote` and `UnclosedList` come after `close` alone. Where more than 2^30 bytes
     ///   were fed, `TooLong` comes once what is whole before it was taken.
     /// - `Memory` means that an allocation was refused. No clause says when it comes, and it says nothing of the text.
     /// - `More` comes in all other cases: then no one outcome is that of each text that goes on so.

@@ -1,12 +1,18 @@
 -- The bytes that came before stay.
-use Rattle.std.proofs.Common.{◌≡◌, ◌++◌, ◌∙◌, sym, ap, subst, arith, length, length-append, length-take, take, List, ℕ, ◌+◌, ◌-◌}
+use Rattle.std.proofs.Common.{◌≡◌, ◌≤◌, ◌++◌, ◌∙◌, sym, ap, subst, arith, length, length-append, length-take, take, List, ℕ, ◌+◌, ◌-◌}
 use Rattle.std.specs.Prelude.{min}
 use Rattle.spec_text.specs.Places.{IsPlaceOf}
 use Rattle.spec_text.specs.Readings.{text_limit, kept}
 use Rattle.stream_scan.specs.Scanning.{scanned_from}
 use Rattle.sexpr_stream.specs.Streams.{bytes_of, taken_to}
-use Rattle.sexpr_stream.proofs.Continuing.{place_stays, scan_goes_on, prefix_goes_on, kept_within}
+use Rattle.sexpr_stream.proofs.Continuing.{place_stays, scan_goes_on, few_lists, prefix_goes_on, kept_within}
 use Rattle.sexpr_stream.proofs.stream.Stream.feed.Goals as goal
+
+pub scan_on-self-requires : goal.scan_on-self-requires
+scan_on-self-requires c =
+    let s = c.args.self.now in
+    let few : c.min-size.result ≤ text_limit + 1 = omega (arith, c.min-size.ensures) in
+    record { room = omega (arith, few_lists (bytes_of s) (taken_to s) s.scan s.scans, s.small, length-take c.min-size.result c.args.piece.now, few) }
 
 pub invariant_of-self : goal.invariant_of-self
 invariant_of-self c =

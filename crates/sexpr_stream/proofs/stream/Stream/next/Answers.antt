@@ -16,7 +16,7 @@ module _ (c : goal.After-end_of) where
   text : whole_of c.new-text.result ≡ bytes_of c.args.self.now
   text = c.new-text.ensures ∙ c.as_slice.ensures.value
 
-  reads : ReadsSexpr (kept (bytes_of c.args.self.now)) c.args.self.now.place 0 c.in-Ok-Some.s c.in-Ok-Some.field-0-0-1
+  reads : ReadsSexpr (kept (bytes_of c.args.self.now)) c.args.self.now.place c.in-Ok-Some.s c.in-Ok-Some.field-0-0-1
   reads = subst (λ (t : List ℕ). ReadsOneOf t c.args.self.now.place (Ok (Some (c.in-Ok-Some.s, c.in-Ok-Some.field-0-0-1)))) text (rw c.in-Ok-Some.field-0-is at c.in-Ok-Some.ensures)
 
   ends : c.end_of.result ≡ end_of (tree_of c.in-Ok-Some.s)
