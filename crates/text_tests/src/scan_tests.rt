@@ -52,21 +52,29 @@ let)\t4
 (1`10`:)\t5
 (a(b\"c\")\t
 (|a\\\t4
-`500 (`\t
-`501 (`\t501
-`500 (``499 )`\t
-`500 (``501 )`\t1000";
+`2000 (`\t
+`2000 (``1999 )`\t
+`2000 (``2001 )`\t4000";
+
+/// Scans one byte more. Where too many lists are open to count one more, nothing is told.
+fn scan_byte(scan: Scan, b: u8) -> Option<Scan> {
+    match scan {
+        Scan::Settled => Some(Scan::Settled),
+        Scan::Open(pending, n) if n < 1 << 32 => Some(scan_on(Scan::Open(pending, n), &[b])),
+        Scan::Open(_, _) => None,
+    }
+}
 
 /// Scans a text in pieces of one byte each, and counts the bytes up to the one that settles; else gives the greatest number.
-fn scan_bytes(text: &[u8], start: Scan) -> (Scan, u64) {
+fn scan_bytes(text: &[u8], start: Scan) -> Option<(Scan, u64)> {
     let mut scan = start;
     for i in 0..text.len() {
-        scan = scan_on(scan, &text[i..i + 1]);
+        scan = scan_byte(scan, text[i])?;
         if scan == Scan::Settled {
-            return (scan, i as u64 + 1);
+            return Some((scan, i as u64 + 1));
         }
     }
-    (scan, u64::MAX)
+    Some((scan, u64::MAX))
 }
 
 /// Tells whether a text is settled after as many bytes as its row says, and is scanned alike in one piece.
@@ -75,8 +83,8 @@ fn is_settled_so(alloc: Global, row: &str) -> Result<bool, NoMemory> {
     let text = bytes_of(alloc, parts.next().unwrap_or(""))?;
     let wanted = number(parts.next().unwrap_or(""));
     let start = Scan::Open(Pending::Blank, 0);
-    let (scan, taken) = scan_bytes(&text, start);
-    Ok(taken == wanted && scan == scan_on(start, &text))
+    let whole = scan_on(start, &text);
+    Ok(scan_bytes(&text, start) == Some((whole, wanted)))
 }
 
 /// Gives the first row whose text is settled after another number of bytes, if there is one.

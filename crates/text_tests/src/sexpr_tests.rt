@@ -46,16 +46,16 @@ a #\t1\t1\tBadChar\t\t2 1 3
 (|a\\b\t0\t0\tBadChar\t\t3 1 4
 (a))(\t0\t0\tOne\t(a)\t0 1 1 3
 (\t0\t499\tUnclosedList\t\t1 1 2
-(\t0\t500\tTooDeep\t\t0 1 1
 (a)\t0\t499\tOne\t(a)\t0 1 1 3
- (())\t0\t499\tTooDeep\t\t2 1 3";
+ (())\t0\t18446744073709551615\tOne\t(())\t1 1 2 5
+ ((a)\t0\t18446744073709551615\tUnclosedList\t\t5 1 6";
 
-/// Lists in lists, of which 500 are taken, together with those that are open.
-const NESTED: &str = "`500 (``500 )`\t0\t0\tOne\t`500 (``500 )`\t0 1 1 1000
-`501 (``501 )`\t0\t0\tTooDeep\t\t500 1 501
-`499 (``499 )`\t0\t1\tOne\t`499 (``499 )`\t0 1 1 998
-`500 (``500 )`\t0\t1\tTooDeep\t\t499 1 500
-`1 (``1 )`\t0\t500\tTooDeep\t\t0 1 1";
+/// Lists in lists, which are read however deep they are.
+const NESTED: &str = "`2000 (``2000 )`\t0\t0\tOne\t`2000 (``2000 )`\t0 1 1 4000
+`2000 (`a`2000 )`b\t0\t7\tOne\t`2000 (`a`2000 )`\t0 1 1 4001
+`2000 (``1999 )`a\t0\t0\tUnclosedList\t\t4000 1 4001
+`2000 (`\t0\t0\tUnclosedList\t\t2000 1 2001
+`2000 (``2001 )`\t4000\t0\tStrayClose\t\t4000 1 4001";
 
 /// A text, an item of its first s-expression, and how that is printed, nothing where there is no such item. Then come the room of
 /// sinks that fail, and what these get.

@@ -23,7 +23,8 @@ a (\t1\t1\tUnclosedList
 (a |b\t\t0\tUnclosedQuote
 (a ;)\t\t0\tUnclosedList
 \"a\"\"b\"c\t6 7\t1\tDone
-`501 (`\t\t0\tTooDeep";
+`2000 (`\t\t0\tUnclosedList
+`2000 (``2000 )`a\t4000 4001\t1\tDone";
 
 /// Takes the s-expression that is next, if one is, and gives the offset after it.
 fn take_one(alloc: Global, stream: &mut Stream) -> Result<Option<u64>, NoMemory> {
