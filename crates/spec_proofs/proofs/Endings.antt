@@ -1,17 +1,16 @@
 -- A proof's text has one row of commands and one ending.
 use Rattle.std.proofs.Common.{◌≡◌, ℕ, Bool, true, false, List, [], ◌∷◌, ◌++◌, length, Some, None, inl, inr, refl, sym, ap, ◌∙◌, arith, subst, append_assoc}
-use Rattle.std.proofs.Math.Nat.{le-max_left}
 use Rattle.spec_text.specs.Lexemes.{Lexeme, opens}
 use Rattle.spec_text.specs.Trees.{Tree, Trees, atom, list, none, more, spelled, offset_of}
-use Rattle.spec_text.specs.Faults.{Located, nesting_limit, first_fault}
-use Rattle.spec_text.specs.Readings.{depth, IsBroken, AreTrees, kept}
-use Rattle.spec_text.proofs.Stopping.{BeginsNoTree, nothing_begins_no_tree}
+use Rattle.spec_text.specs.Faults.{Located, first_fault}
+use Rattle.spec_text.specs.Readings.{BeginsNoTree, IsBroken, AreTrees, kept}
+use Rattle.spec_text.proofs.Stopping.{nothing_begins_no_tree}
 use Rattle.spec_text.proofs.Parsing.{close_begins_no_tree}
 use Rattle.spec_proofs.specs.Texts.{Ending, complete, broken, left_over, EndsRow, EndsBehind, EndsList, AreCommands, begins_listed, proof_lexemes, IsProofText}
 
 -- lexemes are read up to one end
 abbrev pub Law : Type 0
-Law = (n : ℕ) (xs rest others : List (ℕ × Lexeme)) (ts us : Trees) → AreTrees n xs ts rest → AreTrees n xs us others → BeginsNoTree n rest → BeginsNoTree n others → (ts ≡ us) × (rest ≡ others)
+Law = (xs rest others : List (ℕ × Lexeme)) (ts us : Trees) → AreTrees xs ts rest → AreTrees xs us others → BeginsNoTree rest → BeginsNoTree others → (ts ≡ us) × (rest ≡ others)
 
 -- the first lexeme
 abbrev front_lexeme : List (ℕ × Lexeme) → Lexeme
@@ -31,14 +30,14 @@ spelled_offset (list at ts end) xs = refl
 -- what is broken is not nothing
 broken_something : (end n : ℕ) (xs : List (ℕ × Lexeme)) (f : Located) → IsBroken end 0 xs f → xs ≡ [] → ⊥
 unfolding first_fault
-broken_something end n xs f b e = let none : None ≡ Some f = sym (ap (first_fault nesting_limit end 0) e) ∙ b.fault in cc
+broken_something end n xs f b e = let none : None ≡ Some f = sym (ap (first_fault end 0) e) ∙ b.fault in cc
 
 -- one fault breaks lexemes
 one_break : (end n : ℕ) (xs : List (ℕ × Lexeme)) (f g : Located) → IsBroken end n xs f → IsBroken end n xs g → f ≡ g
 one_break end n xs f g a b = let both : Some f ≡ Some g = sym a.fault ∙ b.fault in cc
 
-row_free : (end : ℕ) (rest : List (ℕ × Lexeme)) (e : Ending) → EndsRow end rest e → BeginsNoTree 0 rest
-row_free end rest complete h = subst (BeginsNoTree 0) (sym h) (nothing_begins_no_tree 0)
+row_free : (end : ℕ) (rest : List (ℕ × Lexeme)) (e : Ending) → EndsRow end rest e → BeginsNoTree rest
+row_free end rest complete h = subst BeginsNoTree (sym h) nothing_begins_no_tree
 row_free end rest (broken f) h = h.no_tree
 row_free end rest (left_over at) h = absurd h
 
@@ -52,20 +51,17 @@ one_row_end end rest e (left_over at) a b = absurd b
 
 -- a tree after the list
 abbrev IsLeft : List (ℕ × Lexeme) → ℕ → Type 0
-IsLeft after at = (t : Tree) × (rest : List (ℕ × Lexeme)) × AreTrees 0 after (more t none) rest × (offset_of t ≡ at)
+IsLeft after at = (t : Tree) × (rest : List (ℕ × Lexeme)) × AreTrees after (more t none) rest × (offset_of t ≡ at)
 
 left_offset : (after : List (ℕ × Lexeme)) (at : ℕ) → IsLeft after at → front_offset after ≡ at
-left_offset after at h = ap front_offset (h.2.split ∙ append_assoc (spelled h.0) [] h.1) ∙ spelled_offset h.0 h.1 ∙ h.3
+left_offset after at h = ap front_offset (h.2 ∙ append_assoc (spelled h.0) [] h.1) ∙ spelled_offset h.0 h.1 ∙ h.3
 
 left_something : (after : List (ℕ × Lexeme)) (at : ℕ) → IsLeft after at → after ≡ [] → ⊥
 left_something after at h e =
-    let deep = nothing_begins_no_tree 0 h.0 ([] ++ h.1) (sym e ∙ h.2.split ∙ append_assoc (spelled h.0) [] h.1) in
-    omega (arith, deep, h.2.within, le-max_left (depth h.0) 0)
+    nothing_begins_no_tree h.0 ([] ++ h.1) (sym e ∙ h.2 ∙ append_assoc (spelled h.0) [] h.1)
 
 left_unbroken : (end : ℕ) (after : List (ℕ × Lexeme)) (at : ℕ) (f : Located) → IsLeft after at → IsBroken end 0 after f → ⊥
-left_unbroken end after at f h b =
-    let deep = b.no_tree h.0 ([] ++ h.1) (h.2.split ∙ append_assoc (spelled h.0) [] h.1) in
-    omega (arith, deep, h.2.within, le-max_left (depth h.0) 0)
+left_unbroken end after at f h b = b.no_tree h.0 ([] ++ h.1) (h.2 ∙ append_assoc (spelled h.0) [] h.1)
 
 one_behind : (end : ℕ) (after : List (ℕ × Lexeme)) (e f : Ending) → EndsBehind end after e → EndsBehind end after f → e ≡ f
 one_behind end after complete complete a b = refl
@@ -78,8 +74,8 @@ one_behind end after (left_over at) complete a b = absurd (left_something after 
 one_behind end after (left_over at) (broken f) a b = absurd (left_unbroken end after at f a b)
 one_behind end after (left_over at) (left_over at') a b = ap left_over (sym (left_offset after at a) ∙ left_offset after at' b)
 
-list_free : (end : ℕ) (rest : List (ℕ × Lexeme)) (e : Ending) → EndsList end rest e → BeginsNoTree 1 rest
-list_free end rest e (inl h) = subst (BeginsNoTree 1) (sym h.2) (close_begins_no_tree 1 h.0 h.1)
+list_free : (end : ℕ) (rest : List (ℕ × Lexeme)) (e : Ending) → EndsList end rest e → BeginsNoTree rest
+list_free end rest e (inl h) = subst BeginsNoTree (sym h.2) (close_begins_no_tree h.0 h.1)
 list_free end rest e (inr h) = h.1.no_tree
 
 -- what is after a lexeme
@@ -98,11 +94,11 @@ one_list_end end rest e f (inr a) (inr b) = a.2 ∙ ap broken (one_break end 1 r
 -- commands and their ending are one
 one_reading : (law : Law) (listed : Bool) (end : ℕ) (xs : List (ℕ × Lexeme)) (ts us : Trees) (e f : Ending) → AreCommands listed end xs ts e → AreCommands listed end xs us f → (ts ≡ us) × (e ≡ f)
 one_reading law false end xs ts us e f a b =
-    let row = law 0 xs a.0 b.0 ts us a.1 b.1 (row_free end a.0 e a.2) (row_free end b.0 f b.2) in
+    let row = law xs a.0 b.0 ts us a.1 b.1 (row_free end a.0 e a.2) (row_free end b.0 f b.2) in
     (row.0, one_row_end end b.0 e f (subst (λ r. EndsRow end r e) row.1 a.2) b.2)
 one_reading law true end xs ts us e f a b =
     let inner : a.1 ≡ b.1 = ap behind_first (sym a.3 ∙ b.3) in
-    let row = law 1 b.1 a.2 b.2 ts us (subst (λ x. AreTrees 1 x ts a.2) inner a.4) b.4 (list_free end a.2 e a.5) (list_free end b.2 f b.5) in
+    let row = law b.1 a.2 b.2 ts us (subst (λ x. AreTrees x ts a.2) inner a.4) b.4 (list_free end a.2 e a.5) (list_free end b.2 f b.5) in
     (row.0, one_list_end end b.2 e f (subst (λ r. EndsList end r e) row.1 a.5) b.5)
 
 -- and so they are in a text

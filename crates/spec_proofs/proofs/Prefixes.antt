@@ -19,7 +19,7 @@ same_long n text = grind (arith, nat_tests, length-take (n + 1) text)
 pub read_by : (text : List ℕ) (ts : Trees) (found : Option Located) → IsReadUpTo (prefix text) ts found → IsReadUpTo text ts found
 read_by text ts found r = record {
   rest = r.rest;
-  trees = subst (λ bytes. AreTrees 0 (lexemes 0 0 bytes) ts r.rest) (same_kept text_limit text) r.trees;
+  trees = subst (λ bytes. AreTrees (lexemes 0 0 bytes) ts r.rest) (same_kept text_limit text) r.trees;
   stop = r.stop;
   stops = subst (λ bytes. EndsTrees (length bytes) r.rest r.stop) (same_kept text_limit text) r.stops;
   is = subst (λ long. found ≡ limited long r.stop) (same_long text_limit text) r.is;

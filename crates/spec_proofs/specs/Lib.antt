@@ -3,5 +3,4 @@ pub mod Resolution
 pub mod RuleNames
 pub mod Faults
 pub mod Texts
-pub mod Limits
 pub mod Examples

@@ -42,7 +42,7 @@ EndsRow end rest (left_over at) = ⊥
 abbrev pub EndsBehind : ℕ → List (ℕ × Lexeme) → Ending → Type 0
 EndsBehind end after complete = after ≡ []
 EndsBehind end after (broken f) = IsBroken end 0 after f
-EndsBehind end after (left_over at) = (t : Tree) × (rest : List (ℕ × Lexeme)) × AreTrees 0 after (more t none) rest
+EndsBehind end after (left_over at) = (t : Tree) × (rest : List (ℕ × Lexeme)) × AreTrees after (more t none) rest
     × (offset_of t ≡ at)
 
 -- after commands that are in a list: its end and what is after it, or what cannot be read
@@ -52,9 +52,9 @@ EndsList end rest e = ((at : ℕ) × (after : List (ℕ × Lexeme)) × (rest ≡
 
 -- the lexemes are these commands with this ending, in a list or not
 abbrev pub AreCommands : Bool → ℕ → List (ℕ × Lexeme) → Trees → Ending → Type 0
-AreCommands false end xs ts e = (rest : List (ℕ × Lexeme)) × AreTrees 0 xs ts rest × EndsRow end rest e
+AreCommands false end xs ts e = (rest : List (ℕ × Lexeme)) × AreTrees xs ts rest × EndsRow end rest e
 AreCommands true end xs ts e = (at : ℕ) × (inner : List (ℕ × Lexeme)) × (rest : List (ℕ × Lexeme))
-    × (xs ≡ (at, opens) ∷ inner) × AreTrees 1 inner ts rest × EndsList end rest e
+    × (xs ≡ (at, opens) ∷ inner) × AreTrees inner ts rest × EndsList end rest e
 
 -- the lexemes are these commands and nothing else, in a list or not, however deep they are nested
 abbrev pub AreAllCommands : Bool → List (ℕ × Lexeme) → Trees → Type 0
