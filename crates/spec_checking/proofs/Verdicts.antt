@@ -1,14 +1,14 @@
 -- The verdicts on the examples.
-use Rattle.std.proofs.Common.{◌≡◌, ◌≢◌, ◌<◌, ◌≤◌, ◌+◌, ℕ, zero, suc, Bool, true, false, List, [], ◌∷◌, ◌++◌, length, Option, Some, None, codes, All, Contains, inl, inr, refl, sym, ap, ◌∙◌, subst, arith, append_assoc}
+use Rattle.std.proofs.Common.{◌≡◌, ◌≢◌, ◌<◌, ◌+◌, ℕ, zero, suc, Bool, true, false, List, [], ◌∷◌, ◌++◌, length, Option, Some, None, codes, All, Contains, inl, inr, refl, sym, ap, ◌∙◌, subst, arith, append_assoc}
 use Rattle.std.specs.Prelude.{Ok, Err, slice_index_or}
 use Rattle.std.proofs.lemmas.Bool.{false≢true}
 use Rattle.std.proofs.lemmas.List.Elements.{All-cons, All-nil, All-contains}
 use Rattle.spec_text.specs.declared.Kind.TheVariants.{Simple}
 use Rattle.spec_text.specs.declared.Fault.TheVariants as faults
 use Rattle.spec_text.specs.Lexemes.{Lexeme, blank, opens, closes, word, wrong, lexemes, first_piece}
-use Rattle.spec_text.specs.Faults.{Located, nesting_limit, first_fault}
-use Rattle.spec_text.specs.Readings.{depth, depth_all, IsBroken, kept, is_long}
-use Rattle.spec_text.specs.Trees.{Tree, Trees, atom, list, none, more, spelled, spelled_all, offset_of}
+use Rattle.spec_text.specs.Faults.{Located, first_fault}
+use Rattle.spec_text.specs.Readings.{BeginsNoTree, IsBroken, kept, is_long}
+use Rattle.spec_text.specs.Trees.{Tree, Trees, atom, list, none, more, spelled_all, offset_of}
 use Rattle.spec_sorts.specs.Terms.{And, Or, Term, of, negated, sort_of, second_sort}
 use Rattle.spec_sorts.specs.Values.{truth, Interpretation}
 use Rattle.spec_sorts.specs.TermValues.{value_at, values_at}
@@ -149,10 +149,10 @@ pub assumption_verdict : IsVerdict contradiction 1 assumption (Some (fault_at 14
 assumption_verdict = judged assumption (trees_in assumption) complete assumption_is_read _ None _ assumption_commands (inl (p_asserted, (no_empty_in_one (with_command known (first_assume 11)) (codes "h1") p [] refl, refl)))
 
 -- commands in one list, after which a tree comes
-followed_list : (end at close : ℕ) (xs : List (ℕ × Lexeme)) (ts : Trees) (t : Tree) (rest : List (ℕ × Lexeme)) → xs ≡ (at, opens) ∷ spelled_all ts ++ (close, closes) ∷ (spelled_all (more t none) ++ rest) → 1 + depth_all ts ≤ nesting_limit → 0 + depth_all (more t none) ≤ nesting_limit → AreCommands true end xs ts (left_over (offset_of t))
-followed_list end at close xs ts t rest e within room =
+followed_list : (end at close : ℕ) (xs : List (ℕ × Lexeme)) (ts : Trees) (t : Tree) (rest : List (ℕ × Lexeme)) → xs ≡ (at, opens) ∷ spelled_all ts ++ (close, closes) ∷ (spelled_all (more t none) ++ rest) → AreCommands true end xs ts (left_over (offset_of t))
+followed_list end at close xs ts t rest e =
     let after = spelled_all (more t none) ++ rest in
-    (at, spelled_all ts ++ (close, closes) ∷ after, (close, closes) ∷ after, e, record { split = refl; within = within }, inl (close, after, refl, (t, rest, record { split = refl; within = room }, refl)))
+    (at, spelled_all ts ++ (close, closes) ∷ after, (close, closes) ∷ after, e, refl, inl (close, after, refl, (t, rest, refl, refl)))
 
 -- the second tree
 abbrev second_tree : Trees → Tree
@@ -161,7 +161,7 @@ second_tree _ = atom 0 Simple []
 
 behind_list_is_read : IsProofText behind_list (first_items (trees_in behind_list)) (left_over 16)
 unfolding lexemes first_piece built
-behind_list_is_read = followed_list (length (kept behind_list)) 0 14 (proof_lexemes behind_list) (first_items (trees_in behind_list)) (second_tree (trees_in behind_list)) [] refl (omega arith) (omega arith)
+behind_list_is_read = followed_list (length (kept behind_list)) 0 14 (proof_lexemes behind_list) (first_items (trees_in behind_list)) (second_tree (trees_in behind_list)) [] refl
 
 pub behind_list_verdict : IsVerdict contradiction 1 behind_list (Some (fault_at 16 BadShape))
 behind_list_verdict = judged behind_list (first_items (trees_in behind_list)) (left_over 16) behind_list_is_read _ None _ behind_list_commands (inl (p_asserted, refl))
@@ -186,9 +186,9 @@ end_behind ((a, word k n) ∷ xs) ys at = end_behind xs ys at
 end_behind ((a, wrong f) ∷ xs) ys at = end_behind xs ys at
 
 -- lexemes without an end of a list, and without a first word, begin with no tree
-no_tree_begins : (n : ℕ) (xs : List (ℕ × Lexeme)) → has_end xs ≡ false → begins_word xs ≡ false → (t : Tree) (ys : List (ℕ × Lexeme)) → xs ≡ spelled t ++ ys → nesting_limit < n + depth t
-no_tree_begins n xs no_end no_word (atom at k bytes) ys e = absurd (false≢true (sym no_word ∙ ap begins_word e))
-no_tree_begins n xs no_end no_word (list at ts end) ys e = absurd (false≢true (sym no_end ∙ ap has_end e ∙ ap has_end (append_assoc ((at, opens) ∷ spelled_all ts) ((end, closes) ∷ []) ys) ∙ end_behind ((at, opens) ∷ spelled_all ts) ys end))
+no_tree_begins : (xs : List (ℕ × Lexeme)) → has_end xs ≡ false → begins_word xs ≡ false → BeginsNoTree xs
+no_tree_begins xs no_end no_word (atom at k bytes) ys e = absurd (false≢true (sym no_word ∙ ap begins_word e))
+no_tree_begins xs no_end no_word (list at ts end) ys e = absurd (false≢true (sym no_end ∙ ap has_end e ∙ ap has_end (append_assoc ((at, opens) ∷ spelled_all ts) ((end, closes) ∷ []) ys) ∙ end_behind ((at, opens) ∷ spelled_all ts) ys end))
 
 -- what is after the first command
 abbrev unclosed_rest : List (ℕ × Lexeme)
@@ -200,11 +200,11 @@ unclosed_fault = record { offset = 26; fault = faults.UnclosedList }
 
 unclosed_is_broken : IsBroken 26 0 unclosed_rest unclosed_fault
 unfolding first_fault
-unclosed_is_broken = record { fault = refl; no_end = λ at ys e. refl; no_tree = no_tree_begins 0 unclosed_rest refl refl }
+unclosed_is_broken = record { fault = refl; no_end = λ at ys e. refl; no_tree = no_tree_begins unclosed_rest refl refl }
 
 unclosed_is_read : IsProofText unclosed (trees_in assumption) (broken unclosed_fault)
 unfolding lexemes first_piece built
-unclosed_is_read = (unclosed_rest, record { split = refl; within = omega arith }, unclosed_is_broken)
+unclosed_is_read = (unclosed_rest, refl, unclosed_is_broken)
 
 pub unclosed_verdict : IsVerdict contradiction 1 unclosed (Some (fault_at 26 (Lexical faults.UnclosedList)))
 unclosed_verdict = judged unclosed (trees_in assumption) (broken unclosed_fault) unclosed_is_read _ None _ assumption_commands (inl (p_asserted, refl))

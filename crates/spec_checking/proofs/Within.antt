@@ -7,7 +7,7 @@ use Rattle.spec_text.specs.Lexemes.{Lexeme, blank, opens, closes, word, wrong, l
 use Rattle.spec_text.specs.Trees.{Trees, none, more, spelled_all}
 use Rattle.spec_text.specs.Shapes.{is_symbol}
 use Rattle.spec_text.specs.Offsets.{AllOffsetsOf, weaker_offsets_of}
-use Rattle.spec_text.specs.Faults.{Located, nesting_limit, first_fault}
+use Rattle.spec_text.specs.Faults.{Located, first_fault}
 use Rattle.spec_text.specs.Readings.{IsBroken, text_limit, kept, is_long, is_of_end, too_long, at_limit}
 use Rattle.spec_text.proofs.AnswerLaws.{own_offset}
 use Rattle.spec_text.proofs.ShapeLaws.{Holds}
@@ -23,7 +23,7 @@ abbrev pub TreesLaw : Type 0
 TreesLaw = (text : List ℕ) (at : ℕ) (earlier rest : List (ℕ × Lexeme)) (ts : Trees) → lexemes_from text at ≡ earlier ++ (spelled_all ts ++ rest) → AllOffsetsOf (λ n. (at ≤ n) × (n < length text)) ts
 
 abbrev pub FaultsLaw : Type 0
-FaultsLaw = (text : List ℕ) (at n : ℕ) (earlier rest : List (ℕ × Lexeme)) (f : Located) → lexemes_from text at ≡ earlier ++ rest → first_fault nesting_limit (length text) n rest ≡ Some f → f.offset ≤ length text
+FaultsLaw = (text : List ℕ) (at n : ℕ) (earlier rest : List (ℕ × Lexeme)) (f : Located) → lexemes_from text at ≡ earlier ++ rest → first_fault (length text) n rest ≡ Some f → f.offset ≤ length text
 
 -- some lexemes are the last of others
 abbrev EndsWith : List (ℕ × Lexeme) → List (ℕ × Lexeme) → Type 0
@@ -84,7 +84,7 @@ module _ (trees_law : TreesLaw) (faults_law : FaultsLaw) (text : List ℕ) where
   behind_in after (broken f) h x = fault_in 0 after f h x
   behind_in after (left_over at) h x =
       let t = x.0 in
-      let inside = trees_in (more t none) x.1 (subst (EndsWith all) x.2.split h) in
+      let inside = trees_in (more t none) x.1 (subst (EndsWith all) x.2 h) in
       subst IsIn x.3 (own_offset IsIn t inside.0)
 
   list_in : (rest : List (ℕ × Lexeme)) (e : Ending) → EndsWith all rest → EndsList (length (kept text)) rest e → EndingIn e
@@ -93,10 +93,10 @@ module _ (trees_law : TreesLaw) (faults_law : FaultsLaw) (text : List ℕ) where
 
   commands_in : (listed : Bool) (xs : List (ℕ × Lexeme)) (ts : Trees) (e : Ending) → EndsWith all xs → AreCommands listed (length (kept text)) xs ts e → AllOffsetsOf IsIn ts × EndingIn e
   commands_in false xs ts e h x =
-      let here = subst (EndsWith all) x.1.split h in
+      let here = subst (EndsWith all) x.1 h in
       (trees_in ts x.0 here, row_in x.0 e (behind_all all (spelled_all ts) x.0 here) x.2)
   commands_in true xs ts e h x =
-      let here = subst (EndsWith all) x.4.split (behind_one all (x.0, opens) x.1 (subst (EndsWith all) x.3 h)) in
+      let here = subst (EndsWith all) x.4 (behind_one all (x.0, opens) x.1 (subst (EndsWith all) x.3 h)) in
       (trees_in ts x.2 here, list_in x.2 e (behind_all all (spelled_all ts) x.2 here) x.5)
 
   -- the limit lies in a text that is longer

@@ -38,8 +38,8 @@ pub record AreGood (limit : Option ℕ) (k : Known) (ts : Trees) : Type 0 where
   -- one has the empty clause
   pub empty : HasEmptyClause (known_after k commands)
 
--- a good proof of what is current at the k-th check of a script, under the script's limit on terms; of the length, the
--- nesting and the terms of the proof itself nothing is asked
+-- a good proof of what is current at the k-th check of a script, under the script's limit on terms; of the length and
+-- the terms of the proof itself nothing is asked
 pub record IsGood (limit : ℕ) (script : List ℕ) (k : ℕ) (proof : List ℕ) : Type 0 where
   -- the check
   pub check : Check

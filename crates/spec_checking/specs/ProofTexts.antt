@@ -1,6 +1,5 @@
 -- Texts of proofs for the check of `contradiction`, with the commands that they are, and the places of their faults.
 use Rattle.std.specs.Prelude.{◌++◌, ◌≡◌, refl, ℕ, pos, true, List, [], ◌∷◌, length, Option, Some, None, Err, codes}
-use Rattle.std.proofs.Common.{arith}
 use Rattle.spec_text.specs.declared.Fault.TheVariants as faults
 use Rattle.spec_text.specs.Lexemes.{lexemes, first_piece}
 use Rattle.spec_text.specs.Places.{line_of, column_of}
@@ -29,7 +28,7 @@ pub contradiction_is_read : IsReadUpTo contradiction (trees_in contradiction) No
 unfolding lexemes first_piece built
 contradiction_is_read = record {
   rest = [];
-  trees = record { split = refl; within = omega arith };
+  trees = refl;
   stop = None;
   stops = refl;
   is = refl;
@@ -109,7 +108,7 @@ refutation = codes "(assume h1 p)\n(assume h2 (not p))\n(step t1 (cl) :rule reso
 
 pub refutation_is_read : IsProofText refutation (trees_in refutation) complete
 unfolding lexemes first_piece built
-refutation_is_read = ([], record { split = refl; within = omega arith }, refl)
+refutation_is_read = ([], refl, refl)
 
 pub refutation_commands : read_as (trees_in refutation)
     ≡ (first_assume 11 ∷ second_assume 25 ∷ empty_step 34 ∷ [], None)
@@ -128,7 +127,7 @@ listed_proof = codes "unsat\n((assume h1 p)\n(assume h2 (not p))\n(step t1 (cl) 
 pub listed_is_read : IsProofText listed_proof (first_items (trees_in listed_proof)) complete
 unfolding lexemes first_piece built
 listed_is_read = in_one_list (length (kept listed_proof)) 6 90 (proof_lexemes listed_proof)
-    (first_items (trees_in listed_proof)) refl (omega arith)
+    (first_items (trees_in listed_proof)) refl
 
 pub listed_commands : read_as (first_items (trees_in listed_proof))
     ≡ (first_assume 18 ∷ second_assume 32 ∷ empty_step 41 ∷ [], None)
@@ -147,7 +146,7 @@ with_numbers = (codes "(define-fun @less ((a Real)) Bool (< a x))\n(assume h1 p)
 
 pub with_numbers_is_read : IsProofText with_numbers (trees_in with_numbers) complete
 unfolding lexemes first_piece built
-with_numbers_is_read = ([], record { split = refl; within = omega arith }, refl)
+with_numbers_is_read = ([], refl, refl)
 
 -- the commands before the last one: a definition, two assumptions, and a step
 abbrev pub less_defined : Command
@@ -186,7 +185,7 @@ unknown_premise = codes "(assume h1 p)\n(assume h2 (not p))\n(step t1 (cl) :rule
 
 pub unknown_premise_is_read : IsProofText unknown_premise (trees_in unknown_premise) complete
 unfolding lexemes first_piece built
-unknown_premise_is_read = ([], record { split = refl; within = omega arith }, refl)
+unknown_premise_is_read = ([], refl, refl)
 
 pub unknown_premise_commands : read_as (trees_in unknown_premise)
     ≡ (first_assume 11 ∷ second_assume 25 ∷ [], Some (fault_at 79 UnknownPremise))
@@ -202,7 +201,7 @@ not_linear = codes "(assume h1 p)\n(assume h2 (< (* x x) 1))\n"
 
 pub not_linear_is_read : IsProofText not_linear (trees_in not_linear) complete
 unfolding lexemes first_piece built
-not_linear_is_read = ([], record { split = refl; within = omega arith }, refl)
+not_linear_is_read = ([], refl, refl)
 
 pub not_linear_commands : read_as (trees_in not_linear)
     ≡ (first_assume 11 ∷ [], Some (fault_at 28 (in_term faults.NotLinear)))
@@ -218,7 +217,7 @@ one_premise = codes "(assume h1 p)\n(assume h2 (not p))\n(step t1 (cl) :rule res
 
 pub one_premise_is_read : IsProofText one_premise (trees_in one_premise) complete
 unfolding lexemes first_piece built
-one_premise_is_read = ([], record { split = refl; within = omega arith }, refl)
+one_premise_is_read = ([], refl, refl)
 
 pub one_premise_commands : read_as (trees_in one_premise)
     ≡ (
@@ -245,7 +244,7 @@ dropped_literal = codes "(assume h1 p)\n(step t1 (cl) :rule contraction :premise
 
 pub dropped_literal_is_read : IsProofText dropped_literal (trees_in dropped_literal) complete
 unfolding lexemes first_piece built
-dropped_literal_is_read = ([], record { split = refl; within = omega arith }, refl)
+dropped_literal_is_read = ([], refl, refl)
 
 pub dropped_literal_commands : read_as (trees_in dropped_literal)
     ≡ (
@@ -272,7 +271,7 @@ not_asserted = codes "(assume h1 p)\n(assume h2 (both p p))\n"
 
 pub not_asserted_is_read : IsProofText not_asserted (trees_in not_asserted) complete
 unfolding lexemes first_piece built
-not_asserted_is_read = ([], record { split = refl; within = omega arith }, refl)
+not_asserted_is_read = ([], refl, refl)
 
 pub not_asserted_commands : read_as (trees_in not_asserted)
     ≡ (first_assume 11 ∷ plain_command (assumed 25 (codes "h2") (of And (p ∷ p ∷ []))) ∷ [], None)
@@ -288,7 +287,7 @@ assumption = codes "(assume h1 p)\n"
 
 pub assumption_is_read : IsProofText assumption (trees_in assumption) complete
 unfolding lexemes first_piece built
-assumption_is_read = ([], record { split = refl; within = omega arith }, refl)
+assumption_is_read = ([], refl, refl)
 
 pub assumption_commands : read_as (trees_in assumption) ≡ (first_assume 11 ∷ [], None)
 unfolding proofs_on_literals read_commands

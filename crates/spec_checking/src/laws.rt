@@ -35,7 +35,7 @@ pub fn accepted_proofs_have_no_fault()
 }
 
 /// States that limits only refuse: what is good within a limit on terms is good without one. So a proof is accepted exactly
-/// where it is good and within the limits on bytes, on nesting, and on terms and names.
+/// where it is good and within the limits on bytes, and on terms and names.
 pub fn accepted_proofs_are_good()
     ensures commands { (limit : Option ℕ) (k : Known) (ts : Trees) → AreGood limit k ts → AreGood None k ts }
     ensures whole { (script proof : List ℕ) (k : ℕ) → IsAccepted script k proof → IsGood term_limit script k proof }
@@ -83,7 +83,7 @@ pub fn verdict_is_one()
     spec_commands::texts_have_one_check_of_a_number();
 }
 
-/// States that a verdict on the prefixes of two texts, of 2^26 + 1 bytes each at the most, is the verdict on the whole
+/// States that a verdict on the prefixes of two texts, of 2^30 + 1 bytes each at the most, is the verdict on the whole
 /// texts.
 pub fn verdicts_need_a_prefix_alone()
     ensures { (script proof : List ℕ) (k : ℕ) (found : Option Fault) → IsVerdict (prefix script) k (prefix proof) found

@@ -5,7 +5,7 @@ use Rattle.spec_checking.specs.Commands.{known_at}
 use Rattle.spec_checking.specs.Good.{IsGood}
 use Rattle.spec_checking.specs.Limits.{IsWithinLimits}
 use Rattle.spec_checking.specs.Accepted.{IsAccepted}
-use Rattle.spec_proofs.proofs.Limits.{whole_text, text_read, shallow_text}
+use Rattle.spec_proofs.proofs.Limits.{whole_text, text_read}
 use Rattle.spec_checking.proofs.Limits.{good_loose}
 use Rattle.spec_checking.proofs.laws.accepted_proofs_are_good.Goals as goal
 
@@ -20,7 +20,7 @@ good script proof k a = record {
 
 within : (script proof : List ℕ) (k : ℕ) (a : IsAccepted script k proof) → IsWithinLimits script k proof (good script proof k a)
 unfolding good
-within script proof k a = record { short = a.short; shallow = shallow_text proof a.commands a.short a.read; few = a.good }
+within script proof k a = record { short = a.short; few = a.good }
 
 accepted : (script proof : List ℕ) (k : ℕ) (g : IsGood term_limit script k proof) → IsWithinLimits script k proof g → IsAccepted script k proof
 accepted script proof k g h = record {
@@ -28,7 +28,7 @@ accepted script proof k g h = record {
   current = g.current;
   short = h.short;
   commands = g.commands;
-  read = text_read proof g.commands h.short h.shallow g.read;
+  read = text_read proof g.commands h.short g.read;
   good = h.few;
 }
 
