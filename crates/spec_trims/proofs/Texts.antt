@@ -1,6 +1,6 @@
 -- The text of what is kept is read back, as what is kept but for offsets and bars.
-use Rattle.std.proofs.Common.{◌≡◌, ℕ, suc, ◌+◌, ◌≤◌, Bool, true, false, ◌||◌, List, [], ◌∷◌, ◌++◌, length, Some, None, inl, inr, cond, codes, refl, sym, ap, ap₂, ◌∙◌, subst, arith, append_assoc, append-nil, length-append}
-use Rattle.std.specs.Prelude.{⊤, max, if◌then◌else◌}
+use Rattle.std.proofs.Common.{◌≡◌, ℕ, ◌+◌, Bool, true, false, ◌||◌, List, [], ◌∷◌, ◌++◌, length, Some, None, inl, inr, cond, codes, refl, sym, ap, ap₂, ◌∙◌, subst, arith, append_assoc, append-nil, length-append}
+use Rattle.std.specs.Prelude.{⊤, if◌then◌else◌}
 use Rattle.std.specs.Str.{bytes_eq}
 use Rattle.spec_text.specs.declared.Kind.{Kind}
 use Rattle.spec_text.specs.declared.Kind.TheVariants as kinds
@@ -8,14 +8,12 @@ use Rattle.spec_text.specs.Bytes.{Name}
 use Rattle.spec_text.specs.Lexemes.{Lexeme, blank, opens, closes, word, wrong, lexemes}
 use Rattle.spec_text.specs.Trees.{Tree, Trees, atom, list, none, more, spelled, spelled_all}
 use Rattle.spec_text.specs.Shapes.{is_symbol}
-use Rattle.spec_text.specs.Printed.{is_bare, printed_word, printed, printed_all, SameTree, SameTrees}
-use Rattle.spec_text.specs.Faults.{nesting_limit}
-use Rattle.spec_text.specs.Readings.{depth, depth_all, is_long}
+use Rattle.spec_text.specs.Printed.{is_bare, printed_word, printed, printed_all, SameTrees}
+use Rattle.spec_text.specs.Readings.{is_long}
 use Rattle.spec_text.proofs.Printing.{kind_of, moved, moved_all, tree_read, open_read, close_read, feed_read, same_moved}
 use Rattle.spec_text.proofs.Reading.{heads, same_inside, same_trees}
 use Rattle.spec_text.proofs.Words.{AreWords, HaveWords, words_all, words_rest}
 use Rattle.spec_proofs.specs.Texts.{behind_unsat, begins_listed, all_lexemes, complete, AreAllCommands, IsWholeText, IsProofText}
-use Rattle.spec_proofs.specs.Limits.{lists_round}
 use Rattle.spec_proofs.proofs.Limits.{text_read}
 use Rattle.spec_trims.specs.Trims.{command_shape, shape_rests_on, some_rests_on, is_empty_step, trimmed, printed_lines, listed_text, trim_text, ArePart}
 use Rattle.spec_trims.proofs.Flat.{flat, flat_all, same_flat}
@@ -213,28 +211,10 @@ trimmed_again at (more t ts) = go (moved_lines (at + length (printed t) + 1) ts)
 pub text_again : (ts : Trees) → trim_text (moved_lines 2 (trimmed ts)) ≡ trim_text ts
 text_again ts = ap (λ (xs : List ℕ). codes "(\n" ++ xs ++ codes ")\n") ((trimmed_again 2 (trimmed ts)).1 ∙ ap printed_lines (whole ts))
 
--- trees that are equal but for offsets and bars are as deep
-mutual
-  depth_same : (t u : Tree) → SameTree t u → depth t ≡ depth u
-  depth_same (atom at k n) (atom at' k' n') h = refl
-  depth_same (list at ts end) (list at' us end') h = ap suc (depths_same ts us h)
-  depth_same (atom at k n) (list at' us end') h = absurd h
-  depth_same (list at ts end) (atom at' k n) h = absurd h
-
-  depths_same : (ts us : Trees) → SameTrees ts us → depth_all ts ≡ depth_all us
-  depths_same none none h = refl
-  depths_same (more t ts) (more u us) h = ap₂ max (depth_same t u h.0) (depths_same ts us h.1)
-  depths_same none (more u us) h = absurd h
-  depths_same (more t ts) none h = absurd h
-
--- the text of what is kept of a whole text is this, and within the limits it is read
+-- the text of what is kept of a whole text is this, and within the limit it is read
 module _ (text : List ℕ) (ts : Trees) (h : IsWholeText text ts) where
   pub trim_read : IsWholeText (trim_text ts) (moved_lines 2 (trimmed ts))
   trim_read = list_whole (trimmed ts) (trimmed_words ts (words_of_text text ts h)) (trimmed_lists ts)
 
-  pub trim_short : is_long (trim_text ts) ≡ false → 1 + depth_all (trimmed ts) ≤ nesting_limit → IsProofText (trim_text ts) (moved_lines 2 (trimmed ts)) complete
-  trim_short short shallow =
-      let listed = is_listed (trimmed ts) (trimmed_words ts (words_of_text text ts h)) (trimmed_lists ts) in
-      let same = depths_same (trimmed ts) (moved_lines 2 (trimmed ts)) (same_lines 2 (trimmed ts)) in
-      text_read (trim_text ts) (moved_lines 2 (trimmed ts)) short
-      (subst (λ b. lists_round b + depth_all (moved_lines 2 (trimmed ts)) ≤ nesting_limit) (sym listed) (subst (λ n. 1 + n ≤ nesting_limit) same shallow)) trim_read
+  pub trim_short : is_long (trim_text ts) ≡ false → IsProofText (trim_text ts) (moved_lines 2 (trimmed ts)) complete
+  trim_short short = text_read (trim_text ts) (moved_lines 2 (trimmed ts)) short trim_read

@@ -1,10 +1,9 @@
 //! What the definitions imply. Each law is a function whose contract is the law; it computes nothing.
 
-ghost use Rattle.std.specs.Prelude.{◌≡◌, ℕ, ◌+◌, ◌≤◌, ◌||◌, false, List, Option, Some, Ok};
-ghost use Rattle.spec_text.specs.Faults.{nesting_limit};
+ghost use Rattle.std.specs.Prelude.{◌≡◌, ℕ, ◌||◌, false, List, Option, Some, Ok};
 ghost use Rattle.spec_text.specs.Trees.{Tree, Trees};
 ghost use Rattle.spec_text.specs.Printed.{SameTrees};
-ghost use Rattle.spec_text.specs.Readings.{depth_all, is_long};
+ghost use Rattle.spec_text.specs.Readings.{is_long};
 ghost use Rattle.spec_commands.specs.Checks.{Check};
 ghost use Rattle.spec_proofs.specs.Texts.{IsWholeText};
 ghost use Rattle.spec_checking.specs.Commands.{Known, Command, Shape, known_at};
@@ -72,10 +71,9 @@ pub fn trimmed_texts_are_good()
         → IsGood limit script k (trim_text g.commands) }
 {}
 
-/// States that the trimmed text of an accepted proof is accepted for the same check where it is within the limits on
-/// bytes and on nesting. The list round its commands counts among the nested ones.
+/// States that the trimmed text of an accepted proof is accepted for the same check where it is no longer than a text may
+/// be.
 pub fn trimmed_texts_are_accepted()
     ensures { (script : List ℕ) (k : ℕ) (proof : List ℕ) (a : IsAccepted script k proof)
-        → is_long (trim_text a.commands) ≡ false → 1 + depth_all (trimmed a.commands) ≤ nesting_limit
-        → IsAccepted script k (trim_text a.commands) }
+        → is_long (trim_text a.commands) ≡ false → IsAccepted script k (trim_text a.commands) }
 {}

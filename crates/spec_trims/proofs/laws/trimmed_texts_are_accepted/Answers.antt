@@ -10,7 +10,7 @@ use Rattle.spec_trims.proofs.Texts.{moved_lines, same_lines, trim_short}
 use Rattle.spec_trims.proofs.laws.trimmed_texts_are_accepted.Goals as goal
 
 pub returns : goal.returns
-returns c = λ script k proof a short shallow.
+returns c = λ script k proof a short.
     let known = known_at a.check in
     let kept = trims_good (Some term_limit) known a.commands (nothing_empty a.check) a.good in
     record {
@@ -18,6 +18,6 @@ returns c = λ script k proof a short shallow.
       current = a.current;
       short = short;
       commands = moved_lines 2 (trimmed a.commands);
-      read = trim_short proof a.commands (whole_text proof a.commands a.short a.read) short shallow;
+      read = trim_short proof a.commands (whole_text proof a.commands a.short a.read) short;
       good = good_alike (Some term_limit) known known (trimmed a.commands) (moved_lines 2 (trimmed a.commands)) kept.commands refl (same_lines 2 (trimmed a.commands)) kept.read kept.right kept.empty;
     }
