@@ -1,11 +1,10 @@
 -- A model file has one row of definitions and one ending, and so one reading and one verdict.
-use Rattle.std.proofs.Common.{◌≡◌, ◌≤◌, ℕ, true, List, [], ◌∷◌, ◌++◌, length, Option, Some, None, inl, inr, refl, sym, ap, ◌∙◌, arith, subst, append_assoc}
-use Rattle.std.proofs.Math.Nat.{le-max_left}
+use Rattle.std.proofs.Common.{◌≡◌, ℕ, true, List, [], ◌∷◌, ◌++◌, length, Option, Some, None, inl, inr, refl, sym, ap, ◌∙◌, arith, subst, append_assoc}
 use Rattle.spec_text.specs.Lexemes.{Lexeme, blank, opens, closes, word, wrong}
 use Rattle.spec_text.specs.Trees.{Tree, Trees, atom, list, spelled, offset_of}
-use Rattle.spec_text.specs.Faults.{Located, nesting_limit, first_fault}
-use Rattle.spec_text.specs.Readings.{depth, IsBroken, AreTrees, kept, is_long}
-use Rattle.spec_text.proofs.Stopping.{BeginsNoTree, nothing_begins_no_tree}
+use Rattle.spec_text.specs.Faults.{Located, first_fault}
+use Rattle.spec_text.specs.Readings.{BeginsNoTree, IsBroken, AreTrees, kept, is_long}
+use Rattle.spec_text.proofs.Stopping.{nothing_begins_no_tree}
 use Rattle.spec_text.proofs.Parsing.{close_begins_no_tree}
 use Rattle.spec_sorts.specs.Signatures.{Signature}
 use Rattle.spec_commands.specs.Stack.{signature_of}
@@ -18,7 +17,7 @@ use Rattle.spec_model_files.specs.Verdicts.{read_to_end, IsModelReading, judged,
 
 -- lexemes are read up to one end
 abbrev pub Law : Type 0
-Law = (n : ℕ) (xs rest others : List (ℕ × Lexeme)) (ts us : Trees) → AreTrees n xs ts rest → AreTrees n xs us others → BeginsNoTree n rest → BeginsNoTree n others → (ts ≡ us) × (rest ≡ others)
+Law = (xs rest others : List (ℕ × Lexeme)) (ts us : Trees) → AreTrees xs ts rest → AreTrees xs us others → BeginsNoTree rest → BeginsNoTree others → (ts ≡ us) × (rest ≡ others)
 
 -- the offset of the first lexeme
 abbrev front_offset : List (ℕ × Lexeme) → ℕ
@@ -40,32 +39,30 @@ one_break end n xs f g a b = let both : Some f ≡ Some g = sym a.fault ∙ b.fa
 
 nothing_broken : (end : ℕ) (xs : List (ℕ × Lexeme)) (f : Located) → xs ≡ [] → IsBroken end 0 xs f → ⊥
 unfolding first_fault
-nothing_broken end xs f e b = let none : None ≡ Some f = sym (ap (first_fault nesting_limit end 0) e) ∙ b.fault in cc
+nothing_broken end xs f e b = let none : None ≡ Some f = sym (ap (first_fault end 0) e) ∙ b.fault in cc
 
--- a tree at an offset, within the limit, at the front of lexemes
+-- a tree at an offset, at the front of lexemes
 record HasTree (xs : List (ℕ × Lexeme)) (at : ℕ) : Type 0 where
   tree : Tree
   others : List (ℕ × Lexeme)
   is : xs ≡ spelled tree ++ others
-  within : depth tree ≤ nesting_limit
   there : front_offset xs ≡ at
 
 tree_there : (end : ℕ) (xs : List (ℕ × Lexeme)) (at : ℕ) → EndsBehind end xs (left_over at) → HasTree xs at
 tree_there end xs at h =
-    let is : xs ≡ spelled h.0 ++ h.1 = h.2.split ∙ append_assoc (spelled h.0) [] h.1 in
+    let is : xs ≡ spelled h.0 ++ h.1 = h.2 ∙ append_assoc (spelled h.0) [] h.1 in
     record {
       tree = h.0;
       others = h.1;
       is = is;
-      within = omega (arith, h.2.within, le-max_left (depth h.0) 0);
       there = ap front_offset is ∙ front_of h.0 h.1 ∙ h.3;
     }
 
-no_tree_there : (n : ℕ) (xs : List (ℕ × Lexeme)) (at : ℕ) → BeginsNoTree 0 xs → HasTree xs at → ⊥
-no_tree_there n xs at free h = omega (arith, free h.tree h.others h.is, h.within)
+no_tree_there : (xs : List (ℕ × Lexeme)) (at : ℕ) → BeginsNoTree xs → HasTree xs at → ⊥
+no_tree_there xs at free h = free h.tree h.others h.is
 
 nothing_there : (xs : List (ℕ × Lexeme)) (at : ℕ) → xs ≡ [] → HasTree xs at → ⊥
-nothing_there xs at e h = no_tree_there 0 xs at (subst (BeginsNoTree 0) (sym e) (nothing_begins_no_tree 0)) h
+nothing_there xs at e h = no_tree_there xs at (subst BeginsNoTree (sym e) nothing_begins_no_tree) h
 
 -- one ending comes behind a list
 one_behind : (end : ℕ) (xs : List (ℕ × Lexeme)) (e f : Ending) → EndsBehind end xs e → EndsBehind end xs f → e ≡ f
@@ -74,14 +71,14 @@ one_behind end xs complete (broken g) a b = absurd (nothing_broken end xs g a b)
 one_behind end xs complete (left_over at) a b = absurd (nothing_there xs at a (tree_there end xs at b))
 one_behind end xs (broken g) complete a b = absurd (nothing_broken end xs g b a)
 one_behind end xs (broken f) (broken g) a b = ap broken (one_break end 0 xs f g a b)
-one_behind end xs (broken f) (left_over at) a b = absurd (no_tree_there 0 xs at a.no_tree (tree_there end xs at b))
+one_behind end xs (broken f) (left_over at) a b = absurd (no_tree_there xs at a.no_tree (tree_there end xs at b))
 one_behind end xs (left_over at) complete a b = absurd (nothing_there xs at b (tree_there end xs at a))
-one_behind end xs (left_over at) (broken f) a b = absurd (no_tree_there 0 xs at b.no_tree (tree_there end xs at a))
+one_behind end xs (left_over at) (broken f) a b = absurd (no_tree_there xs at b.no_tree (tree_there end xs at a))
 one_behind end xs (left_over at) (left_over at') a b = ap left_over (sym (tree_there end xs at a).there ∙ (tree_there end xs at' b).there)
 
 -- what ends a list begins with no tree
-end_free : (end : ℕ) (xs : List (ℕ × Lexeme)) (e : Ending) → EndsList end xs e → BeginsNoTree 1 xs
-end_free end xs e (inl h) = subst (BeginsNoTree 1) (sym h.2) (close_begins_no_tree 1 h.0 h.1)
+end_free : (end : ℕ) (xs : List (ℕ × Lexeme)) (e : Ending) → EndsList end xs e → BeginsNoTree xs
+end_free end xs e (inl h) = subst BeginsNoTree (sym h.2) (close_begins_no_tree h.0 h.1)
 end_free end xs e (inr h) = h.1.no_tree
 
 one_end : (end : ℕ) (xs : List (ℕ × Lexeme)) (e f : Ending) → EndsList end xs e → EndsList end xs f → e ≡ f
@@ -95,7 +92,7 @@ module _ (law : Law) where
   one_list : (end : ℕ) (xs : List (ℕ × Lexeme)) (ts us : Trees) (e f : Ending) → AreCommands true end xs ts e → AreCommands true end xs us f → (ts ≡ us) × (e ≡ f)
   one_list end xs ts us e f a b =
       let inner : a.1 ≡ b.1 = ap behind_first (sym a.3 ∙ b.3) in
-      let row = law 1 b.1 a.2 b.2 ts us (subst (λ ys. AreTrees 1 ys ts a.2) inner a.4) b.4 (end_free end a.2 e a.5) (end_free end b.2 f b.5) in
+      let row = law b.1 a.2 b.2 ts us (subst (λ ys. AreTrees ys ts a.2) inner a.4) b.4 (end_free end a.2 e a.5) (end_free end b.2 f b.5) in
       (row.0, one_end end b.2 e f (subst (λ ys. EndsList end ys e) row.1 a.5) b.5)
 
   -- so have the lexemes of a file

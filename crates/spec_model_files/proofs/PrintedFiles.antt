@@ -1,21 +1,19 @@
 -- What is printed of an interpretation within the bounds is read as its tables.
-use Rattle.std.proofs.Common.{◌≡◌, ◌⊎◌, ◌≤◌, ℕ, suc, ◌+◌, Bool, true, false, cond, All, Contains, get_or, List, [], ◌∷◌, ◌++◌, length, map, flat_map, Some, None, inl, inr, refl, sym, ap, ◌∙◌, subst, arith, append_assoc, append-nil}
+use Rattle.std.proofs.Common.{◌≡◌, ◌⊎◌, ℕ, suc, ◌+◌, Bool, true, false, cond, All, Contains, get_or, List, [], ◌∷◌, ◌++◌, length, map, flat_map, Some, None, inl, inr, refl, sym, ap, ◌∙◌, subst, arith, append_assoc, append-nil}
 use Rattle.std.specs.Prelude.{codes, ◌||◌, Ok}
 use Rattle.std.specs.Str.{bytes_eq}
 use Rattle.std.specs.List.{AllByRecursion}
-use Rattle.std.proofs.Math.Nat.{le-max_left}
 use Rattle.std.proofs.lemmas.Bool.{false≢true}
 use Rattle.std.proofs.lemmas.Bool.Decides.{nat_tests}
 use Rattle.std.proofs.lemmas.List.{take_all, map-append}
 use Rattle.std.proofs.lemmas.List.Elements.{recursion_from_All, Contains-get_or}
 use Rattle.std.proofs.lemmas.Slice.Eq.{bytes_eq-Decides}
 use Rattle.spec_text.specs.Bytes.{Name, among}
-use Rattle.spec_text.specs.Faults.{nesting_limit}
 use Rattle.spec_text.specs.Lexemes.{opens, closes, lexemes}
 use Rattle.spec_text.specs.Lexicon.{reserved_word}
 use Rattle.spec_text.specs.Printed.{printed}
-use Rattle.spec_text.specs.Readings.{depth_all, text_limit, kept}
-use Rattle.spec_text.specs.Trees.{Tree, Trees, list, none, more, spelled, spelled_all, IsRead}
+use Rattle.spec_text.specs.Readings.{text_limit, kept}
+use Rattle.spec_text.specs.Trees.{Tree, Trees, none, more, spelled, spelled_all}
 use Rattle.spec_text.proofs.AnswerLaws.{joined}
 use Rattle.spec_text.proofs.Members.{cases, none as no_member}
 use Rattle.spec_text.proofs.Words.{HasWords, HaveWords}
@@ -193,17 +191,12 @@ module _ (g : Signature) (i : Interpretation) (sound : AreSound g) (p : IsPrinta
       open_read 0 (10 ∷ flat_map (definition_line i) symbols ++ 41 ∷ 10 ∷ [])
       ∙ ap (λ ys. (0, opens) ∷ ys) (feed_read (0 + 1) (flat_map (definition_line i) symbols ++ 41 ∷ 10 ∷ []) ∙ lines.read ∙ ap (λ ys. spelled_all lines.trees ++ ys) (close_read lines.end (10 ∷ []) ∙ ap (λ ys. (lines.end, closes) ∷ ys) (feed_read (lines.end + 1) [] ∙ nothing_read (lines.end + 1 + 1))))
 
-  shallow : 1 + depth_all lines.trees ≤ nesting_limit
-  shallow =
-      let read : IsRead text (more (list 0 lines.trees lines.end) none) = in_a_list ∙ sym (append-nil ((0, opens) ∷ spelled_all lines.trees ++ (lines.end, closes) ∷ [])) in
-      omega (arith, p.text.shallow (more (list 0 lines.trees lines.end) none) read, le-max_left (suc (depth_all lines.trees)) 0)
-
   file_read : IsModelText text lines.trees (ends complete)
   file_read =
-      let same : kept text ≡ text = take_all text_limit text (grind (arith, nat_tests, p.text.short)) in
+      let same : kept text ≡ text = take_all text_limit text (grind (arith, nat_tests, p.short)) in
       subst (λ x. AreDefinitions (length x) (behind_sat (lexemes 0 0 x)) lines.trees (ends complete)) (sym same)
       (subst (λ xs. AreDefinitions (length text) (behind_sat xs) lines.trees (ends complete)) (sym in_a_list)
-      (complete, in_one_list (length text) 0 lines.end ((0, opens) ∷ spelled_all lines.trees ++ (lines.end, closes) ∷ []) lines.trees refl shallow, refl))
+      (complete, in_one_list (length text) 0 lines.end ((0, opens) ∷ spelled_all lines.trees ++ (lines.end, closes) ∷ []) lines.trees refl, refl))
 
   pub text_read : IsModelReading g text (Ok (tables_of g i))
   unfolding read_to_end
@@ -211,7 +204,7 @@ module _ (g : Signature) (i : Interpretation) (sound : AreSound g) (p : IsPrinta
     definitions = lines.trees;
     ending = ends complete;
     read = file_read;
-    is = sym (ap (λ b. read_to_end g (ending_fault (length text) b (ends complete)) lines.trees) p.text.short ∙ joined _ _ (map (defined_by i) symbols) _ (lines.define [] (names_fresh [] g sound)) refl);
+    is = sym (ap (λ b. read_to_end g (ending_fault (length text) b (ends complete)) lines.trees) p.short ∙ joined _ _ (map (defined_by i) symbols) _ (lines.define [] (names_fresh [] g sound)) refl);
   }
 
   -- which has the tables of the symbols

@@ -5,7 +5,7 @@ use Rattle.std.proofs.lemmas.Bool.Decides.{nat_tests}
 use Rattle.spec_text.specs.Lexemes.{Lexeme, blank, opens, closes, word, wrong, lexemes, lexemes_from}
 use Rattle.spec_text.specs.Trees.{Trees, atom, none, more, spelled_all}
 use Rattle.spec_text.specs.Offsets.{AllOffsetsOf, weaker_offsets_of}
-use Rattle.spec_text.specs.Faults.{Located, nesting_limit, first_fault}
+use Rattle.spec_text.specs.Faults.{Located, first_fault}
 use Rattle.spec_text.specs.Readings.{IsBroken, text_limit, kept, is_long, is_of_end, too_long, at_limit}
 use Rattle.spec_text.proofs.AnswerLaws.{own_offset}
 use Rattle.spec_text.proofs.ShapeLaws.{Holds}
@@ -23,7 +23,7 @@ abbrev pub TreesLaw : Type 0
 TreesLaw = (text : List ℕ) (at : ℕ) (earlier rest : List (ℕ × Lexeme)) (ts : Trees) → lexemes_from text at ≡ earlier ++ (spelled_all ts ++ rest) → AllOffsetsOf (λ n. (at ≤ n) × (n < length text)) ts
 
 abbrev pub FaultsLaw : Type 0
-FaultsLaw = (text : List ℕ) (at n : ℕ) (earlier rest : List (ℕ × Lexeme)) (f : Located) → lexemes_from text at ≡ earlier ++ rest → first_fault nesting_limit (length text) n rest ≡ Some f → f.offset ≤ length text
+FaultsLaw = (text : List ℕ) (at n : ℕ) (earlier rest : List (ℕ × Lexeme)) (f : Located) → lexemes_from text at ≡ earlier ++ rest → first_fault (length text) n rest ≡ Some f → f.offset ≤ length text
 
 -- some lexemes are the last of others
 abbrev EndsWith : List (ℕ × Lexeme) → List (ℕ × Lexeme) → Type 0
@@ -74,7 +74,7 @@ module _ (trees_law : TreesLaw) (faults_law : FaultsLaw) (text : List ℕ) where
   behind_in after complete h x = tt
   behind_in after (broken f) h x = fault_in 0 after f h x
   behind_in after (left_over at) h x =
-      let inside = trees_in (more x.0 none) x.1 (subst (EndsWith all) x.2.split h) in
+      let inside = trees_in (more x.0 none) x.1 (subst (EndsWith all) x.2 h) in
       subst IsIn x.3 (own_offset IsIn x.0 inside.0)
 
   list_in : (rest : List (ℕ × Lexeme)) (e : Ending) → EndsWith all rest → EndsList (length (kept text)) rest e → EndingIn e
@@ -96,7 +96,7 @@ module _ (trees_law : TreesLaw) (faults_law : FaultsLaw) (text : List ℕ) where
   row_in : (xs : List (ℕ × Lexeme)) (ts : Trees) (e : ModelEnding) → EndsWith all xs → AreDefinitions (length (kept text)) xs ts e → RowIn ts e
   row_in [] ts e h x = without_list ts e no_list x.0 x.1 tt
   row_in ((at, opens) ∷ xs) ts e h (f, x, is) =
-      let here = subst (EndsWith all) x.4.split (behind all ((x.0, opens) ∷ []) x.1 (subst (EndsWith all) x.3 h)) in
+      let here = subst (EndsWith all) x.4 (behind all ((x.0, opens) ∷ []) x.1 (subst (EndsWith all) x.3 h)) in
       (trees_in ts x.2 here, subst FileEndingIn (sym is) (list_in x.2 f (behind all (spelled_all ts) x.2 here) x.5))
   row_in ((at, word k n) ∷ xs) ts e h x = without_list ts e (ends (left_over at)) x.0 x.1 (trees_in (more (atom at k n) none) xs h).0
   row_in ((at, blank) ∷ xs) ts e h x = without_list ts e (ends (broken x.1)) x.0 x.3 (fault_in 0 ((at, blank) ∷ xs) x.1 h x.2)

@@ -1,6 +1,6 @@
 -- Texts that are one list of definitions, or not, with the verdicts on them at the check of `plain_script`.
 use Rattle.std.specs.Prelude.{◌≡◌, refl, ℕ, true, List, [], ◌∷◌, length, Option, Some, None, codes}
-use Rattle.std.proofs.Common.{arith, inl, inr}
+use Rattle.std.proofs.Common.{inl, inr}
 use Rattle.spec_text.specs.declared.Fault.TheVariants as faults
 use Rattle.spec_text.specs.Faults.{first_fault}
 use Rattle.spec_text.specs.Lexemes.{opens, closes, lexemes, first_piece}
@@ -26,7 +26,7 @@ plain_script_is_read : IsReadUpTo plain_script (trees_in plain_script) None
 unfolding lexemes first_piece built
 plain_script_is_read = record {
   rest = [];
-  trees = record { split = refl; within = omega arith };
+  trees = refl;
   stop = None;
   stops = refl;
   is = refl;
@@ -102,8 +102,7 @@ listed_is_read : IsModelText listed (definitions_of listed) (ends complete)
 unfolding lexemes first_piece built
 listed_is_read = (
   complete,
-  in_one_list (length listed) 11 44 (model_lexemes listed) (definitions_of listed) refl
-      (omega arith),
+  in_one_list (length listed) 11 44 (model_lexemes listed) (definitions_of listed) refl,
   refl,
 )
 
@@ -122,10 +121,10 @@ list_open = by_text (codes "(") none (ends (broken (record { offset = 1; fault =
     [],
     [],
     refl,
-    record { split = refl; within = omega arith },
+    refl,
     inr (
       record { offset = 1; fault = faults.UnclosedList },
-      record { fault = refl; no_end = λ at ys e. cc; no_tree = nothing_begins_no_tree 1 },
+      record { fault = refl; no_end = λ at ys e. cc; no_tree = nothing_begins_no_tree },
       refl,
     ),
   ),
@@ -138,7 +137,7 @@ unfolding models_on_literals first_fault
 list_closed = by_text (codes "sat )") none (ends (broken (record { offset = 4; fault = faults.StrayClose }))) _ (
   refl,
   record { offset = 4; fault = faults.StrayClose },
-  record { fault = refl; no_end = λ at ys e. refl; no_tree = close_begins_no_tree 0 4 [] },
+  record { fault = refl; no_end = λ at ys e. refl; no_tree = close_begins_no_tree 4 [] },
   refl,
 ) refl
 
@@ -152,12 +151,12 @@ two_lists = by_text (codes "() ()") none (ends (left_over 3)) _ (
     (1, closes) ∷ (3, opens) ∷ (4, closes) ∷ [],
     (1, closes) ∷ (3, opens) ∷ (4, closes) ∷ [],
     refl,
-    record { split = refl; within = omega arith },
+    refl,
     inl (
       1,
       (3, opens) ∷ (4, closes) ∷ [],
       refl,
-      (list 3 none 4, [], record { split = refl; within = omega arith }, refl),
+      (list 3 none 4, [], refl, refl),
     ),
   ),
   refl,
@@ -176,7 +175,7 @@ no_check = inr (
     end = None;
     read = record {
       rest = [];
-      trees = record { split = refl; within = omega arith };
+      trees = refl;
       stop = None;
       stops = refl;
       is = refl;

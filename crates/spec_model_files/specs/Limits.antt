@@ -1,8 +1,6 @@
--- When an interpretation is within the bounds of model files, and a text within the limits on bytes and nesting.
-use Rattle.std.specs.Prelude.{◌≡◌, ℕ, ◌≤◌, ◌<◌, true, false, List, All}
-use Rattle.spec_text.specs.Faults.{nesting_limit}
-use Rattle.spec_text.specs.Readings.{depth_all, is_long}
-use Rattle.spec_text.specs.Trees.{Trees, IsRead}
+-- When an interpretation is within the bounds of model files, and its text no longer than it may be.
+use Rattle.std.specs.Prelude.{◌≡◌, ◌<◌, true, false, List, All}
+use Rattle.spec_text.specs.Readings.{is_long}
 use Rattle.spec_numbers.specs.Bounds.{fits}
 use Rattle.spec_sorts.specs.Terms.{Symbol}
 use Rattle.spec_sorts.specs.Values.{Value, truth, number, element, TableRow, Table, Interpretation}
@@ -36,13 +34,6 @@ pub record IsTableWithin (t : Table) : Type 0 where
 abbrev pub AreTablesWithin : Interpretation → List Symbol → Type 0
 AreTablesWithin i symbols = All (λ (s : Symbol). IsTableWithin (i.table s.name)) symbols
 
--- A text within the limits.
-pub record IsTextWithin (text : List ℕ) : Type 0 where
-  -- it is no longer than it may be
-  pub short : is_long text ≡ false
-  -- no list in it is nested deeper than it may be
-  pub shallow : (ts : Trees) → IsRead text ts → depth_all ts ≤ nesting_limit
-
 -- An interpretation whose text is a model file of a signature's symbols.
 pub record IsPrintable (i : Interpretation) (g : Signature) : Type 0 where
   -- the symbols can be written, with their sorts
@@ -51,5 +42,5 @@ pub record IsPrintable (i : Interpretation) (g : Signature) : Type 0 where
   pub tables : Interprets i (symbols_in g)
   -- the values in these are within the bounds
   pub within : AreTablesWithin i (symbols_in g)
-  -- its text is within the limits
-  pub text : IsTextWithin (model_text i (symbols_in g))
+  -- its text is no longer than it may be
+  pub short : is_long (model_text i (symbols_in g)) ≡ false

@@ -100,7 +100,7 @@ pub fn valid_models_make_true()
 }
 
 /// States that what is printed of a model is read back. The interpretation has tables of the symbols' sorts, within the
-/// bounds on fractions and elements, and its text is within the limits on bytes and nesting. Then the text says an
+/// bounds on fractions and elements, and its text is no longer than it may be. Then the text says an
 /// interpretation that has the same table for each symbol, and so the same value at all arguments.
 /// Source: SMT-LIB 2.6, sections 4.1.8 and 4.2.6.
 pub fn printed_models_read_back()
@@ -122,7 +122,7 @@ pub fn printed_models_are_valid()
     spec_commands::what_is_asked_has_its_texts_value();
 }
 
-/// States that a model file and a script are read by their prefixes, of 2^26 + 1 bytes each at the most: what these are
+/// States that a model file and a script are read by their prefixes, of 2^30 + 1 bytes each at the most: what these are
 /// read as, and the verdict on them, is that of the whole texts.
 pub fn model_verdicts_need_a_prefix_alone()
     ensures reading { (g : Signature) (text : List ℕ) (a : ReadModel (List DefinedSymbol))
