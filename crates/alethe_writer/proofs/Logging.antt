@@ -14,7 +14,7 @@ use Rattle.term_core.specs.Tables.{TableView, term_at, clause_at, IsIn, AreIn}
 use Rattle.term_core.proofs.TermsClosed.{term_there}
 use Rattle.proof_log.specs.Logs.{Logged, assumed, stepped, named, no_logged, inference_of, derivation_in, IsFormulaIn, AreFormulasIn, IsLogOf}
 use Rattle.proof_log.proofs.Logged.{conclusion_of}
-use Rattle.spec_proof_texts.specs.Meaning.{AreGiven}
+use Rattle.spec_proof_texts.specs.Meaning.{AreSpelled}
 use Rattle.spec_proof_texts.specs.Printable.{HasGiven, AllConcludeOver}
 use Rattle.alethe_writer.proofs.Listing.{number_in}
 
@@ -38,12 +38,12 @@ in_clause t ids u formulas c =
     let within : c.0 < length ids = subst (λ n. c.0 < n) (length-map ids (term_at t)) c.1 in
     record { id = get_or ids c.0 d; there = formulas c.0 d within; is = sym (get_or-map (term_at t) ids c.0 d u within) ∙ c.2 }
 
-given_of : ((qs : List Fraction) → AreGiven (trees_of (map fraction_tree qs))) → (t : TableView) (l : Logged) → HasGiven (inference_of t l)
+given_of : ((qs : List Fraction) → AreSpelled (trees_of (map fraction_tree qs))) → (t : TableView) (l : Logged) → HasGiven (inference_of t l)
 given_of given t (assumed id) = tt
 given_of given t (stepped r ps qs c) = given qs
 
 -- the clauses of a log are of the table's terms
-pub all_over : ((qs : List Fraction) → AreGiven (trees_of (map fraction_tree qs))) → (t : TableView) (log : List Logged) → IsLogOf t log → AllConcludeOver t.terms (derivation_in t log)
+pub all_over : ((qs : List Fraction) → AreSpelled (trees_of (map fraction_tree qs))) → (t : TableView) (log : List Logged) → IsLogOf t log → AllConcludeOver t.terms (derivation_in t log)
 all_over given t log h k x e = (literals, subst HasGiven is (given_of given t l))
   where
     l : Logged

@@ -1,9 +1,8 @@
 -- All the lines of a proof are good commands.
 use Rattle.std.proofs.Common.{◌≡◌, inl, inr, ℕ, ◌+◌, List, [], ◌∷◌, ◌++◌, length, map, All, Option, Some, None, refl, sym, subst, arith}
-use Rattle.std.specs.Prelude.{◌⊎◌, ◌≤◌}
+use Rattle.std.specs.Prelude.{◌⊎◌}
 use Rattle.std.proofs.lemmas.List.Elements.{All-nil, All-cons}
 use Rattle.spec_text.specs.Bytes.{Name}
-use Rattle.spec_text.specs.Faults.{nesting_limit}
 use Rattle.spec_text.specs.Printed.{printed}
 use Rattle.spec_text.proofs.Printing.{moved, moved_all}
 use Rattle.spec_sorts.specs.Terms.{Sort, Truth, Number, Declared, Symbol, Head, True, False, Not, And, Or, Xor, Implies, Equal, Ite, Minus, Plus, Times, Divide, Less, AtMost, Literal, Apply, Parameter, Term}
@@ -14,7 +13,7 @@ use Rattle.spec_checking.specs.Good.{AreGood}
 use Rattle.spec_checking.proofs.Good.{good_end, good_step}
 use Rattle.spec_models.specs.Values.{trees_of, IsName}
 use Rattle.spec_models.specs.Meaning.{IsSortIn}
-use Rattle.spec_proof_texts.specs.Lines.{Argument, Arguments, truth, number, symbol, defined, applied, no_items, item, levels, level_limit, place_limit, StepLine, Line, defines, assumes, steps, line_tree}
+use Rattle.spec_proof_texts.specs.Lines.{Argument, Arguments, truth, number, symbol, defined, applied, no_items, item, place_limit, StepLine, Line, defines, assumes, steps, line_tree}
 use Rattle.spec_proof_texts.specs.Meaning.{Told, nothing_told, bare_term, IsTold, AreToldSo, AreTold, IsKnownHead, IsLineAfter, AreLinesAfter, AreRightLines}
 use Rattle.spec_proof_texts.specs.ReadBack.{IsWritableSort, IsWritableHead, IsWritableArgument, AreWritableArguments, IsWritableLine, AreScriptNames}
 use Rattle.spec_proof_texts.proofs.Known.{numbers_in, definitions_in}
@@ -22,7 +21,6 @@ use Rattle.spec_proof_texts.proofs.Lookups.{symbol_found, head_same, tail_same}
 use Rattle.spec_proof_texts.proofs.Room.{IsWithin, no_more}
 use Rattle.spec_proof_texts.proofs.MadeKnown.{spare, IsKnownAfter, nothing_known}
 use Rattle.spec_proof_texts.proofs.Sizes.{definitions_more, numbers_more}
-use Rattle.spec_proof_texts.proofs.Lexed.{levels_among, depth_of, AreShallow}
 use Rattle.spec_proof_texts.proofs.EachLine.{known, HasOne, Goes, HasRoom, assume_goes, step_goes, define_goes}
 
 -- the last line is a step with the empty clause
@@ -141,30 +139,8 @@ module _ (g : Signature) (own : AreScriptNames g) where
   line_writable : (asserted : List Term) (told next : Told) (l : Line) → IsLineAfter g asserted told l next → IsWritableLine l
   line_writable asserted told next (defines d) x = record { sort = sort_writable d.sort x.1.known_sort; head = head_writable d.head x.1.takes.known; arguments = arguments_writable told d.arguments x.1.arguments x.1.told }
   line_writable asserted told next (assumes n a) x = argument_writable told a x.0 x.1.told
-  line_writable asserted told next (steps s) x = (arguments_writable told s.literals x.0.clause x.0.literals, x.0.given.spelled)
+  line_writable asserted told next (steps s) x = (arguments_writable told s.literals x.0.clause x.0.literals, x.0.given)
 
   pub lines_writable : (asserted : List Term) (told end : Told) (lines : List Line) → AreLinesAfter g asserted told lines end → All IsWritableLine lines
   lines_writable asserted told end [] right = All-nil IsWritableLine
   lines_writable asserted told end (l ∷ ls) right = All-cons IsWritableLine l ls (line_writable asserted told right.0 l right.1) (lines_writable asserted right.0 end ls right.2)
-
-  -- and no line is nested too deep
-  argument_shallow : (told : Told) (a : Argument) (t : Term) → IsTold g told a t → levels a ≤ level_limit
-  argument_shallow told (truth b) t e = omega arith
-  argument_shallow told (number q) t e = omega arith
-  argument_shallow told (defined n) t e = omega arith
-  argument_shallow told (symbol n) t e = omega arith
-  argument_shallow told (applied h items) t e = e.2.low
-
-  arguments_shallow : (told : Told) (items : List Argument) (ts : List Term) → AreTold g told items ts → levels_among items ≤ level_limit
-  arguments_shallow told [] ts e = omega arith
-  arguments_shallow told (a ∷ items) [] e = absurd e
-  arguments_shallow told (a ∷ items) (t ∷ ts) e = grind (arith, argument_shallow told a t e.0, arguments_shallow told items ts e.1)
-
-  line_shallow : (asserted : List Term) (told next : Told) (l : Line) → IsLineAfter g asserted told l next → depth_of l + 1 ≤ nesting_limit
-  line_shallow asserted told next (defines d) x = omega (arith, arguments_shallow told d.arguments x.1.arguments x.1.told)
-  line_shallow asserted told next (assumes n a) x = omega (arith, argument_shallow told a x.0 x.1.told)
-  line_shallow asserted told next (steps s) x = grind (arith, x.0.given.shallow, arguments_shallow told s.literals x.0.clause x.0.literals)
-
-  pub lines_shallow : (asserted : List Term) (told end : Told) (lines : List Line) → AreLinesAfter g asserted told lines end → AreShallow lines
-  lines_shallow asserted told end [] right = All-nil (λ l. depth_of l + 1 ≤ nesting_limit)
-  lines_shallow asserted told end (l ∷ ls) right = All-cons (λ x. depth_of x + 1 ≤ nesting_limit) l ls (line_shallow asserted told right.0 l right.1) (lines_shallow asserted right.0 end ls right.2)

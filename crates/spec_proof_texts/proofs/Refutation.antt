@@ -63,7 +63,7 @@ right_from_both =
           (negated p, record { number = refl; told = negation; sort = of_truth.1; there = later p (negated p ∷ []) (negated p) (first (negated p) []) }, refl),
           (
             with_step two_told [],
-            (record { clause = []; number = refl; literals = tt; sorts = All-nil (λ t. sort_of t ≡ Truth); premises = (p ∷ []) ∷ (negated p ∷ []) ∷ []; earlier = refl; given = record { spelled = tt; shallow = omega arith }; right = units_resolve }, refl),
+            (record { clause = []; number = refl; literals = tt; sorts = All-nil (λ t. sort_of t ≡ Truth); premises = (p ∷ []) ∷ (negated p ∷ []) ∷ []; earlier = refl; given = tt; right = units_resolve }, refl),
             refl,
           ),
         ),

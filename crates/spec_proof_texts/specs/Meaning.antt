@@ -8,8 +8,6 @@ use Rattle.spec_text.specs.Lexemes.{word}
 use Rattle.spec_text.specs.Lexicon.{Spells}
 use Rattle.spec_text.specs.Trees.{Tree, Trees, atom, list, none, more}
 use Rattle.spec_text.specs.Shapes.{only_if}
-use Rattle.spec_text.specs.Faults.{nesting_limit}
-use Rattle.spec_text.specs.Readings.{depth_all}
 use Rattle.spec_sorts.specs.Terms.{Sort, Truth, Symbol, Head, True, False, Times, Divide, Literal, Apply, Term, of}
 use Rattle.spec_sorts.specs.Terms.{constant_term, sort_of, head_takes}
 use Rattle.spec_sorts.specs.Theory.{product_fault, quotient_fault}
@@ -185,13 +183,6 @@ abbrev mutual
   AreSpelled none = Unit {0}
   AreSpelled (more t ts) = IsSpelled t × AreSpelled ts
 
--- Arguments of a rule that a step can have.
-pub record AreGiven (ts : Trees) : Type 0 where
-  -- they are made of words
-  pub spelled : AreSpelled ts
-  -- and are nested no deeper than there is room for in a step of a list
-  pub shallow : depth_all ts + 3 ≤ nesting_limit
-
 -- A step under the next number: its clause follows by its rule from those of its premises.
 pub record IsStep (g : Signature) (k : Told) (s : StepLine) : Type 0 where
   -- its clause
@@ -207,7 +198,7 @@ pub record IsStep (g : Signature) (k : Told) (s : StepLine) : Type 0 where
   -- the premises are earlier
   pub earlier : ArePremises k s.premises premises
   -- the texts of the arguments can be printed
-  pub given : AreGiven s.arguments
+  pub given : AreSpelled s.arguments
   -- the clause follows
   pub right : IsRight s.rule premises s.arguments clause
 

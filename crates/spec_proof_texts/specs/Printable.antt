@@ -8,7 +8,7 @@ use Rattle.spec_sorts.specs.Subsets.{arguments_of}
 use Rattle.spec_derivations.specs.Derivations.{Inference, «assumption», by_rule, conclusion, Derivation}
 use Rattle.spec_models.specs.Meaning.{IsSortIn}
 use Rattle.spec_proof_texts.specs.Decimals.{is_decimal}
-use Rattle.spec_proof_texts.specs.Meaning.{linear_fault, TakesAll, AreGiven}
+use Rattle.spec_proof_texts.specs.Meaning.{linear_fault, TakesAll, AreSpelled}
 use Rattle.spec_proof_texts.specs.Plans.{IsPrinted}
 
 -- the head of a term
@@ -35,7 +35,7 @@ pub record ArePrintable (g : Signature) (terms : List Term) (d : Derivation) (n 
 -- the texts of its arguments can be printed, if it has any
 abbrev pub HasGiven : Inference → Type 0
 HasGiven («assumption» t) = Unit {0}
-HasGiven (by_rule r ps given c) = AreGiven given
+HasGiven (by_rule r ps given c) = AreSpelled given
 
 -- the terms of its clause are some of these, and of sort Bool
 abbrev pub ConcludesOver : List Term → Inference → Type 0

@@ -6,7 +6,6 @@ ghost use Rattle.spec_text.specs.Lexicon.{Consists, IsNumeral};
 ghost use Rattle.spec_text.specs.Lexemes.{Lexeme, lexemes_from};
 ghost use Rattle.spec_text.specs.Trees.{Tree, Trees, spelled};
 ghost use Rattle.spec_text.specs.Printed.{SameTrees};
-ghost use Rattle.spec_text.specs.Readings.{text_limit, is_long};
 ghost use Rattle.spec_sorts.specs.Terms.{Term};
 ghost use Rattle.spec_numbers.specs.Fractions.{Fraction};
 ghost use Rattle.spec_sorts.specs.Numerals.{literal_value, is_wide};
@@ -22,7 +21,8 @@ ghost use Rattle.spec_derivations.specs.Derivations.{Derivation, conclusion_at, 
 ghost use Rattle.spec_models.specs.Values.{trees_of, fraction_tree};
 ghost use Rattle.spec_proof_texts.specs.Decimals.{is_decimal};
 ghost use Rattle.spec_proof_texts.specs.Lines.{Line, line_tree, proof_text};
-ghost use Rattle.spec_proof_texts.specs.Meaning.{AreGiven, AreRightLines};
+ghost use Rattle.spec_checking.specs.Limits.{LeaveRoom};
+ghost use Rattle.spec_proof_texts.specs.Meaning.{AreSpelled, AreRightLines};
 ghost use Rattle.spec_proof_texts.specs.Plans.{Plan, terms_planned, lines_of, IsPlan};
 ghost use Rattle.spec_proof_texts.specs.Printable.{IsPrintable, ArePrintable, AllConcludeOver, IsReadable};
 ghost use Rattle.spec_proof_texts.specs.ReadBack.{IsWritableLine, AreScriptNames, HaveScriptNames, known_before};
@@ -53,7 +53,7 @@ pub fn literals_are_decimals()
 
 /// States that numbers can be arguments of steps: each as it is written as a value.
 pub fn numbers_are_given()
-    ensures { (qs : List Fraction) → AreGiven (trees_of (map fraction_tree qs)) }
+    ensures { (qs : List Fraction) → AreSpelled (trees_of (map fraction_tree qs)) }
 {}
 
 /// States that the text of lines is read back, the whole of it, as commands in one list and nothing else, which are the
@@ -99,15 +99,15 @@ pub fn commands_leave_script_names()
         → HaveScriptNames d.stack }
 {}
 
-/// States that the names at a check of a script can be printed. They are no more than a fifth of the bytes that may be
-/// read, and declared symbols no more than an eleventh, by the keywords that make them.
+/// States that the names at a check of a script can be printed. They are no more than a fifth of its bytes, and declared
+/// symbols no more than an eleventh, by the keywords that make them.
 pub fn checks_have_script_names()
     ensures names { (limit : ℕ) (script : List ℕ) (k : ℕ) (c : Check) → IsCurrent limit script k c
         → AreScriptNames (signature_of c.stack) }
     ensures few { (limit : ℕ) (script : List ℕ) (k : ℕ) (c : Check) → IsCurrent limit script k c
-        → 5 * length (signature_of c.stack) ≤ text_limit }
+        → 5 * length (signature_of c.stack) ≤ length script }
     ensures symbols { (limit : ℕ) (script : List ℕ) (k : ℕ) (c : Check) → IsCurrent limit script k c
-        → 11 * length (symbols_in (signature_of c.stack)) ≤ text_limit }
+        → 11 * length (symbols_in (signature_of c.stack)) ≤ length script }
 {}
 
 /// States that lines which are right under what is current at a check of a script, whatever the limit on terms is, are a
@@ -123,15 +123,15 @@ pub fn printed_proofs_are_good()
     checks_have_script_names();
 }
 
-/// States that such lines are an accepted proof of the check, alone and after the answer `unsat`, where the text is no
-/// longer than it may be. Then there is room for all names and terms.
+/// States that such lines are an accepted proof of the check, alone and after the answer `unsat`, where script and text
+/// have at most 2^26 bytes. Then there is room for all names and terms.
 pub fn printed_proofs_are_accepted()
     ensures alone { (script : List ℕ) (k : ℕ) (c : Check) (lines : List Line) → IsCurrent term_limit script k c
         → AreRightLines (signature_of c.stack) (terms_asserted (asked c)) lines
-        → is_long (proof_text lines) ≡ false → IsAccepted script k (proof_text lines) }
+        → LeaveRoom script (proof_text lines) → IsAccepted script k (proof_text lines) }
     ensures answered { (script : List ℕ) (k : ℕ) (c : Check) (lines : List Line) → IsCurrent term_limit script k c
         → AreRightLines (signature_of c.stack) (terms_asserted (asked c)) lines
-        → is_long (codes "unsat\n" ++ proof_text lines) ≡ false
+        → LeaveRoom script (codes "unsat\n" ++ proof_text lines)
         → IsAccepted script k (codes "unsat\n" ++ proof_text lines) }
 {
     checks_have_script_names();

@@ -13,7 +13,7 @@ use Rattle.spec_proof_texts.proofs.laws.checks_have_script_names.Goals as goal
 named : (limit : ℕ) (script : List ℕ) (k : ℕ) (c : Check) (current : IsCurrent limit script k c) → IsNamed (0 + weight_all current.commands) (signature_of c.stack)
 named limit script k c current =
     let read = current.read in
-    let words = (words_rest current.commands read.rest (subst AreWords read.trees.split (words_all 0 0 (kept script)))).0 in
+    let words = (words_rest current.commands read.rest (subst AreWords read.trees (words_all 0 0 (kept script)))).0 in
     here (Named (0 + weight_all current.commands)) c.stack (current_named limit 0 empty_stack k current.commands c words current.here empty_named)
 
 pub returns-clause-names : goal.returns-clause-names
@@ -21,8 +21,8 @@ returns-clause-names c = λ limit script k check current. (named limit script k 
 
 pub returns-clause-few : goal.returns-clause-few
 returns-clause-few c = λ limit script k check current.
-    omega (arith, (named limit script k check current).few, front_weight (kept script) current.commands current.read.rest current.read.trees.split, length-take text_limit script)
+    omega (arith, (named limit script k check current).few, front_weight (kept script) current.commands current.read.rest current.read.trees, length-take text_limit script)
 
 pub returns-clause-symbols : goal.returns-clause-symbols
 returns-clause-symbols c = λ limit script k check current.
-    omega (arith, (named limit script k check current).symbols, front_weight (kept script) current.commands current.read.rest current.read.trees.split, length-take text_limit script)
+    omega (arith, (named limit script k check current).symbols, front_weight (kept script) current.commands current.read.rest current.read.trees, length-take text_limit script)
