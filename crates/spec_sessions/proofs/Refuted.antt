@@ -125,7 +125,7 @@ term_there t (inr e) = (1, ap Some e)
 over : AllConcludeOver terms derivation
 over zero x e = let is : «assumption» p ≡ x = cc in subst (λ y. ConcludesOver terms y × HasGiven y) is (λ u h. let t = inl (only p u h) in (term_there u t, term_sort u t), tt)
 over (suc zero) x e = let is : «assumption» (negated p) ≡ x = cc in subst (λ y. ConcludesOver terms y × HasGiven y) is (λ u h. let t = inr (only (negated p) u h) in (term_there u t, term_sort u t), tt)
-over (suc (suc zero)) x e = let is : by_rule rules.Resolution (0 ∷ 1 ∷ []) trees.none [] ≡ x = cc in subst (λ y. ConcludesOver terms y × HasGiven y) is (λ u h. absurd (none u h), record { spelled = tt; shallow = omega arith })
+over (suc (suc zero)) x e = let is : by_rule rules.Resolution (0 ∷ 1 ∷ []) trees.none [] ≡ x = cc in subst (λ y. ConcludesOver terms y × HasGiven y) is (λ u h. absurd (none u h), tt)
 over (suc (suc (suc k))) x e = cc
 
 follows : FollowsFrom («assumption» p ∷ «assumption» (negated p) ∷ []) (by_rule rules.Resolution (0 ∷ 1 ∷ []) trees.none [])

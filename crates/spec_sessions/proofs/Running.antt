@@ -1,13 +1,13 @@
 -- A script's text run command by command.
-use Rattle.std.proofs.Common.{◌≡◌, ◌≤◌, ℕ, Bool, true, false, ◌||◌, List, [], ◌∷◌, ◌++◌, length, Option, inl, inr, refl, sym, ap, ◌∙◌, subst, append_assoc, append-nil, arith}
+use Rattle.std.proofs.Common.{◌≡◌, ℕ, Bool, true, false, ◌||◌, List, [], ◌∷◌, ◌++◌, length, Option, inl, inr, refl, sym, ap, ◌∙◌, subst, append_assoc, append-nil}
 use Rattle.std.specs.List.{list_any}
 use Rattle.std.proofs.lemmas.Grind.{flat_map-append}
 use Rattle.std.proofs.lemmas.List.Folds.{list_any-append}
 use Rattle.std.proofs.Math.Bool.{or-false}
 use Rattle.spec_text.specs.Lexemes.{Lexeme, lexemes, lexemes_from}
 use Rattle.spec_text.specs.Trees.{Tree, Trees, none, more, spelled, spelled_all}
-use Rattle.spec_text.specs.Faults.{Located, nesting_limit}
-use Rattle.spec_text.specs.Readings.{depth, depth_all, AreTrees, StopsAt, EndsTrees, kept, is_long, limited, IsReadUpTo}
+use Rattle.spec_text.specs.Faults.{Located}
+use Rattle.spec_text.specs.Readings.{AreTrees, StopsAt, EndsTrees, kept, is_long, limited, IsReadUpTo}
 use Rattle.spec_text.proofs.Stopping.{stop_of}
 use Rattle.spec_sessions.specs.Evidence.{Limits}
 use Rattle.spec_sessions.specs.States.{State, first_state}
@@ -15,15 +15,12 @@ use Rattle.spec_sessions.specs.Responses.{Mode, Response, success, not_supported
 use Rattle.spec_sessions.specs.Transcripts.{Follows, Runs, Begins, state_left, answers_text, closing_by, closing, closing_text, is_fault, IsTranscript, IsBegun}
 
 -- no tree comes first
-nothing_first : (xs : List (ℕ × Lexeme)) → AreTrees 0 xs none xs
-nothing_first xs = record { split = refl; within = omega arith }
+nothing_first : (xs : List (ℕ × Lexeme)) → AreTrees xs none xs
+nothing_first xs = refl
 
 -- a first tree, and then others
-first_tree : (xs ys : List (ℕ × Lexeme)) (t : Tree) → xs ≡ spelled t ++ ys → depth t ≤ nesting_limit → (us : Trees) (rest : List (ℕ × Lexeme)) → AreTrees 0 ys us rest → AreTrees 0 xs (more t us) rest
-first_tree xs ys t e flat us rest h = record {
-  split = e ∙ ap (λ zs. spelled t ++ zs) h.split ∙ sym (append_assoc (spelled t) (spelled_all us) rest);
-  within = omega (arith, flat, h.within);
-}
+first_tree : (xs ys : List (ℕ × Lexeme)) (t : Tree) → xs ≡ spelled t ++ ys → (us : Trees) (rest : List (ℕ × Lexeme)) → AreTrees ys us rest → AreTrees xs (more t us) rest
+first_tree xs ys t e us rest h = e ∙ ap (λ zs. spelled t ++ zs) h ∙ sym (append_assoc (spelled t) (spelled_all us) rest)
 
 -- after a response that does not end the script all else follows
 follows_on : (r : Response) (P : List Answered → Type 0) (given : List Answered) → is_end r ≡ false → P given → Follows r P given
@@ -93,18 +90,8 @@ spelled_followed : (ts us : Trees) → spelled_all (followed ts us) ≡ spelled_
 spelled_followed none us = refl
 spelled_followed (more t ts) us = ap (λ r. spelled t ++ r) (spelled_followed ts us) ∙ sym (append_assoc (spelled t) (spelled_all ts) (spelled_all us))
 
-shallow_followed : (n : ℕ) (ts us : Trees) → depth_all ts ≤ n → depth_all us ≤ n → depth_all (followed ts us) ≤ n
-shallow_followed n none us h k = k
-shallow_followed n (more t ts) us h k =
-    let first : depth t ≤ n = omega (arith, h) in
-    let rest : depth_all ts ≤ n = omega (arith, h) in
-    omega (arith, first, shallow_followed n ts us rest k)
-
-trees_followed : (xs ys rest : List (ℕ × Lexeme)) (ts us : Trees) → AreTrees 0 xs ts ys → AreTrees 0 ys us rest → AreTrees 0 xs (followed ts us) rest
-trees_followed xs ys rest ts us h k = record {
-  split = h.split ∙ ap (λ zs. spelled_all ts ++ zs) k.split ∙ sym (append_assoc (spelled_all ts) (spelled_all us) rest) ∙ ap (λ zs. zs ++ rest) (sym (spelled_followed ts us));
-  within = omega (arith, shallow_followed nesting_limit ts us (omega (arith, h.within)) (omega (arith, k.within)));
-}
+trees_followed : (xs ys rest : List (ℕ × Lexeme)) (ts us : Trees) → AreTrees xs ts ys → AreTrees ys us rest → AreTrees xs (followed ts us) rest
+trees_followed xs ys rest ts us h k = h ∙ ap (λ zs. spelled_all ts ++ zs) k ∙ sym (append_assoc (spelled_all ts) (spelled_all us) rest) ∙ ap (λ zs. zs ++ rest) (sym (spelled_followed ts us))
 
 neither : (x y : Bool) → (x || y) ≡ false → (x ≡ false) × (y ≡ false)
 neither true y e = cc
@@ -143,13 +130,13 @@ left_by_last s (b ∷ given) a = left_by_last b.state given a
 module _ (limits : Limits) (bytes : List ℕ) where
   -- The commands up to an offset were answered so: what is answered from there on is answered after them.
   pub record Going (at : ℕ) (state : State) (given : List Answered) : Type 0 where
-    pub onward : (us : Trees) (rest : List (ℕ × Lexeme)) → AreTrees 0 (lexemes_from bytes at) us rest
-        → (ts : Trees) × AreTrees 0 (lexemes 0 0 bytes) ts rest
+    pub onward : (us : Trees) (rest : List (ℕ × Lexeme)) → AreTrees (lexemes_from bytes at) us rest
+        → (ts : Trees) × AreTrees (lexemes 0 0 bytes) ts rest
         × ((later : List Answered) → Runs limits state us later → Runs limits first_state ts (given ++ later))
         × ((later : List Answered) → Begins limits state us later → Begins limits first_state ts (given ++ later))
 
   -- commands that come first in the bytes were answered, and none ended the script
-  pub going_after : (at : ℕ) (ts : Trees) (given : List Answered) → AreTrees 0 (lexemes 0 0 bytes) ts (lexemes_from bytes at) → Runs limits first_state ts given → list_any (λ (x : Answered). is_end x.response) given ≡ false → Going at (state_left first_state given) given
+  pub going_after : (at : ℕ) (ts : Trees) (given : List Answered) → AreTrees (lexemes 0 0 bytes) ts (lexemes_from bytes at) → Runs limits first_state ts given → list_any (λ (x : Answered). is_end x.response) given ≡ false → Going at (state_left first_state given) given
   going_after at ts given trees runs on = record {
     onward = λ us rest h. (
       followed ts us,
@@ -160,21 +147,21 @@ module _ (limits : Limits) (bytes : List ℕ) where
   }
 
   pub going_begins : (at : ℕ) → at ≡ 0 → Going at first_state []
-  going_begins at e = record { onward = λ us rest a. (us, subst (λ n. AreTrees 0 (lexemes_from bytes n) us rest) e a, λ later h. h, λ later h. h) }
+  going_begins at e = record { onward = λ us rest a. (us, subst (λ n. AreTrees (lexemes_from bytes n) us rest) e a, λ later h. h, λ later h. h) }
 
-  module _ (from after : ℕ) (t : Tree) (first : lexemes_from bytes from ≡ spelled t ++ lexemes_from bytes after) (flat : depth t ≤ nesting_limit) (state : State) (given : List Answered) (g : Going from state given) (a : Answered) (answers : Answers limits state t a) where
+  module _ (from after : ℕ) (t : Tree) (first : lexemes_from bytes from ≡ spelled t ++ lexemes_from bytes after) (state : State) (given : List Answered) (g : Going from state given) (a : Answered) (answers : Answers limits state t a) where
     -- the next command was answered: so much was answered in all
-    pub answered_begins : (us : Trees) (rest : List (ℕ × Lexeme)) → AreTrees 0 (lexemes_from bytes after) us rest → (ts : Trees) × AreTrees 0 (lexemes 0 0 bytes) ts rest × Begins limits first_state ts (given ++ a ∷ [])
+    pub answered_begins : (us : Trees) (rest : List (ℕ × Lexeme)) → AreTrees (lexemes_from bytes after) us rest → (ts : Trees) × AreTrees (lexemes 0 0 bytes) ts rest × Begins limits first_state ts (given ++ a ∷ [])
     unfolding Begins
     answered_begins us rest h =
-        let o = g.onward (more t us) rest (first_tree (lexemes_from bytes from) (lexemes_from bytes after) t first flat us rest h) in
+        let o = g.onward (more t us) rest (first_tree (lexemes_from bytes from) (lexemes_from bytes after) t first us rest h) in
         (o.0, o.1, o.3 (a ∷ []) (answers, follows_nothing a.response limits a.state us))
 
     -- it ended the script
-    pub answered_last : is_end a.response ≡ true → (us : Trees) (rest : List (ℕ × Lexeme)) → AreTrees 0 (lexemes_from bytes after) us rest → (ts : Trees) × AreTrees 0 (lexemes 0 0 bytes) ts rest × Runs limits first_state ts (given ++ a ∷ [])
+    pub answered_last : is_end a.response ≡ true → (us : Trees) (rest : List (ℕ × Lexeme)) → AreTrees (lexemes_from bytes after) us rest → (ts : Trees) × AreTrees (lexemes 0 0 bytes) ts rest × Runs limits first_state ts (given ++ a ∷ [])
     unfolding Runs
     answered_last e us rest h =
-        let o = g.onward (more t us) rest (first_tree (lexemes_from bytes from) (lexemes_from bytes after) t first flat us rest h) in
+        let o = g.onward (more t us) rest (first_tree (lexemes_from bytes from) (lexemes_from bytes after) t first us rest h) in
         (o.0, o.1, o.2 (a ∷ []) (answers, follows_none a.response (Runs limits a.state us) e))
 
 or_last : (x y : Bool) → (x || (y || false)) ≡ (x || y)
@@ -191,7 +178,7 @@ told_is x z r f e h k = sym (ap (λ g. z || g) k ∙ or-false z ∙ e ∙ ap (λ
 
 -- each text is read
 abbrev pub EachIsRead : List ℕ → ℕ → Type 0
-EachIsRead bytes at = (ts : Trees) × (rest : List (ℕ × Lexeme)) × AreTrees 0 (lexemes_from bytes at) ts rest × StopsAt (length bytes) 0 rest
+EachIsRead bytes at = (ts : Trees) × (rest : List (ℕ × Lexeme)) × AreTrees (lexemes_from bytes at) ts rest × StopsAt (length bytes) 0 rest
 
 -- what is written for one answer more
 pub answers_more : (mode : Mode) (text : List ℕ) (given : List Answered) (a : Answered) → answers_text mode text (given ++ a ∷ []) ≡ answers_text mode text given ++ response_text mode text a
@@ -207,10 +194,10 @@ ends_more given a b e h = list_any-append (λ (x : Answered). is_end x.response)
 
 module _ (limits : Limits) (mode : Mode) (text bytes : List ℕ) (whole : bytes ≡ kept text) where
   -- the trees of what is kept of the text are its commands, up to what stops them
-  read_whole : (ts : Trees) (rest : List (ℕ × Lexeme)) (stop : Option Located) → AreTrees 0 (lexemes 0 0 bytes) ts rest → EndsTrees (length bytes) rest stop → IsReadUpTo text ts (limited (is_long text) stop)
+  read_whole : (ts : Trees) (rest : List (ℕ × Lexeme)) (stop : Option Located) → AreTrees (lexemes 0 0 bytes) ts rest → EndsTrees (length bytes) rest stop → IsReadUpTo text ts (limited (is_long text) stop)
   read_whole ts rest stop a s = record {
     rest = rest;
-    trees = subst (λ b. AreTrees 0 (lexemes 0 0 b) ts rest) whole a;
+    trees = subst (λ b. AreTrees (lexemes 0 0 b) ts rest) whole a;
     stop = stop;
     stops = subst (λ b. EndsTrees (length b) rest stop) whole s;
     is = refl;
@@ -274,11 +261,11 @@ module _ (limits : Limits) (mode : Mode) (text bytes : List ℕ) (whole : bytes 
           let o = all_run in
           record { commands = o.0; end = limited (is_long text) stop; read = o.1; answers = given; begins = begins_all limits first_state o.0 given o.2; written = inr (o.2, line_kept) }
 
-  module _ (from after : ℕ) (t : Tree) (first : lexemes_from bytes from ≡ spelled t ++ lexemes_from bytes after) (flat : depth t ≤ nesting_limit) (state : State) (given : List Answered) (g : Going limits bytes from state given) (a : Answered) (answers : Answers limits state t a) (r : EachIsRead bytes after) where
+  module _ (from after : ℕ) (t : Tree) (first : lexemes_from bytes from ≡ spelled t ++ lexemes_from bytes after) (state : State) (given : List Answered) (g : Going limits bytes from state given) (a : Answered) (answers : Answers limits state t a) (r : EachIsRead bytes after) where
     -- one response more was begun
     pub begun_next : IsBegun limits mode text (Told given ++ response_text mode bytes a)
     begun_next =
-        let o = answered_begins limits bytes from after t first flat state given g a answers r.0 r.1 r.2 in
+        let o = answered_begins limits bytes from after t first state given g a answers r.0 r.1 r.2 in
         let stop = stop_of (length bytes) r.1 r.3 in
         record {
           commands = o.0;
@@ -292,7 +279,7 @@ module _ (limits : Limits) (mode : Mode) (text bytes : List ℕ) (whole : bytes 
     -- the script ended
     pub script_ends : list_any (λ (x : Answered). is_end x.response) given ≡ false → is_end a.response ≡ true → is_rejected a.response ≡ false → IsTranscript limits mode text (Told given ++ response_text mode bytes a) (list_any (λ (x : Answered). is_rejected x.response) given)
     script_ends going_on last taken =
-        let o = answered_last limits bytes from after t first flat state given g a answers last r.0 r.1 r.2 in
+        let o = answered_last limits bytes from after t first state given g a answers last r.0 r.1 r.2 in
         let stop = stop_of (length bytes) r.1 r.3 in
         let left = ends_more given a true going_on last in
         let end = limited (is_long text) stop.0 in

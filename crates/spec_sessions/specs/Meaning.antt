@@ -1,7 +1,6 @@
 -- What the answers of checks mean. Source: SMT-LIB 2.6, section 4.2.5; that the text of a proof, or of a model, means
 -- so much is own.
-use Rattle.std.specs.Prelude.{◌≡◌, ℕ, suc, false, List, [], ◌∷◌, ◌++◌, None, All}
-use Rattle.spec_text.specs.Readings.{is_long}
+use Rattle.std.specs.Prelude.{◌≡◌, ℕ, suc, List, [], ◌∷◌, ◌++◌, None, All}
 use Rattle.spec_text.specs.Trees.{Trees, list, none, more, IsRead}
 use Rattle.spec_sorts.specs.Values.{Interpretation, Interprets}
 use Rattle.spec_sorts.specs.Signatures.{Signature, symbols_in}
@@ -17,6 +16,7 @@ use Rattle.spec_checking.specs.Commands.{known_at}
 use Rattle.spec_checking.specs.Good.{AreGood, IsGood}
 use Rattle.spec_checking.specs.Accepted.{IsAccepted}
 use Rattle.spec_proof_texts.specs.ReadBack.{HaveScriptNames, known_before}
+use Rattle.spec_checking.specs.Limits.{IsWithinLimits, LeaveRoom}
 use Rattle.spec_sessions.specs.Evidence.{Limits, Found, model, proof, spent, overflowed, Checked}
 use Rattle.spec_sessions.specs.Evidence.{IsModelOf, Justifies}
 use Rattle.spec_sessions.specs.Cores.{asked_by_core, asked_by_assumptions}
@@ -90,10 +90,12 @@ pub record ProofMeans (limit : ℕ) (text : List ℕ) (k : ℕ) (p : List ℕ) :
   pub no_model : HasNoModel limit text k
   -- it is good of that check, whatever the limits of the checker are
   pub good : IsGood limit text k p
-  -- it is accepted of that check, if it is no longer than a text may be and the limit is that of the checker
-  pub accepted : limit ≡ term_limit → is_long p ≡ false → IsAccepted text k p
+  -- it is accepted of that check, if it and the script leave room and the limit is that of the checker
+  pub accepted : limit ≡ term_limit → LeaveRoom text p → IsAccepted text k p
   -- so it is after the line of the answer
-  pub answered : limit ≡ term_limit → is_long (word_line Unsat ++ p) ≡ false → IsAccepted text k (word_line Unsat ++ p)
+  pub answered : limit ≡ term_limit → LeaveRoom text (word_line Unsat ++ p) → IsAccepted text k (word_line Unsat ++ p)
+  -- and of whatever length, where it is within the limits of the checker
+  pub within : (g : IsGood term_limit text k p) → IsWithinLimits text k p g → IsAccepted text k p
 
 -- what was found means this of the core of a check
 abbrev pub CoresMean : Check → Found → Type 0

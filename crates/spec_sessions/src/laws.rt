@@ -18,7 +18,7 @@ ghost use Rattle.spec_sessions.specs.Transcripts.{IsTranscript, IsBegun};
 ghost use Rattle.spec_sessions.specs.Meaning.{IsKeptCheck, MeansAt, AnswerSays};
 ghost use Rattle.spec_sessions.specs.Statements.{AnswersSay};
 
-/// States that a transcript, or a prefix of one, of the prefix of a text, of 2^26 + 1 bytes at most, is one of the
+/// States that a transcript, or a prefix of one, of the prefix of a text, of 2^30 + 1 bytes at most, is one of the
 /// whole text.
 pub fn transcripts_need_a_prefix_alone()
     ensures whole { (limits : Limits) (mode : Mode) (text out : List ℕ) (refused : Bool)
@@ -45,6 +45,7 @@ pub fn what_is_shown_is_so()
     spec_rules::laws::rules_are_sound();
     spec_models::laws::model_texts_say_their_interpretation();
     spec_models::laws::interpretations_of_one_text_agree();
+    spec_checking::laws::accepted_proofs_are_good();
     spec_proof_texts::laws::checks_have_script_names();
     spec_proof_texts::laws::planned_lines_are_right();
     spec_proof_texts::laws::right_lines_are_good();

@@ -1,5 +1,5 @@
 -- What is written for checks of nothing.
-use Rattle.std.proofs.Common.{None, [], ◌∷◌, All, refl, arith}
+use Rattle.std.proofs.Common.{None, [], ◌∷◌, All, refl}
 use Rattle.std.proofs.lemmas.List.Elements.{All-nil, All-cons}
 use Rattle.spec_text.specs.Readings.{IsReadUpTo}
 use Rattle.spec_sorts.specs.Written.{trees_in}
@@ -14,7 +14,7 @@ use Rattle.spec_sessions.proofs.examples.checks_of_nothing_are_sat.Goals as goal
 
 empty_read : IsReadUpTo [] (trees_in []) None
 unfolding commands_on_literals
-empty_read = record { rest = []; trees = record { split = refl; within = omega arith }; stop = None; stops = refl; is = refl }
+empty_read = record { rest = []; trees = refl; stop = None; stops = refl; is = refl }
 
 pub returns-clause-nothing : goal.returns-clause-nothing
 unfolding commands_on_literals answers_of
@@ -22,7 +22,7 @@ returns-clause-nothing c = transcript_of limits solve [] (trees_in []) [] empty_
 
 read : IsReadUpTo checks_alone (trees_in checks_alone) None
 unfolding commands_on_literals
-read = record { rest = []; trees = record { split = refl; within = omega arith }; stop = None; stops = refl; is = refl }
+read = record { rest = []; trees = refl; stop = None; stops = refl; is = refl }
 
 justified : All (IsJustified limits) (checks_in (answers_of limits first_state (trees_in checks_alone) (model tables ∷ model tables ∷ [])))
 unfolding commands_on_literals answers_of

@@ -74,7 +74,7 @@ never (a ∷ given) ys runs e = at_assertion a.response a.state given ys runs.0 
 
 read : IsReadUpTo false_asserted (trees_in false_asserted) None
 unfolding commands_on_literals
-read = record { rest = []; trees = record { split = refl; within = omega arith }; stop = None; stops = refl; is = refl }
+read = record { rest = []; trees = refl; stop = None; stops = refl; is = refl }
 
 pub returns : goal.returns
 returns c = λ refused t.

@@ -1,11 +1,11 @@
 -- What is written after a fault of a text.
-use Rattle.std.proofs.Common.{◌≡◌, ℕ, ◌+◌, ◌<◌, List, [], ◌∷◌, ◌++◌, Some, refl, ap, arith}
+use Rattle.std.proofs.Common.{◌≡◌, ℕ, List, [], ◌∷◌, Some, refl, ap}
 use Rattle.std.specs.Fmt.{digits}
 use Rattle.spec_text.specs.declared.Fault.TheVariants.{StrayClose}
 use Rattle.spec_text.specs.Lexemes.{Lexeme, opens, closes, word}
-use Rattle.spec_text.specs.Faults.{Located, nesting_limit, first_fault}
-use Rattle.spec_text.specs.Readings.{depth, IsBroken}
-use Rattle.spec_text.specs.Trees.{Tree, atom, list, spelled}
+use Rattle.spec_text.specs.Faults.{Located, first_fault}
+use Rattle.spec_text.specs.Readings.{BeginsNoTree, IsBroken}
+use Rattle.spec_text.specs.Trees.{atom, list}
 use Rattle.spec_sorts.specs.Written.{trees_in}
 use Rattle.spec_commands.specs.Stack.{empty_stack, begun}
 use Rattle.spec_commands.specs.OnLiterals.{commands_on_literals}
@@ -22,7 +22,7 @@ first_lexeme [] = opens
 first_lexeme ((at, x) ∷ xs) = x
 
 -- where a list ends there is no tree
-no_tree : (t : Tree) (ys : List (ℕ × Lexeme)) → (12, closes) ∷ [] ≡ spelled t ++ ys → nesting_limit < 0 + depth t
+no_tree : BeginsNoTree ((12, closes) ∷ [])
 no_tree (atom at k bytes) ys e = let no : closes ≡ word k bytes = ap first_lexeme e in cc
 no_tree (list at ts end) ys e = let no : closes ≡ opens = ap first_lexeme e in cc
 
@@ -38,7 +38,7 @@ unfolding commands_on_literals Runs digits
 returns c = record {
   commands = trees_in closed_too_often;
   end = Some fault;
-  read = record { rest = (12, closes) ∷ []; trees = record { split = refl; within = omega arith }; stop = Some fault; stops = broken; is = refl };
+  read = record { rest = (12, closes) ∷ []; trees = refl; stop = Some fault; stops = broken; is = refl };
   answers = record { response = answered nothing; state = record { stack = begun empty_stack; answer = Some nothing } } ∷ [];
   runs = (((model tables, nothing_asked, refl), refl), refl);
   written = refl;

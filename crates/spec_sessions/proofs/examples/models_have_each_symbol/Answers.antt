@@ -1,5 +1,5 @@
 -- What is written for declared sorts, functions and constants.
-use Rattle.std.proofs.Common.{true, None, [], ◌∷◌, All, refl, arith}
+use Rattle.std.proofs.Common.{true, None, [], ◌∷◌, All, refl}
 use Rattle.std.proofs.lemmas.List.Elements.{All-from_recursion}
 use Rattle.spec_text.specs.Readings.{IsReadUpTo}
 use Rattle.spec_numbers.proofs.Field.{zero-reduced}
@@ -21,7 +21,7 @@ use Rattle.spec_sessions.proofs.examples.models_have_each_symbol.Goals as goal
 
 read : IsReadUpTo functions (trees_in functions) None
 unfolding commands_on_literals
-read = record { rest = []; trees = record { split = refl; within = omega arith }; stop = None; stops = refl; is = refl }
+read = record { rest = []; trees = refl; stop = None; stops = refl; is = refl }
 
 -- the check, with its model
 abbrev here : Checked

@@ -22,7 +22,7 @@ use Rattle.spec_sessions.proofs.examples.refused_commands_are_passed_over.Goals 
 
 refusals_read : IsReadUpTo refusals (trees_in refusals) None
 unfolding commands_on_literals
-refusals_read = record { rest = []; trees = record { split = refl; within = omega arith }; stop = None; stops = refl; is = refl }
+refusals_read = record { rest = []; trees = refl; stop = None; stops = refl; is = refl }
 
 -- its check, where nothing is asserted
 abbrev refusals_check : Checked
@@ -42,7 +42,7 @@ returns-clause-names c = transcript_of limits solve refusals (trees_in refusals)
 
 numbers_read : IsReadUpTo numbers (trees_in numbers) None
 unfolding commands_on_literals
-numbers_read = record { rest = []; trees = record { split = refl; within = omega arith }; stop = None; stops = refl; is = refl }
+numbers_read = record { rest = []; trees = refl; stop = None; stops = refl; is = refl }
 
 -- what was found at its three checks
 abbrev numbers_found : List Found
@@ -94,7 +94,7 @@ returns-clause-numbers c = transcript_of limits solve numbers (trees_in numbers)
 
 large_read : IsReadUpTo large (trees_in large) None
 unfolding commands_on_literals
-large_read = record { rest = []; trees = record { split = refl; within = omega arith }; stop = None; stops = refl; is = refl }
+large_read = record { rest = []; trees = refl; stop = None; stops = refl; is = refl }
 
 -- its check, of what fits in
 abbrev large_check : Checked

@@ -1,5 +1,5 @@
 -- What is written for strings.
-use Rattle.std.proofs.Common.{None, [], refl, arith}
+use Rattle.std.proofs.Common.{None, [], refl}
 use Rattle.std.proofs.lemmas.List.Elements.{All-nil}
 use Rattle.spec_text.specs.Readings.{IsReadUpTo}
 use Rattle.spec_sorts.specs.Written.{trees_in}
@@ -11,7 +11,7 @@ use Rattle.spec_sessions.proofs.examples.strings_are_written.Goals as goal
 
 read : IsReadUpTo strings (trees_in strings) None
 unfolding commands_on_literals
-read = record { rest = []; trees = record { split = refl; within = omega arith }; stop = None; stops = refl; is = refl }
+read = record { rest = []; trees = refl; stop = None; stops = refl; is = refl }
 
 pub returns : goal.returns
 unfolding commands_on_literals answers_of

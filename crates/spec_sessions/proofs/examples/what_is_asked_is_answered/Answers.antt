@@ -24,7 +24,7 @@ use Rattle.spec_sessions.proofs.examples.what_is_asked_is_answered.Goals as goal
 
 read : IsReadUpTo asked_for (trees_in asked_for) None
 unfolding commands_on_literals
-read = record { rest = []; trees = record { split = refl; within = omega arith }; stop = None; stops = refl; is = refl }
+read = record { rest = []; trees = refl; stop = None; stops = refl; is = refl }
 
 -- the check, with its model
 abbrev here : Checked

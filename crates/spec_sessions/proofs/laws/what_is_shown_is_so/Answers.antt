@@ -7,7 +7,6 @@ use Rattle.spec_sorts.specs.TermValues.{value_at}
 use Rattle.spec_sorts.specs.Signatures.{Signature, symbols_in}
 use Rattle.spec_sorts.specs.Meaning.{value_under}
 use Rattle.spec_reading.specs.WellSorted.{AreWellSorted}
-use Rattle.spec_text.specs.Readings.{is_long}
 use Rattle.spec_commands.specs.Stack.{Assertion, terms_asserted, signature_of}
 use Rattle.spec_commands.specs.Checks.{Check, asked, IsCurrent, MakesTrue}
 use Rattle.spec_commands.proofs.Carried.{Property, here}
@@ -28,6 +27,7 @@ use Rattle.spec_proof_texts.specs.ReadBack.{AreScriptNames, known_before}
 use Rattle.spec_sessions.specs.Evidence.{Limits, Found, model, proof, spent, overflowed, IsModelOf, Justifies}
 use Rattle.spec_sessions.specs.Refutations.{IsProofOf, lines_in}
 use Rattle.spec_sessions.specs.Cores.{asked_by_core, asked_by_assumptions}
+use Rattle.spec_checking.specs.Limits.{LeaveRoom}
 use Rattle.spec_sessions.specs.Meaning.{ModelMeans, IsRefutedBy, CoreMeans, RefutationMeans, MeansAt, ProofMeans, FindingMeans, CoresMean}
 use Rattle.spec_sessions.proofs.Suffices.{core_suffices, assumptions_suffice, core_is_asked, assumptions_are_asked}
 use Rattle.spec_sessions.proofs.laws.what_is_shown_is_so.Goals as goal
@@ -146,15 +146,16 @@ module _ (c : goal.After-printed_proofs_are_accepted) where
       of_proof p h = record {
         no_model = λ i m. proof_at p h i (is_model i m);
         good = subst (IsGood limit text k) (sym h.written) (c.printed_proofs_are_good.ensures.alone limit text k x (lines_in x p h) current (right p h));
-        accepted = λ e short.
+        accepted = λ e room.
             let here = subst (λ n. IsCurrent n text k x) e current in
-            let accepted = c.printed_proofs_are_accepted.ensures.alone text k x (lines_in x p h) here (right p h) (sym (ap is_long h.written) ∙ short) in
+            let accepted = c.printed_proofs_are_accepted.ensures.alone text k x (lines_in x p h) here (right p h) (subst (LeaveRoom text) h.written room) in
             subst (IsAccepted text k) (sym h.written) accepted;
-        answered = λ e short.
+        answered = λ e room.
             let here = subst (λ n. IsCurrent n text k x) e current in
             let whole : word_line Unsat ++ p ≡ word_line Unsat ++ proof_text (lines_in x p h) = ap (λ q. word_line Unsat ++ q) h.written in
-            let accepted = c.printed_proofs_are_accepted.ensures.answered text k x (lines_in x p h) here (right p h) (sym (ap is_long whole) ∙ short) in
+            let accepted = c.printed_proofs_are_accepted.ensures.answered text k x (lines_in x p h) here (right p h) (subst (LeaveRoom text) whole room) in
             subst (IsAccepted text k) (sym whole) accepted;
+        within = λ g w. (c.accepted_proofs_are_good.ensures.exact text p k).1 (g, w);
       }
 
       of_model : (i : Interpretation) → ModelMeans (IsModelOf x) g i → ModelMeans (λ j. MakesTrue limit j text k) g i
