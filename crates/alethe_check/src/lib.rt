@@ -31,7 +31,7 @@ use std::alloc::Global;
 /// step is right by its rule, and one step has the empty clause. Then no interpretation makes all of them true, the current
 /// assertions and the assumed literals.
 ///
-/// Commands of the script that are refused are passed over. Of both texts the first 2^26 bytes are read.
+/// Commands of the script that are refused are passed over. Of both texts the first 2^30 bytes are read.
 ///
 /// - `Fault` has the first fault of the proof, with its place there. First of all `NoSuchCheck`, at line 1, column 1, where
 ///   the script ends before that check, by its end, by `exit`, or by a fault after which it cannot be read on. Then, command

@@ -1,16 +1,15 @@
 -- What ends the commands of a proof, and that something does.
-use Rattle.std.proofs.Common.{◌≡◌, ◌≤◌, ℕ, Bool, true, false, Option, Some, None, List, [], ◌∷◌, ◌++◌, length, inl, inr, refl, sym, ap, ◌∙◌, subst, arith, append_assoc}
+use Rattle.std.proofs.Common.{◌≡◌, ℕ, Bool, true, false, Option, Some, None, List, [], ◌∷◌, ◌++◌, length, inl, inr, refl, sym, ap, ◌∙◌, subst, arith, append_assoc}
 use Rattle.std.specs.Prelude.{◌↔◌, Result, Ok, Err, IsErrAnd, option_map}
 use Rattle.spec_text.specs.declared.Place.{Place}
 use Rattle.spec_text.specs.Lexemes.{Lexeme, blank, opens, closes, word, wrong, lexemes, lexemes_from}
 use Rattle.spec_text.specs.Trees.{Trees, none, more, spelled, spelled_all, offset_of}
-use Rattle.spec_text.specs.Faults.{Located, nesting_limit}
+use Rattle.spec_text.specs.Faults.{Located}
 use Rattle.spec_text.specs.Readings.{AreTrees, StopsAt, kept, is_long, limited}
 use Rattle.spec_text.proofs.Blanks.{HasNoBlank}
 use Rattle.spec_text.proofs.Parsing.{each_parsed}
 use Rattle.spec_proofs.specs.declared.ProofKind.TheVariants.{BadShape}
 use Rattle.spec_proofs.specs.Faults.{Fault, fault_at, text_fault}
-use Rattle.spec_proofs.specs.Limits.{lists_round}
 use Rattle.spec_proofs.specs.Texts.{Ending, complete, broken, left_over, EndsRow, EndsBehind, EndsList, AreCommands, behind_unsat, begins_listed, IsProofText, ending_fault}
 use Rattle.smt_lexer.specs.declared.Refusal.{Refusal}
 use Rattle.smt_sexpr.specs.declared.sexpr.Sexpr.{Sexpr}
@@ -21,15 +20,10 @@ use Rattle.alethe_reader.specs.declared.errors.LocatedFault.{LocatedFault}
 use Rattle.alethe_reader.specs.declared.errors.CommandError.{CommandError}
 use Rattle.alethe_reader.specs.declared.errors.CommandError.TheVariants as errors
 use Rattle.alethe_reader.specs.declared.reader.Reader.{Reader}
-use Rattle.alethe_reader.specs.Endings.{EndsIn, AreLeft, IsEnding, EndsHere, FollowsCommands, Leaves}
+use Rattle.alethe_reader.specs.Endings.{lists_round, EndsIn, AreLeft, IsEnding, EndsHere, FollowsCommands, Leaves}
 use Rattle.alethe_reader.specs.Reads.{located_view}
 use Rattle.alethe_reader.specs.Remaining.{text_of, ReadsOn}
 use Rattle.alethe_reader.proofs.Rows.{nothing_first, read_first, left_behind}
-
--- few lists are open round commands
-pub few_round : (listed : Bool) → lists_round listed ≤ nesting_limit
-few_round true = omega arith
-few_round false = omega arith
 
 -- what ends commands, by what stops the bytes that are read
 abbrev ending_of : Option Located → Ending
@@ -76,7 +70,7 @@ list_breaks text xs r found s e = record {
 }
 
 -- or a tree
-pub list_goes_on : (text : List ℕ) (from : Place) (s : Sexpr) (after : Place) (at : ℕ) → ReadsSexpr (kept text) from 0 s after → at ≡ offset_of (tree_of s) → FollowsCommands text (lexemes_from (kept text) from.offset) (Some (fault_at at BadShape))
+pub list_goes_on : (text : List ℕ) (from : Place) (s : Sexpr) (after : Place) (at : ℕ) → ReadsSexpr (kept text) from s after → at ≡ offset_of (tree_of s) → FollowsCommands text (lexemes_from (kept text) from.offset) (Some (fault_at at BadShape))
 list_goes_on text from s after at r e = record { ending = left_over at; behind = left_behind (kept text) from s after at r e; is = refl }
 
 -- or nothing
@@ -86,7 +80,7 @@ list_finishes text xs nothing short = record { ending = complete; behind = nothi
 module _ (listed : Bool) (text : List ℕ) (xs : List (ℕ × Lexeme)) where
   -- no command is to come
   none_left : (e : Ending) (found : Option Fault) → EndsIn listed (length (kept text)) xs e → IsEnding text e found → EndsHere listed text xs found
-  none_left e found h is = record { ending = e; left = record { rest = xs; trees = nothing_first (lists_round listed) xs (few_round listed); ends = h }; is = is }
+  none_left e found h is = record { ending = e; left = record { rest = xs; trees = nothing_first xs; ends = h }; is = is }
 
   -- but what cannot be read
   pub left_breaks : (r : Refusal) (found : LocatedFault) → IsStopped text (lists_round listed) xs r → located_view found ≡ text_fault (refusal_meant r) → EndsHere listed text xs (Some (located_view found))
@@ -115,9 +109,9 @@ closes_stops old new same after c e (Ok s) h is = absurd is
 closes_stops old new same after c e (Err x) h is = subst (λ (y : CommandError). ReadsOn old (Err y) new) (sym is) (closes_wrong old new same after c e h)
 
 -- a command was read, and others come after it
-pub left_after : (listed : Bool) (text : List ℕ) (from : Place) (s : Sexpr) (after : Place) → ReadsSexpr (kept text) from (lists_round listed) s after → (ts : Trees) (e : Ending)
+pub left_after : (listed : Bool) (text : List ℕ) (from : Place) (s : Sexpr) (after : Place) → ReadsSexpr (kept text) from s after → (ts : Trees) (e : Ending)
     → AreLeft listed (length (kept text)) (lexemes_from (kept text) after.offset) ts e → AreLeft listed (length (kept text)) (lexemes_from (kept text) from.offset) (more (tree_of s) ts) e
-left_after listed text from s after r ts e h = record { rest = h.rest; trees = read_first (kept text) from (lists_round listed) s after (few_round listed) r ts h.rest h.trees; ends = h.ends }
+left_after listed text from s after r ts e h = record { rest = h.rest; trees = read_first (kept text) from s after r ts h.rest h.trees; ends = h.ends }
 
 -- after lexemes that are no white space come others that are none
 not_blank_behind : (x : ℕ × Lexeme) (xs : List (ℕ × Lexeme)) → HasNoBlank (x ∷ xs) → HasNoBlank xs
@@ -138,13 +132,11 @@ row_ending end rest (inr (inl x)) = absurd (x.0 refl)
 row_ending end rest (inr (inr x)) = (broken x.0, x.1)
 
 -- what stops trees after a list, the first of them left over
-behind_ending : (end : ℕ) (xs : List (ℕ × Lexeme)) (ts : Trees) (rest : List (ℕ × Lexeme)) → AreTrees 0 xs ts rest → StopsAt end 0 rest → (e : Ending) × EndsBehind end xs e
-behind_ending end xs none rest a s = let e = row_ending end rest s in (e.0, subst (λ ys. EndsBehind end ys e.0) (sym a.split) (row_behind end rest e.0 e.1))
+behind_ending : (end : ℕ) (xs : List (ℕ × Lexeme)) (ts : Trees) (rest : List (ℕ × Lexeme)) → AreTrees xs ts rest → StopsAt end 0 rest → (e : Ending) × EndsBehind end xs e
+behind_ending end xs none rest a s = let e = row_ending end rest s in (e.0, subst (λ ys. EndsBehind end ys e.0) (sym a) (row_behind end rest e.0 e.1))
 behind_ending end xs (more t us) rest a s =
-    let front : AreTrees 0 xs (more t none) (spelled_all us ++ rest) = record {
-      split = a.split ∙ append_assoc (spelled t) (spelled_all us) rest ∙ sym (append_assoc (spelled t) [] (spelled_all us ++ rest));
-      within = omega (arith, a.within);
-    } in
+    let front : AreTrees xs (more t none) (spelled_all us ++ rest) =
+    a ∙ append_assoc (spelled t) (spelled_all us) rest ∙ sym (append_assoc (spelled t) [] (spelled_all us ++ rest)) in
     (left_over (offset_of t), (t, spelled_all us ++ rest, front, refl))
 
 -- what stops commands that are in a list ends them
@@ -152,7 +144,7 @@ list_ending : (end : ℕ) (rest : List (ℕ × Lexeme)) → HasNoBlank rest → 
 list_ending end rest h (inl x) = let zero_is = x.0 in absurd (omega (arith, zero_is))
 list_ending end rest h (inr (inl x)) =
     let clean : HasNoBlank x.2 = subst HasNoBlank x.3 h in
-    let p = each_parsed end 0 x.2 (omega arith) clean in
+    let p = each_parsed end 0 x.2 clean in
     let e = behind_ending end x.2 p.0 p.1 p.2 p.3 in
     (e.0, inl (x.1, x.2, x.3, e.1))
 list_ending end rest h (inr (inr x)) = (broken x.0, inr (x.0, x.1, refl))
@@ -164,8 +156,8 @@ ending_in true end rest h s = list_ending end rest h s
 -- from lexemes on there are commands, or none, and something ends them
 pub some_left : (listed : Bool) (end : ℕ) (xs : List (ℕ × Lexeme)) → HasNoBlank xs → (ts : Trees) × (e : Ending) × AreLeft listed end xs ts e
 some_left listed end xs h =
-    let p = each_parsed end (lists_round listed) xs (few_round listed) h in
-    let e = ending_in listed end p.1 (none_blank_behind (spelled_all p.0) p.1 (subst HasNoBlank p.2.split h)) p.3 in
+    let p = each_parsed end (lists_round listed) xs h in
+    let e = ending_in listed end p.1 (none_blank_behind (spelled_all p.0) p.1 (subst HasNoBlank p.2 h)) p.3 in
     (p.0, e.0, record { rest = p.1; trees = p.2; ends = e.1 })
 
 -- what is to come from the beginning on are all commands of a text
@@ -175,7 +167,7 @@ row_is_all end xs ts e = (λ h. (h.rest, h.trees, h.ends), λ h. record { rest =
 list_is_all : (end begin : ℕ) (xs : List (ℕ × Lexeme)) (ts : Trees) (e : Ending) → AreLeft true end xs ts e ↔ AreCommands true end ((begin, opens) ∷ xs) ts e
 list_is_all end begin xs ts e = (
   λ h. (begin, xs, h.rest, refl, h.trees, h.ends),
-  λ h. record { rest = h.2; trees = subst (λ ys. AreTrees 1 ys ts h.2) (sym (behind_first h.3)) h.4; ends = h.5 },
+  λ h. record { rest = h.2; trees = subst (λ ys. AreTrees ys ts h.2) (sym (behind_first h.3)) h.4; ends = h.5 },
 )
   where
     behind_first : {at : ℕ} {ys : List (ℕ × Lexeme)} → (begin, opens) ∷ xs ≡ (at, opens) ∷ ys → xs ≡ ys

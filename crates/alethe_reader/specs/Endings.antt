@@ -4,7 +4,6 @@ use Rattle.spec_text.specs.Lexemes.{Lexeme, opens, closes}
 use Rattle.spec_text.specs.Trees.{Trees, none}
 use Rattle.spec_text.specs.Readings.{AreTrees, kept, is_long}
 use Rattle.spec_proofs.specs.Faults.{Fault}
-use Rattle.spec_proofs.specs.Limits.{lists_round}
 use Rattle.spec_proofs.specs.Texts.{Ending, EndsRow, EndsList, EndsBehind, ending_fault}
 use Rattle.alethe_reader.specs.declared.errors.CommandError.{CommandError}
 use Rattle.alethe_reader.specs.declared.errors.CommandError.TheVariants as errors
@@ -16,6 +15,11 @@ begins_parenthesis ((at, opens) ∷ xs) = true
 begins_parenthesis ((at, closes) ∷ xs) = true
 begins_parenthesis xs = false
 
+-- how many lists are open round the commands, in a list or not
+abbrev pub lists_round : Bool → ℕ
+lists_round true = 1
+lists_round false = 0
+
 -- what is after commands, in a list or not, is this ending
 abbrev pub EndsIn : Bool → ℕ → List (ℕ × Lexeme) → Ending → Type 0
 EndsIn false end rest e = EndsRow end rest e
@@ -26,7 +30,7 @@ pub record AreLeft (listed : Bool) (end : ℕ) (xs : List (ℕ × Lexeme)) (ts :
   -- the lexemes after the commands
   pub rest : List (ℕ × Lexeme)
   -- the commands come first
-  pub trees : AreTrees (lists_round listed) xs ts rest
+  pub trees : AreTrees xs ts rest
   -- the ending is after them
   pub ends : EndsIn listed end rest e
 

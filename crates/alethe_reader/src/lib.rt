@@ -16,3 +16,4 @@ pub use errors::{CommandError, LocatedFault, ProofFault, ProofStop, fault};
 pub use proof_state::ProofState;
 pub use reader::Reader;
 pub use reading::{ProofStep, ReadCommand, proof_command};
+pub use shapes::{Shape, StepParts, shape_of};

@@ -5,11 +5,10 @@ ghost use Rattle.spec_text.specs.Places.{IsPlaceOf};
 ghost use Rattle.spec_text.specs.Lexemes.{lexemes, lexemes_from, opens};
 ghost use Rattle.spec_text.specs.Readings.{kept};
 ghost use Rattle.spec_proofs.specs.Faults.{text_fault};
-ghost use Rattle.spec_proofs.specs.Limits.{lists_round};
 ghost use Rattle.spec_proofs.specs.Texts.{behind_unsat, begins_listed};
 ghost use Rattle.smt_sexpr.specs.Limited.{whole_of, refusal_meant};
 ghost use Rattle.alethe_reader.specs.Reads.{located_view};
-ghost use Rattle.alethe_reader.specs.Endings.{begins_parenthesis, Leaves};
+ghost use Rattle.alethe_reader.specs.Endings.{begins_parenthesis, lists_round, Leaves};
 
 use crate::errors::{CommandError, LocatedFault, fault};
 use smt_lexer::{Place, Refusal, Refused, TokenKind, next, start};
@@ -20,7 +19,7 @@ use std::alloc::Global;
 /// A proof's text, and the place up to which its commands were read.
 ///
 /// The commands are after a first word `unsat` or without it, one after the other or in one list. Of the text the first
-/// 2^26 bytes are read. Contracts see the text and the commands that are to come, by the relation `AreRemaining`.
+/// 2^30 bytes are read. Contracts see the text and the commands that are to come, by the relation `AreRemaining`.
 /// Source: Alethe specification, proofs.
 #[derive(Clone, Copy, Debug)]
 pub struct Reader<'a> {

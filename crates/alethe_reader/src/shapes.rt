@@ -13,30 +13,30 @@ use smt_sexpr::{
     same_bytes, split, tree_alone, want, word_first,
 };
 
-/// A command by its shape: an assume by its name and its term, a step, or a definition.
+/// Holds a command of a proof by its shape: an assume, a step, or a definition. Source: Alethe specification, commands.
 #[derive(Clone, Copy)]
-pub(crate) enum Shape<'a> {
-    /// The name, and the term, which is the first tree.
+pub enum Shape<'a> {
+    /// An assume: its name, and its term, which is the first tree.
     Assume(Word<'a>, Trees<'a>),
-    /// The parts.
+    /// A step.
     Step(StepParts<'a>),
-    /// The parts.
+    /// A definition.
     Define(FunctionText<'a>),
 }
 
-/// A step by its shape.
+/// Holds the parts of a step, as they are written. Source: Alethe specification, commands.
 #[derive(Clone, Copy)]
-pub(crate) struct StepParts<'a> {
-    /// The name.
-    pub(crate) name: Word<'a>,
-    /// The literals.
-    pub(crate) literals: Trees<'a>,
-    /// The rule's name.
-    pub(crate) rule: Word<'a>,
-    /// The names of the premises, where they are given.
-    pub(crate) premises: Option<Trees<'a>>,
-    /// The arguments, where they are given.
-    pub(crate) arguments: Option<Trees<'a>>,
+pub struct StepParts<'a> {
+    /// The step's name.
+    pub name: Word<'a>,
+    /// The literals of its clause.
+    pub literals: Trees<'a>,
+    /// The name of its rule.
+    pub rule: Word<'a>,
+    /// The names of its premises, where they are given: each tree is a symbol.
+    pub premises: Option<Trees<'a>>,
+    /// Its arguments, where they are given.
+    pub arguments: Option<Trees<'a>>,
 }
 
 /// What the keywords of a step say.
@@ -305,9 +305,12 @@ fn shape_by<'a>(word: Word<'a>, trees: Trees<'a>) -> Option<Shape<'a>>
     None
 }
 
-/// Finds the shape of a command whose list has these trees in it.
+/// Finds the shape of a command whose list has these trees in it; `None` where it has none. Names and terms are as they
+/// are written: nothing is looked up. It takes no memory, and time that goes with the trees.
+///
+/// Source: Alethe specification, commands.
 #[tactic(auto, unfolding(spec_checking::specs::Commands::shape_of))]
-pub(crate) fn shape_of(trees: Trees<'_>) -> Option<Shape<'_>>
+pub fn shape_of(trees: Trees<'_>) -> Option<Shape<'_>>
     ensures { option_map shape_view result ≡ shape_of (trees_meant trees.entry) }
 {
     let (word, rest) = word_first(trees)?;

@@ -21,7 +21,7 @@ use std::alloc::Global;
 /// and under it each current assertion and each literal that the check assumes has the value true. Then no proof of that
 /// check is accepted.
 ///
-/// Commands of the script that are refused are passed over. Of both texts the first 2^26 bytes are read.
+/// Commands of the script that are refused are passed over. Of both texts the first 2^30 bytes are read.
 ///
 /// - `Fault` has the first fault, with its place: `NotTrue` and `ValueWide` are at a place of the script, all others at one
 ///   of the file. First of all `NoSuchCheck`, at line 1, column 1, where the script ends before that check, by its end, by

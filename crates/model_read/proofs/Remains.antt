@@ -6,7 +6,7 @@ use Rattle.std.proofs.lemmas.List.{take_all}
 use Rattle.spec_text.specs.declared.Place.{Place}
 use Rattle.spec_text.specs.Lexemes.{Lexeme, blank, opens, closes, word, wrong, lexemes, lexemes_from}
 use Rattle.spec_text.specs.Trees.{Tree, Trees, atom, list, none, more, spelled, spelled_all, offset_of}
-use Rattle.spec_text.specs.Faults.{Located, nesting_limit, first_fault}
+use Rattle.spec_text.specs.Faults.{Located, first_fault}
 use Rattle.spec_text.specs.Readings.{AreTrees, StopsAt, IsBroken, text_limit, kept, is_long, limited}
 use Rattle.spec_text.proofs.Blanks.{HasNoBlank}
 use Rattle.spec_text.proofs.Parsing.{each_parsed}
@@ -28,23 +28,19 @@ use Rattle.model_read.specs.Endings.{AreLeft, IsEnding, EndsHere, FollowsList, L
 use Rattle.model_read.specs.Remaining.{text_of, ReadsOn, BeginsText}
 
 -- no tree comes first
-nothing_first : (n : ℕ) (xs : List (ℕ × Lexeme)) → n ≤ nesting_limit → AreTrees n xs none xs
-nothing_first n xs few = record { split = refl; within = omega (arith, few) }
+nothing_first : (xs : List (ℕ × Lexeme)) → AreTrees xs none xs
+nothing_first xs = refl
 
 -- one tree, and then others
-read_first : (text : List ℕ) (from : Place) (n : ℕ) (s : Sexpr) (after : Place) → n ≤ nesting_limit → ReadsSexpr text from n s after → (us : Trees) (rest : List (ℕ × Lexeme)) → AreTrees n (lexemes_from text after.offset) us rest
-    → AreTrees n (lexemes_from text from.offset) (more (tree_of s) us) rest
-read_first text from n s after few r us rest h =
-    let flat = r.is.within in
-    record {
-      split = r.is.first ∙ ap (λ zs. spelled (tree_of s) ++ zs) h.split ∙ sym (append_assoc (spelled (tree_of s)) (spelled_all us) rest);
-      within = omega (arith, few, flat, h.within);
-    }
+read_first : (text : List ℕ) (from : Place) (s : Sexpr) (after : Place) → ReadsSexpr text from s after → (us : Trees) (rest : List (ℕ × Lexeme)) → AreTrees (lexemes_from text after.offset) us rest
+    → AreTrees (lexemes_from text from.offset) (more (tree_of s) us) rest
+read_first text from s after r us rest h =
+    r.is.first ∙ ap (λ zs. spelled (tree_of s) ++ zs) h ∙ sym (append_assoc (spelled (tree_of s)) (spelled_all us) rest)
 
 -- a tree after the list
-left_behind : (text : List ℕ) (from : Place) (s : Sexpr) (after : Place) (at : ℕ) → ReadsSexpr text from 0 s after → at ≡ offset_of (tree_of s) → EndsBehind (length text) (lexemes_from text from.offset) (left_over at)
+left_behind : (text : List ℕ) (from : Place) (s : Sexpr) (after : Place) (at : ℕ) → ReadsSexpr text from s after → at ≡ offset_of (tree_of s) → EndsBehind (length text) (lexemes_from text from.offset) (left_over at)
 left_behind text from s after at r e =
-    (tree_of s, lexemes_from text after.offset, read_first text from 0 s after (omega arith) r none (lexemes_from text after.offset) (nothing_first 0 (lexemes_from text after.offset) (omega arith)), sym e)
+    (tree_of s, lexemes_from text after.offset, read_first text from s after r none (lexemes_from text after.offset) (nothing_first (lexemes_from text after.offset)), sym e)
 
 -- what ends definitions, by what stops the bytes that are read
 abbrev ending_of : Option Located → Ending
@@ -84,7 +80,7 @@ list_breaks text xs r found s e = record {
 }
 
 -- or a tree
-pub list_goes_on : (text : List ℕ) (from : Place) (s : Sexpr) (after : Place) (at : ℕ) (found : LocatedFault) → ReadsSexpr (kept text) from 0 s after → at ≡ offset_of (tree_of s) → found ≡ record { offset = at; kind = BadShape }
+pub list_goes_on : (text : List ℕ) (from : Place) (s : Sexpr) (after : Place) (at : ℕ) (found : LocatedFault) → ReadsSexpr (kept text) from s after → at ≡ offset_of (tree_of s) → found ≡ record { offset = at; kind = BadShape }
     → FollowsList text (lexemes_from (kept text) from.offset) (Some (located_view found))
 list_goes_on text from s after at found r e is = record { ending = left_over at; behind = left_behind (kept text) from s after at r e; is = ap (λ (f : LocatedFault). Some (located_view f)) (sym is) }
 
@@ -92,13 +88,10 @@ list_goes_on text from s after at found r e is = record { ending = left_over at;
 pub list_finishes : (text : List ℕ) (xs : List (ℕ × Lexeme)) → xs ≡ [] → is_long text ≡ false → FollowsList text xs None
 list_finishes text xs nothing short = record { ending = complete; behind = nothing; is = is_complete text short }
 
-one_round : 1 ≤ nesting_limit
-one_round = omega arith
-
 module _ (text : List ℕ) (xs : List (ℕ × Lexeme)) where
   -- no definition is to come
   none_left : (e : Ending) (found : Option ModelFault) → EndsList (length (kept text)) xs e → IsEnding text (ends e) found → EndsHere text xs found
-  none_left e found h is = record { ending = e; left = record { rest = xs; trees = nothing_first 1 xs one_round; after = h }; is = is }
+  none_left e found h is = record { ending = e; left = record { rest = xs; trees = nothing_first xs; after = h }; is = is }
 
   -- but what cannot be read
   pub left_breaks : (r : Refusal) (found : LocatedFault) → IsStopped text 1 xs r → located_view found ≡ text_fault (refusal_meant r) → EndsHere text xs (Some (located_view found))
@@ -119,9 +112,9 @@ closes_stops old new same after c e (Ok s) h is = absurd is
 closes_stops old new same after c e (Err x) h is = subst (λ (y : ReadError). ReadsOn old (Err y) new) (sym is) (closes_wrong old new same after c e h)
 
 -- a definition was read, and others come after it
-pub left_after : (text : List ℕ) (from : Place) (s : Sexpr) (after : Place) → ReadsSexpr (kept text) from 1 s after → (ts : Trees) (e : Ending) → AreLeft (length (kept text)) (lexemes_from (kept text) after.offset) ts e
+pub left_after : (text : List ℕ) (from : Place) (s : Sexpr) (after : Place) → ReadsSexpr (kept text) from s after → (ts : Trees) (e : Ending) → AreLeft (length (kept text)) (lexemes_from (kept text) after.offset) ts e
     → AreLeft (length (kept text)) (lexemes_from (kept text) from.offset) (more (tree_of s) ts) e
-left_after text from s after r ts e h = record { rest = h.rest; trees = read_first (kept text) from 1 s after one_round r ts h.rest h.trees; after = h.after }
+left_after text from s after r ts e h = record { rest = h.rest; trees = read_first (kept text) from s after r ts h.rest h.trees; after = h.after }
 
 -- after lexemes that are no white space come others that are none
 not_blank_behind : (x : ℕ × Lexeme) (xs : List (ℕ × Lexeme)) → HasNoBlank (x ∷ xs) → HasNoBlank xs
@@ -136,15 +129,13 @@ none_blank_behind [] ys h = h
 none_blank_behind (x ∷ xs) ys h = none_blank_behind xs ys (not_blank_behind x (xs ++ ys) h)
 
 -- what stops trees after a list, the first of them left over
-behind_ending : (end : ℕ) (xs : List (ℕ × Lexeme)) (ts : Trees) (rest : List (ℕ × Lexeme)) → AreTrees 0 xs ts rest → StopsAt end 0 rest → (e : Ending) × EndsBehind end xs e
-behind_ending end xs none rest a (inl x) = (complete, a.split ∙ x.1)
+behind_ending : (end : ℕ) (xs : List (ℕ × Lexeme)) (ts : Trees) (rest : List (ℕ × Lexeme)) → AreTrees xs ts rest → StopsAt end 0 rest → (e : Ending) × EndsBehind end xs e
+behind_ending end xs none rest a (inl x) = (complete, a ∙ x.1)
 behind_ending end xs none rest a (inr (inl x)) = absurd (x.0 refl)
-behind_ending end xs none rest a (inr (inr x)) = (broken x.0, subst (λ ys. IsBroken end 0 ys x.0) (sym a.split) x.1)
+behind_ending end xs none rest a (inr (inr x)) = (broken x.0, subst (λ ys. IsBroken end 0 ys x.0) (sym a) x.1)
 behind_ending end xs (more t us) rest a s =
-    let front : AreTrees 0 xs (more t none) (spelled_all us ++ rest) = record {
-      split = a.split ∙ append_assoc (spelled t) (spelled_all us) rest ∙ sym (append_assoc (spelled t) [] (spelled_all us ++ rest));
-      within = omega (arith, a.within);
-    } in
+    let front : AreTrees xs (more t none) (spelled_all us ++ rest) =
+    a ∙ append_assoc (spelled t) (spelled_all us) rest ∙ sym (append_assoc (spelled t) [] (spelled_all us ++ rest)) in
     (left_over (offset_of t), (t, spelled_all us ++ rest, front, refl))
 
 -- what stops definitions in their list ends them
@@ -152,7 +143,7 @@ list_ending : (end : ℕ) (rest : List (ℕ × Lexeme)) → HasNoBlank rest → 
 list_ending end rest h (inl x) = let zero_is = x.0 in absurd (omega (arith, zero_is))
 list_ending end rest h (inr (inl x)) =
     let clean : HasNoBlank x.2 = subst HasNoBlank x.3 h in
-    let p = each_parsed end 0 x.2 (omega arith) clean in
+    let p = each_parsed end 0 x.2 clean in
     let e = behind_ending end x.2 p.0 p.1 p.2 p.3 in
     (e.0, inl (x.1, x.2, x.3, e.1))
 list_ending end rest h (inr (inr x)) = (broken x.0, inr (x.0, x.1, refl))
@@ -160,8 +151,8 @@ list_ending end rest h (inr (inr x)) = (broken x.0, inr (x.0, x.1, refl))
 -- from lexemes on there are definitions, or none, and something ends them
 pub some_left : (end : ℕ) (xs : List (ℕ × Lexeme)) → HasNoBlank xs → (ts : Trees) × (e : Ending) × AreLeft end xs ts e
 some_left end xs h =
-    let p = each_parsed end 1 xs one_round h in
-    let e = list_ending end p.1 (none_blank_behind (spelled_all p.0) p.1 (subst HasNoBlank p.2.split h)) p.3 in
+    let p = each_parsed end 1 xs h in
+    let e = list_ending end p.1 (none_blank_behind (spelled_all p.0) p.1 (subst HasNoBlank p.2 h)) p.3 in
     (p.0, e.0, record { rest = p.1; trees = p.2; after = e.1 })
 
 -- a text that is no list
@@ -206,7 +197,7 @@ module _ (text : List ℕ) (xs : List (ℕ × Lexeme)) (found : LocatedFault) wh
       go (Some f) b h = record { ending = ends (broken f); none_there = broken_here (length (kept text)) xs f shut b; is = is_fault text (Some f) r found h e }
 
 -- by a tree that is none
-pub no_list_tree : (text : List ℕ) (from : Place) (s : Sexpr) (after : Place) (at : ℕ) (found : LocatedFault) → ReadsSexpr (kept text) from 0 s after → HasNoOpening (lexemes_from (kept text) from.offset) → at ≡ offset_of (tree_of s)
+pub no_list_tree : (text : List ℕ) (from : Place) (s : Sexpr) (after : Place) (at : ℕ) (found : LocatedFault) → ReadsSexpr (kept text) from s after → HasNoOpening (lexemes_from (kept text) from.offset) → at ≡ offset_of (tree_of s)
     → found ≡ record { offset = at; kind = BadShape } → IsNoList text (lexemes_from (kept text) from.offset) (located_view found)
 no_list_tree text from s after at found r shut e is = record {
   ending = ends (left_over (offset_of (tree_of s)));

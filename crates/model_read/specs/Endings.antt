@@ -17,7 +17,7 @@ pub record AreLeft (end : ℕ) (xs : List (ℕ × Lexeme)) (ts : Trees) (e : End
   -- the lexemes after the definitions
   pub rest : List (ℕ × Lexeme)
   -- the definitions come first
-  pub trees : AreTrees 1 xs ts rest
+  pub trees : AreTrees xs ts rest
   -- the ending is after them
   pub after : EndsList end rest e
 

@@ -18,7 +18,7 @@ use std::alloc::Global;
 
 /// A model's text, and the place in its list up to which its definitions were read.
 ///
-/// The list is after a first word `sat` or without it. Of the text the first 2^26 bytes are read. Contracts see the
+/// The list is after a first word `sat` or without it. Of the text the first 2^30 bytes are read. Contracts see the
 /// text and the definitions that are to come, by the relation `AreRemaining`. Source: SMT-LIB 2.6, section 4.1.8; the
 /// word is own.
 #[derive(Clone, Copy, Debug)]

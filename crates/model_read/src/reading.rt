@@ -86,7 +86,7 @@ fn placed(bytes: &[u8], fault: LocatedFault) -> ModelStop
 /// The file is the word `sat` or nothing, and then one list of definitions `(define-fun f ((x S) ..) S body)`. A body
 /// is a value, or `(ite C v body)` where there are parameters, with `C` an equality `(= x a)` for one parameter, else
 /// the conjunction of one for each. A symbol without a definition has everywhere the value false, 0, or the first
-/// element. Of the text the first 2^26 bytes are read.
+/// element. Of the text the first 2^30 bytes are read.
 ///
 /// - `Fault` has the first fault in reading order, with its place in the text. `Lexical` comes where the text cannot
 ///   be read on, or has more bytes than are read; `BadShape` at a part of another form, at the end of a text without

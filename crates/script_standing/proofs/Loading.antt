@@ -25,18 +25,14 @@ use Rattle.assertion_stack.specs.Stacks.{OverTable, EffectMeans, IsStack, Steps}
 use Rattle.script_standing.specs.Loads.{IsLoaded}
 
 -- no tree comes first
-nothing_first : (xs : List (ℕ × Lexeme)) → AreTrees 0 xs none xs
-nothing_first xs = record { split = refl; within = omega arith }
+nothing_first : (xs : List (ℕ × Lexeme)) → AreTrees xs none xs
+nothing_first xs = refl
 
 -- one tree that was read, and then others
-read_first : (text : List ℕ) (from : Place) (s : Sexpr) (after : Place) → ReadsSexpr text from 0 s after → (us : Trees) (rest : List (ℕ × Lexeme)) → AreTrees 0 (lexemes_from text after.offset) us rest
-    → AreTrees 0 (lexemes_from text from.offset) (more (tree_of s) us) rest
+read_first : (text : List ℕ) (from : Place) (s : Sexpr) (after : Place) → ReadsSexpr text from s after → (us : Trees) (rest : List (ℕ × Lexeme)) → AreTrees (lexemes_from text after.offset) us rest
+    → AreTrees (lexemes_from text from.offset) (more (tree_of s) us) rest
 read_first text from s after r us rest h =
-    let flat = r.is.within in
-    record {
-      split = r.is.first ∙ ap (λ zs. spelled (tree_of s) ++ zs) h.split ∙ sym (append_assoc (spelled (tree_of s)) (spelled_all us) rest);
-      within = omega (arith, flat, h.within);
-    }
+    r.is.first ∙ ap (λ zs. spelled (tree_of s) ++ zs) h ∙ sym (append_assoc (spelled (tree_of s)) (spelled_all us) rest)
 
 -- A script was read up to an offset: each reading from there on is one of all, and has its check.
 pub record Loading (bytes : List ℕ) (k : ℕ) (x : OverTable) (at left : ℕ) : Type 0 where
@@ -45,18 +41,18 @@ pub record Loading (bytes : List ℕ) (k : ℕ) (x : OverTable) (at left : ℕ) 
   -- what the code holds represents it
   pub represents : IsStack term_limit x stack
   -- what comes after
-  pub onward : (us : Trees) (rest : List (ℕ × Lexeme)) → AreTrees 0 (lexemes_from bytes at) us rest
-      → (ts : Trees) × AreTrees 0 (lexemes 0 0 bytes) ts rest × (current_at term_limit empty_stack k ts ≡ current_at term_limit stack left us)
+  pub onward : (us : Trees) (rest : List (ℕ × Lexeme)) → AreTrees (lexemes_from bytes at) us rest
+      → (ts : Trees) × AreTrees (lexemes 0 0 bytes) ts rest × (current_at term_limit empty_stack k ts ≡ current_at term_limit stack left us)
 
 pub loading_begins : (bytes : List ℕ) (k : ℕ) (x : OverTable) (at : ℕ) → at ≡ 0 → IsStack term_limit x empty_stack → Loading bytes k x at k
-loading_begins bytes k x at e h = record { stack = empty_stack; represents = h; onward = λ us rest a. (us, subst (λ n. AreTrees 0 (lexemes_from bytes n) us rest) e a, refl) }
+loading_begins bytes k x at e h = record { stack = empty_stack; represents = h; onward = λ us rest a. (us, subst (λ n. AreTrees (lexemes_from bytes n) us rest) e a, refl) }
 
-read_whole : (text : List ℕ) (ts : Trees) (rest : List (ℕ × Lexeme)) (stop : Option Located) → AreTrees 0 (lexemes 0 0 (kept text)) ts rest → EndsTrees (length (kept text)) rest stop → IsReadUpTo text ts (limited (is_long text) stop)
+read_whole : (text : List ℕ) (ts : Trees) (rest : List (ℕ × Lexeme)) (stop : Option Located) → AreTrees (lexemes 0 0 (kept text)) ts rest → EndsTrees (length (kept text)) rest stop → IsReadUpTo text ts (limited (is_long text) stop)
 read_whole text ts rest stop a s = record { rest = rest; trees = a; stop = stop; stops = s; is = refl }
 
 -- each text is read
 abbrev pub EachIsRead : List ℕ → ℕ → Type 0
-EachIsRead bytes at = (ts : Trees) × (rest : List (ℕ × Lexeme)) × AreTrees 0 (lexemes_from bytes at) ts rest × StopsAt (length bytes) 0 rest
+EachIsRead bytes at = (ts : Trees) × (rest : List (ℕ × Lexeme)) × AreTrees (lexemes_from bytes at) ts rest × StopsAt (length bytes) 0 rest
 
 -- the check that comes, by what a command comes to
 module _ (s : Stack) (t : Tree) (vs : Trees) (left : ℕ) where
@@ -106,10 +102,10 @@ module _ (text : List ℕ) (k : ℕ) (x : OverTable) (from : Place) (left : ℕ)
   pub script_breaks : (r : Refusal) → IsStopped text 0 (lexemes_from (kept text) from.offset) r → HasNoCheck term_limit text k
   script_breaks r b = script_ends b.stop (stops_in (length (kept text)) (lexemes_from (kept text) from.offset) b.stop b.stops)
 
-  module _ (s : Sexpr) (after : Place) (r : ReadsSexpr (kept text) from 0 s after) where
+  module _ (s : Sexpr) (after : Place) (r : ReadsSexpr (kept text) from s after) where
     -- what comes next, in all
-    next_tree : (us : Trees) (rest : List (ℕ × Lexeme)) → AreTrees 0 (lexemes_from (kept text) after.offset) us rest
-        → (ts : Trees) × AreTrees 0 (lexemes 0 0 (kept text)) ts rest × (current_at term_limit empty_stack k ts ≡ current_at term_limit l.stack left (more (tree_of s) us))
+    next_tree : (us : Trees) (rest : List (ℕ × Lexeme)) → AreTrees (lexemes_from (kept text) after.offset) us rest
+        → (ts : Trees) × AreTrees (lexemes 0 0 (kept text)) ts rest × (current_at term_limit empty_stack k ts ≡ current_at term_limit l.stack left (more (tree_of s) us))
     next_tree us rest a = l.onward (more (tree_of s) us) rest (read_first (kept text) from s after r us rest a)
 
     -- what the command comes to

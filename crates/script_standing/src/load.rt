@@ -87,7 +87,7 @@ fn current_in(alloc: Global, text: LimitedText<'_>, at: u64) -> Result<Option<Sc
 /// Takes the commands of a script up to its `at`-th check, counted from 1, and gives what is current there: `None` where
 /// the script ends before it, by its end, by `exit`, or by a fault after which it cannot be read on.
 ///
-/// Commands that are refused change nothing, and are passed over. Of the script the first 2^26 bytes are read. `NoMemory`
+/// Commands that are refused change nothing, and are passed over. Of the script the first 2^30 bytes are read. `NoMemory`
 /// may come at any allocation, and says nothing of the script. Source: SMT-LIB 2.6, sections 4.1.4 and 4.2.5.
 pub fn current_at(alloc: Global, text: &[u8], at: u64) -> Result<Option<Script>, NoMemory>
     ensures { Loads text.now at result }

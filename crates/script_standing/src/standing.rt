@@ -78,7 +78,7 @@ fn asked(alloc: Global, stack: &Stack, assumed: &Assumed) -> Result<Vec<Expressi
 /// Says what the `at`-th check of a script asks about, counted from 1: `None` where the script ends before it, by its end,
 /// by `exit`, or by a fault after which it cannot be read on.
 ///
-/// Commands that are refused are passed over. Of the script the first 2^26 bytes are read. `NoMemory` may come at any
+/// Commands that are refused are passed over. Of the script the first 2^30 bytes are read. `NoMemory` may come at any
 /// allocation, and says nothing of the script. Time and memory go with the script's bytes and the terms that they are
 /// read as. Source: SMT-LIB 2.6, sections 4.1.4 and 4.2.5.
 pub fn standing_at(alloc: Global, script: &[u8], at: u64) -> Result<Option<Standing>, NoMemory>

@@ -12,7 +12,7 @@ use Rattle.alethe_reader.proofs.reader.Reader.next.Goals as goal
 pub returns-in-Ok-One-clause-next : goal.returns-in-Ok-One-clause-next
 returns-in-Ok-One-clause-next c =
     let r = c.args.self.now in
-    let read = rw c.lists_round.ensures at (rw c.in-Ok-One.field-0-is at c.in-Ok-One.ensures) in
+    let read = rw c.in-Ok-One.field-0-is at c.in-Ok-One.ensures in
     let clean = lexemes_have_no_blank 0 c.in-Ok-One.after.offset (drop c.in-Ok-One.after.offset (kept (text_of r))) in
     let h = some_left r.listed (length (kept (text_of r))) (lexemes_from (kept (text_of r)) c.in-Ok-One.after.offset) clean in
     record {
