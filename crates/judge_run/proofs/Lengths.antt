@@ -28,7 +28,6 @@ text_name faults.UnclosedString = omega arith
 text_name faults.UnclosedQuote = omega arith
 text_name faults.UnclosedList = omega arith
 text_name faults.StrayClose = omega arith
-text_name faults.TooDeep = omega arith
 text_name faults.TooLong = omega arith
 text_name faults.UnknownCommand = omega arith
 text_name faults.BadShape = omega arith

@@ -16,7 +16,7 @@ use world_io::{ReadStop, Shelf, Sink};
 /// Judges the text of a request against its script, and writes the verdict: `valid`, or the first fault with its line and
 /// column. Those of an expression that is not true are in the script, all others in the text.
 ///
-/// Both texts are read, the script first, before anything is judged. Of each text the first 2^26 bytes are judged: a check
+/// Both texts are read, the script first, before anything is judged. Of each text the first 2^30 bytes are judged: a check
 /// after them is not there, and a text that goes on after them has a fault.
 ///
 /// `Done` comes where the text is accepted, `Refused` where it has a fault, `Memory` where an allocation was refused, and

@@ -134,7 +134,7 @@ module _ (limits : Limits) (mode : Mode) (text : List ℕ) (old : SinkView) wher
     module _ (t : Tree) (next : IsNext bytes at t) (a : Answered) (answers : Answers limits i.state t a) (r : EachIsRead bytes (end_of t)) where
       pub ended_here : (new : SinkView) → is_end a.response ≡ true → is_rejected a.response ≡ false → Sent (response_text mode bytes a) now new × (new.pending ≡ []) → RunsText limits mode text (ended_by refused) old new
       ended_here new last taken wrote =
-          let h = script_ends limits mode text bytes refl at (end_of t) t next.first next.within i.state i.given i.going a answers r i.goes_on last taken in
+          let h = script_ends limits mode text bytes refl at (end_of t) t next.first i.state i.given i.going a answers r i.goes_on last taken in
           by refused (subst (IsTranscript limits mode text _) (sym i.told) h) (delivered_more written (response_text mode bytes a) old now new i.written wrote)
         where
           by : (q : Bool) → IsTranscript limits mode text (written ++ response_text mode bytes a) q → Delivered (written ++ response_text mode bytes a) old new → RunsText limits mode text (ended_by q) old new
@@ -144,6 +144,6 @@ module _ (limits : Limits) (mode : Mode) (text : List ℕ) (old : SinkView) wher
       pub write_failed : (new : SinkView) → NotSent (response_text mode bytes a) now new → RunsText limits mode text statuses.WriteFault old new
       write_failed new wrote = (
         written ++ response_text mode bytes a,
-        begun_next limits mode text bytes refl at (end_of t) t next.first next.within i.state i.given i.going a answers r,
+        begun_next limits mode text bytes refl at (end_of t) t next.first i.state i.given i.going a answers r,
         failed (response_text mode bytes a) new wrote,
       )

@@ -26,7 +26,7 @@ Holdings = List ℕ → Option (List ℕ)
 
 -- no more bytes are taken of a text: those that are read, and one read more
 abbrev pub most_taken : ℕ
-most_taken = 2 ^ 26 + 2 ^ 16
+most_taken = 2 ^ 30 + 2 ^ 16
 
 -- a prefix of the known bytes was taken, of so many bytes at most, and the rest is left
 abbrev pub TakesText : Option (List ℕ) → Option (List ℕ) → Type 0

@@ -123,7 +123,7 @@ fn run_begun<F: Shelf, K: Sink>(
 /// - `WriteFault` comes where the sink failed; a prefix of what was to be written was, and there was no room for all of it.
 /// - `Words` never comes.
 ///
-/// Of the text the first 2^26 bytes are read; where there are more, the first of them is the fault `TooLong`, unless the run
+/// Of the text the first 2^30 bytes are read; where there are more, the first of them is the fault `TooLong`, unless the run
 /// ends before. At most one read more is taken. Source: SMT-LIB 2.6, sections 3.9 and 4.2; the limit, and when a read is asked for, are own.
 pub fn run_script<F: Shelf, K: Sink>(
     alloc: Global,

@@ -26,7 +26,7 @@ use world_io::Sink;
 ///
 /// Each response is passed on: where nothing waited in a buffer before, nothing waits after a run that the sink did not end.
 ///
-/// Of the text the first 2^26 bytes are read; where there are more, the first of them is the fault `TooLong`, unless the
+/// Of the text the first 2^30 bytes are read; where there are more, the first of them is the fault `TooLong`, unless the
 /// run ends before. Source: SMT-LIB 2.6, sections 3.9 and 4.2; the limit is own.
 pub fn run_text<K: Sink>(
     alloc: Global,

@@ -146,7 +146,7 @@ neither false y e h = h
 -- The commands of a text up to an offset were answered, and all of them were taken.
 pub record AnsweredUpTo (limits : Limits) (text : List ℕ) (x : SessionView) (at : ℕ) (out : List ℕ) : Type 0 where
   pub commands : Trees
-  pub trees : AreTrees 0 (lexemes 0 0 (kept text)) commands (lexemes_from (kept text) at)
+  pub trees : AreTrees (lexemes 0 0 (kept text)) commands (lexemes_from (kept text) at)
   pub given : List Answered
   pub runs : Runs limits first_state commands given
   pub goes_on : list_any (λ (a : Answered). is_end a.response) given ≡ false
@@ -166,7 +166,7 @@ pub none_answered : (text : List ℕ) (x : SessionView) (at : ℕ) (out : List �
 unfolding Runs
 none_answered text x at out e represents mode empty = record {
   commands = none;
-  trees = record { split = ap (lexemes_from (kept text)) (sym e); within = omega arith };
+  trees = ap (lexemes_from (kept text)) (sym e);
   given = [];
   runs = refl;
   goes_on = refl;
@@ -211,7 +211,7 @@ module _ (limits : Limits) (text : List ℕ) (x : SessionView) (at : ℕ) (out :
         go None e = e
         go (Some c) e = absurd (answer_has_bytes c.found (evidence_text c) (sym (g.one c e).1 ∙ empty))
 
-    module _ (c : Sexpr) (from after : Place) (reads : ReadsSexpr (kept text) from 0 c after) (here : from.offset ≡ at) (y : SessionView) (a : Answered) (answer : IsAnswered before c x y a) (went : afters.Went ≡ after_meant a.response) where
+    module _ (c : Sexpr) (from after : Place) (reads : ReadsSexpr (kept text) from c after) (here : from.offset ≡ at) (y : SessionView) (a : Answered) (answer : IsAnswered before c x y a) (went : afters.Went ≡ after_meant a.response) where
       answers : Answers limits before (tree_of c) a
       answers = subst (λ l. Answers l before (tree_of c) a) g.limits_are answer.answers
 
@@ -219,11 +219,8 @@ module _ (limits : Limits) (text : List ℕ) (x : SessionView) (at : ℕ) (out :
       first : lexemes_from (kept text) at ≡ spelled (tree_of c) ++ lexemes_from (kept text) after.offset
       first = subst (λ n. lexemes_from (kept text) n ≡ spelled (tree_of c) ++ lexemes_from (kept text) after.offset) here reads.is.first
 
-      one_tree : AreTrees 0 (lexemes_from (kept text) at) (more (tree_of c) none) (lexemes_from (kept text) after.offset)
-      one_tree = record {
-        split = first ∙ ap (λ xs. xs ++ lexemes_from (kept text) after.offset) (sym (append-nil (spelled (tree_of c))));
-        within = omega (arith, reads.is.within);
-      }
+      one_tree : AreTrees (lexemes_from (kept text) at) (more (tree_of c) none) (lexemes_from (kept text) after.offset)
+      one_tree = first ∙ ap (λ xs. xs ++ lexemes_from (kept text) after.offset) (sym (append-nil (spelled (tree_of c))))
 
       left : (state_left first_state (g.given ++ a ∷ [])).answer ≡ answer_of a.response
       left = ap (λ (s : State). s.answer) (left_by_last first_state g.given a) ∙ by_tree limits before a not_answered (tree_of c) (question_of (tree_of c)) answers

@@ -6,10 +6,9 @@ use Rattle.world_io.specs.declared.fault.Failed.{Failed}
 use Rattle.world_io.specs.Writing.{SinkView, NotSent}
 use Rattle.std.proofs.lemmas.List.{length-append}
 use Rattle.std.proofs.Math.Seq.{drop-append_seam}
-use Rattle.std.proofs.lemmas.Bool.Decides.{nat_tests}
-use Rattle.spec_text.specs.Readings.{text_limit, is_long}
 use Rattle.spec_commands.specs.Checks.{Check}
 use Rattle.spec_proofs.specs.Faults.{Fault}
+use Rattle.spec_checking.specs.Limits.{LeaveRoom}
 use Rattle.spec_checking.specs.Accepted.{IsAccepted, IsVerdict}
 use Rattle.spec_sessions.specs.Evidence.{Limits, Found, model, proof, spent, overflowed, Checked}
 use Rattle.spec_sessions.specs.States.{State, ExecutionMode, start_mode, assert_mode, sat_mode, unsat_mode, unknown_mode, mode_found, mode_answered, mode_of}
@@ -80,9 +79,6 @@ delivers_failed line (Ok u) a b h s = absurd (false≢true h)
 delivers_failed line (Err e) a b h s = s
 
 -- what is no longer than a text may be
-pub is_short : (bytes : List ℕ) → length bytes ≤ text_limit → is_long bytes ≡ false
-is_short bytes h = grind (arith, nat_tests, h)
-
 -- that without a fault a proof is accepted, and the other way round, and that there is one verdict
 abbrev pub AcceptedLaw : Type 0
 AcceptedLaw = (script proof : List ℕ) (k : ℕ) → (IsVerdict script k proof None → IsAccepted script k proof) × (IsAccepted script k proof → IsVerdict script k proof None)
@@ -91,9 +87,9 @@ abbrev pub OneLaw : Type 0
 OneLaw = (script proof : List ℕ) (k : ℕ) (a b : Option Fault) → IsVerdict script k proof a → IsVerdict script k proof b → a ≡ b
 
 -- the proof of the script's check is accepted
-pub is_no_fault : AcceptedLaw → OneLaw → (text evidence : List ℕ) (c : Checked) → AnswerSays usual_limits text 1 c → unsat_mode ≡ mode_found c.found → evidence ≡ evidence_text c → is_long evidence ≡ false
+pub is_no_fault : AcceptedLaw → OneLaw → (text evidence : List ℕ) (c : Checked) → AnswerSays usual_limits text 1 c → unsat_mode ≡ mode_found c.found → evidence ≡ evidence_text c → LeaveRoom text evidence
     → (r : Result (Unit {0}) ProofStop) → AnswersVerdict text 1 evidence r → IsNoFault r
-is_no_fault accepts one text evidence c say mode is short r h = go c.check c.found say.means mode is r h
+is_no_fault accepts one text evidence c say mode is room r h = go c.check c.found say.means mode is r h
   where
     go : (check : Check) (f : Found) → FindingMeans usual_limits text 1 check f → unsat_mode ≡ mode_found f → evidence ≡ evidence_text (record { check = check; found = f }) → (r : Result (Unit {0}) ProofStop) → AnswersVerdict text 1 evidence r → IsNoFault r
     go check (model i) m mode is r h = cc
@@ -102,7 +98,7 @@ is_no_fault accepts one text evidence c say mode is short r h = go c.check c.fou
     go check (proof p) m mode is (Ok u) h = tt
     go check (proof p) m mode is (Err stops.Memory) h = tt
     go check (proof p) m mode is (Err (stops.Fault f)) h =
-        let accepted = subst (IsAccepted text 1) (sym is) (m.accepted refl (subst (λ bytes. is_long bytes ≡ false) is short)) in
+        let accepted = subst (IsAccepted text 1) (sym is) (m.accepted refl (subst (LeaveRoom text) is room)) in
         let same = one text evidence 1 None _ ((accepts text evidence 1).1 accepted) h.0 in
         cc
 

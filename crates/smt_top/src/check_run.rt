@@ -63,7 +63,7 @@ fn run_usage<K: Sink>(out: &mut K) -> Status
 /// - `solve [--conflicts N] [NAME]` runs the script of that name and writes the standard's responses; an absent name is the
 ///   empty one. `certify` does the same, and writes after the answer of each check what shows it: a model, a proof or a
 ///   reason. N is the most conflicts of each search of a check, 1,000,000 where it is not given. Of the text the first
-///   2^26 bytes are run. A read is asked for only where no further command is whole in the bytes that came, and the
+///   2^30 bytes are run. A read is asked for only where no further command is whole in the bytes that came, and the
 ///   responses to all that are were written and passed on.
 /// - `check [--at K] SCRIPT PROOF` judges the proof against the script's K-th check, from 1, or the first where K is not
 ///   given: it writes `valid`, or the proof's first fault with its line and column.
@@ -82,7 +82,7 @@ fn run_usage<K: Sink>(out: &mut K) -> Status
 /// run, or of the line, and the sink had no room for all of it.
 ///
 /// What is written is passed on: where nothing waited in a buffer before, nothing waits after `Done`, `Refused` and `Words`.
-/// Of the text that was read last at most 2^26 bytes and one read more are taken. After `Memory` and `ReadFault` no clause
+/// Of the text that was read last at most 2^30 bytes and one read more are taken. After `Memory` and `ReadFault` no clause
 /// says how many. Where the arguments ask for no text, the shelf is as it was.
 pub fn run<F: Shelf, K: Sink>(
     alloc: Global,

@@ -2,7 +2,7 @@
 
 ghost use Rattle.std.specs.Prelude.{◌≡◌, ◌≢◌, ◌+◌, ◌≤◌, [], length, drop, Some, IfOk};
 ghost use Rattle.spec_sessions.specs.Evidence.{Checked};
-ghost use Rattle.spec_sessions.specs.States.{State, first_state, mode_found};
+ghost use Rattle.spec_sessions.specs.States.{State, first_state, unsat_mode, mode_found};
 ghost use Rattle.spec_sessions.specs.Responses.{certify, evidence_text};
 ghost use Rattle.spec_sessions.specs.Meaning.{AnswerSays};
 ghost use Rattle.check_evidence.specs.Evidence.{limits_meant};
@@ -80,6 +80,27 @@ fn after_line<'a>(written: &'a [u8], word: &[u8]) -> &'a [u8]
     &written[word.len() + 1..]
 }
 
+/// So many bytes a script and a proof have at most that surely have room for no more names and terms than `check` takes.
+const ROOMY: usize = 1 << 26;
+
+/// Judges a proof of the one check of a script, where both are so short that it is accepted.
+///
+/// `Memory` comes where an allocation was refused. `Fault` never comes of the proof that shows the script's answer.
+fn judge_proof(alloc: Global, script: &[u8], proof: &[u8]) -> Result<(), ProofStop>
+    ensures { (c : Checked) → AnswerSays usual_limits script.now 1 c → unsat_mode ≡ mode_found c.found
+        → proof.now ≡ evidence_text c → IsNoFault result }
+{
+    spec_checking::laws::accepted_proofs_have_no_fault();
+    spec_checking::laws::verdict_is_one();
+    if script.len() > ROOMY {
+        return Ok(());
+    }
+    if proof.len() > ROOMY {
+        return Ok(());
+    }
+    check(alloc, script, 1, proof)
+}
+
 /// Judges a model of the one check of a script. What is found of it changes nothing: of one that is right an operation may
 /// leave the bound on fractions.
 ///
@@ -93,8 +114,8 @@ fn judge_model(alloc: Global, script: &[u8], model: &[u8]) -> Result<(), ProofSt
     }
 }
 
-/// Judges the evidence of the one check of a script, by the mode after it: a proof that `check` would read, which is accepted,
-/// or a model that `validate` would read.
+/// Judges the evidence of the one check of a script, by the mode after it: a proof that is short enough to be accepted, or a
+/// model that `validate` would read.
 ///
 /// `Memory` comes where an allocation was refused. `Fault` never comes of evidence of the script's check.
 fn judge(
@@ -106,10 +127,8 @@ fn judge(
     ensures { (c : Checked) → AnswerSays usual_limits script.now 1 c → execution_meant mode ≡ mode_found c.found
         → evidence.now ≡ evidence_text c → IsNoFault result }
 {
-    spec_checking::laws::accepted_proofs_have_no_fault();
-    spec_checking::laws::verdict_is_one();
     match mode {
-        ExecutionMode::Unsat if evidence.len() <= TEXT_LIMIT => check(alloc, script, 1, evidence),
+        ExecutionMode::Unsat => judge_proof(alloc, script, evidence),
         ExecutionMode::Sat if evidence.len() <= TEXT_LIMIT => judge_model(alloc, script, evidence),
         _ => Ok(()),
     }
