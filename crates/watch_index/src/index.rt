@@ -1,6 +1,6 @@
 //! Numbers by literals.
 
-ghost use Rattle.std.specs.Prelude.{◌≡◌, ◌<◌, [], OnOk, OnErr, MatchOption, length, map, set, get_or, All, Contains};
+ghost use Rattle.std.specs.Prelude.{◌≡◌, ◌<◌, [], OnOk, OnErr, IfSome, MatchOption, length, map, set, get_or, All, Contains};
 ghost use Rattle.watch_index.specs.Indexes.{code, list_of, numbers_below, renumbered, IsAppended, IsTakenOut, IsMoved, IsMovedOf, IsListTaken};
 
 use crate::lists::{code_of, drop_all_from, exchange, place_of, put_at, take_out};
@@ -13,8 +13,26 @@ use term_core::Lit;
 /// What the term of a literal must be below, to have a list.
 const MOST: u64 = 1 << 62;
 
-/// Gives the last place of a number in a list.
-fn last_of(list: &[u64], number: u64) -> Option<usize>
+/// Finds a number at a place that is so far after another one, or so far before it.
+fn beside(list: &[u64], number: u64, start: usize, distance: usize) -> Option<usize>
+    ensures { IfSome result (λ at. (at < length list.now) × (get_or list.now at 0 ≡ number)) }
+{
+    if start > list.len() || distance > list.len() {
+        return None;
+    }
+    let after = start + distance;
+    if after < list.len() && list[after] == number {
+        return Some(after);
+    }
+    let before = start.saturating_sub(distance);
+    if before < list.len() && list[before] == number {
+        return Some(before);
+    }
+    None
+}
+
+/// Finds a number in a list: the sooner the nearer it is to the list's end, or to a place where it may be.
+fn place_near(list: &[u64], number: u64, start: usize) -> Option<usize>
     ensures { MatchOption result (Contains list.now number → ⊥)
         (λ at. (at < length list.now) × (get_or list.now at 0 ≡ number)) }
 {
@@ -24,8 +42,29 @@ fn last_of(list: &[u64], number: u64) -> Option<usize>
         if list[at] == number {
             return Some(at);
         }
+        if let Some(found) = beside(list, number, start, list.len() - 1 - at) {
+            return Some(found);
+        }
     }
     None
+}
+
+/// Gives the place that is kept for a literal's term, and 0 where none is.
+fn start_of(found: &[usize], lit: Lit) -> usize {
+    match found.get(lit.term.0 as usize) {
+        Some(at) => *at,
+        None => 0,
+    }
+}
+
+/// Keeps a place for a literal's term. Where there is no memory it keeps none.
+fn keep_start(found: &mut Vec<usize>, lit: Lit, at: usize) {
+    'terms: while found.len() as u64 <= lit.term.0 {
+        let Ok(()) = found.push(0) else {
+            return;
+        };
+    }
+    found[lit.term.0 as usize] = at;
 }
 
 /// Holds for each literal a list of numbers of clauses.
@@ -36,6 +75,8 @@ fn last_of(list: &[u64], number: u64) -> Option<usize>
 pub struct WatchIndex {
     alloc: Global,
     all: Vec<Vec<u64>>,
+    /// For each term, as far as there was memory, the place at which `move_to` found a number last. It costs time alone.
+    found: Vec<usize>,
 }
 
 impl Model for WatchIndex {
@@ -56,6 +97,7 @@ impl WatchIndex {
         WatchIndex {
             alloc,
             all: Vec::new(alloc),
+            found: Vec::new(alloc),
         }
     }
 
@@ -118,8 +160,9 @@ impl WatchIndex {
         }
     }
 
-    /// Moves the last entry of a number in one literal's list to the end of another's. It takes time in proportion to how many
-    /// entries come after it.
+    /// Moves an entry of a number in one literal's list to the end of another's. It takes time in proportion to how far the entry
+    /// is from the list's end, or from where the last one was that was so moved: so numbers that are moved in their order take
+    /// constant time each.
     ///
     /// `NoMemory` comes where the other list finds no memory; then the index is as it was.
     pub fn move_to(&mut self, from: Lit, to: Lit, clause: u64) -> Result<(), NoMemory>
@@ -127,8 +170,11 @@ impl WatchIndex {
         ensures ok { OnOk result (IsMovedOf self.old from clause to self.new) }
         ensures err { OnErr result (self.new ≡ self.old) }
     {
-        match last_of(self.list(from), clause) {
-            Some(at) => self.move_at(from, at, to),
+        match place_near(self.list(from), clause, start_of(&self.found, from)) {
+            Some(at) => {
+                keep_start(&mut self.found, from, at);
+                self.move_at(from, at, to)
+            }
             None => Ok(()),
         }
     }

@@ -1,6 +1,6 @@
 -- From here on it is not there.
 use Rattle.std.proofs.Common.{◌≡◌, ◌≤◌, ◌<◌, ℕ, length, get_or}
-use Rattle.watch_index.proofs.index.last_of.Given as goal
+use Rattle.watch_index.proofs.index.place_near.Given as goal
 
 abbrev pub invariant-entries : goal.invariant-entries
 invariant-entries l = record {
