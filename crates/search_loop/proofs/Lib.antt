@@ -8,6 +8,7 @@ pub mod SearchLevels
 pub mod SearchStored
 pub mod SearchDecisions
 pub mod SearchReady
+pub mod SearchAppends
 pub mod SearchNew
 pub mod SearchApart
 pub mod SearchMore

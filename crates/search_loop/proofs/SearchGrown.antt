@@ -27,6 +27,7 @@ use Rattle.search_loop.specs.Rounds.{HasDerived, BeganAfter, HasWholeClauses, Is
 use Rattle.search_loop.proofs.SearchLists.{of_kept, images_kept}
 use Rattle.search_loop.proofs.SearchLogs.{derived_lemmas, whole_on, began_onward}
 use Rattle.search_loop.proofs.SearchReady.{clauses_in}
+use Rattle.search_loop.proofs.SearchAppends.{appends_logged}
 use Rattle.search_loop.proofs.SearchStored.{derives_on}
 use Rattle.search_loop.proofs.SearchApart.{apart_on}
 
@@ -150,6 +151,7 @@ module _ (t u : TableView) (g : Extends t u) (declared : declared_in u ≡ decla
       learned = sym (append-nil x.budget.learned);
       vars = refl;
       terms = refl;
+      appended = appends_logged x (record x { log = log; fed = n }) (more, last) (record { clauses = refl; steps = refl }) refl refl;
       search = search_grown lemmas;
       apart = λ problem earlier s a. apart_on t u x (record x { log = log; fed = n }) (λ c i. subst (λ (cs : List (List Literal)). Contains cs c) (sym (images_kept t u g x.store.clauses stored_in)) i) problem earlier a (images_kept t u g x.budget.learned r.learned);
     }

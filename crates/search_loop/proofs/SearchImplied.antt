@@ -91,6 +91,6 @@ module _ (t : TableView) (differ : AreDifferent t.terms) (x : Search) (r : Searc
         adds = adds;
         more = ap length pushed.literals ∙ length-append x.trail.literals (l ∷ []);
         ready = ready_propagated t stored after ready_stored refl refl refl refl refl (record { clauses = refl; steps = refl }) seen_on implied_on adds;
-        continues = continues_on t t t x stored after (continues_kept t x r step held clash of_atoms s a) (continues_same t stored after refl refl refl pushed.vars refl refl);
+        continues = continues_on t t t x stored after (continues_kept t x r step held clash of_atoms s a) (continues_same t stored after refl refl refl pushed.vars refl refl refl refl);
         asked = λ w asked. record { keeps = keeps_propagated w s x.trail v leveled.levels_paired leveled.reasons_paired adds asked.keeps; terms = asked.terms; fed = asked.fed };
       }

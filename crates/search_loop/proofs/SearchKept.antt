@@ -27,6 +27,7 @@ use Rattle.search_loop.proofs.SearchDecisions.{decided_wider}
 use Rattle.search_loop.proofs.SearchStored.{derives_with}
 use Rattle.search_loop.proofs.SearchLogs.{derived_stored}
 use Rattle.search_loop.proofs.SearchApart.{apart_on}
+use Rattle.search_loop.proofs.SearchAppends.{front_same, appends_stored}
 
 module _ (t : TableView) (x : Search) (r : SearchFits t x) (step : StepId) (held : List Lit) (clash : IsClash t x.log held step) (of_atoms : AreOfAtoms x.atoms.items held)
     (s : StoreView) (a : IsAdded t x.log step x.store s) where
@@ -92,4 +93,4 @@ module _ (t : TableView) (x : Search) (r : SearchFits t x) (step : StepId) (held
 
   -- it goes on
   pub continues_kept : Continues t t x (record x { store = s })
-  continues_kept = record { table = Extends-self t; declared = refl; limit = refl; more = []; learned = sym (append-nil x.budget.learned); vars = refl; terms = refl; search = search_kept; apart = λ problem earlier z a. apart_on t t x (record x { store = s }) still problem earlier a refl }
+  continues_kept = record { table = Extends-self t; declared = refl; limit = refl; more = []; learned = sym (append-nil x.budget.learned); vars = refl; terms = refl; appended = appends_stored t x.log step x (record x { store = s }) (front_same x.log x.log refl) a refl refl; search = search_kept; apart = λ problem earlier z a. apart_on t t x (record x { store = s }) still problem earlier a refl }

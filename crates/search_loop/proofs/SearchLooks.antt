@@ -1,7 +1,7 @@
 -- That a search fits together after propagation, and after a theory's check.
 use Rattle.std.specs.Prelude.{Ok}
-use Rattle.std.proofs.Common.{◌≡◌, ◌≤◌, ℕ, List, length, get_or, take, All, Contains, refl, sym, ap, ◌∙◌, subst, arith}
-use Rattle.std.proofs.lemmas.List.{length-append}
+use Rattle.std.proofs.Common.{◌≡◌, ◌≤◌, ℕ, List, [], length, get_or, take, All, Contains, refl, sym, ap, ◌∙◌, subst, arith}
+use Rattle.std.proofs.lemmas.List.{append-nil, length-append}
 use Rattle.std.proofs.lemmas.List.Elements.{Contains-get_or}
 use Rattle.spec_sorts.specs.Terms.{Term}
 use Rattle.spec_sorts.specs.Subsets.{IsClosed}
@@ -10,7 +10,7 @@ use Rattle.term_core.specs.declared.ids.TermId.{TermId}
 use Rattle.term_core.specs.declared.ids.Lit.{Lit}
 use Rattle.spec_sorts.specs.Literals.{Literal}
 use Rattle.term_core.specs.Tables.{TableView, Extends, clause_at}
-use Rattle.term_core.proofs.TermsExtend.{clause_at-kept}
+use Rattle.term_core.proofs.TermsExtend.{Extends-self, clause_at-kept}
 use Rattle.sat_budget.specs.Budgets.{BudgetView, Spends}
 use Rattle.proof_log.specs.Logs.{Logged, inference_of, derivation_in}
 use Rattle.proof_log.specs.Theories.{TheoryView, IsTermIn, IsTheoryOver, terms_watched, literals_held, DerivesLemmas, Checks}
@@ -47,7 +47,7 @@ module _ (t : TableView) (x : Search) (r : SearchFits t x) (v : TheoryView) (ask
   pub looked_after : HasLooked (state t x) (state t after) v
   looked_after = record {
     ready = ready_after;
-    continues = continues_same t x after refl same.clauses refl adds.vars refl refl;
+    continues = continues_same t x after refl same.clauses refl adds.vars refl refl same.steps refl;
     asked = record { keeps = keeps_after; terms = asked.terms; fed = asked.fed };
     budget = spends_nothing x.budget;
     literals = more_literals;
@@ -70,12 +70,16 @@ module _ (t : TableView) (x : Search) (r : SearchFits t x) (v : TheoryView) (ask
     atoms = λ k d lt. atom_in t after ready_after (get_or w.literals k d).term (all_of_atoms t after ready_after (get_or w.literals k d) (Contains-get_or w.literals k d lt));
   }
 
+  ready_fed : (n : ℕ) → SearchFits t (record after { fed = n })
+  ready_fed n = ready_grown t t (Extends-self t) refl after n x.log [] (sym (append-nil x.log)) r.right refl ready_after
+
   -- where its check stops, table and log are as they were
   pub stopped_checked : (b : BudgetView) → Spends x.budget b → (n : ℕ) → HasStopped (state t x) (state t (record after { log = x.log; fed = n; budget = b })) (fed v w.literals)
   stopped_checked b spends n = record {
     right = r.right;
+    ready = ready_spent t (record after { fed = n }) b spends (ready_fed n);
     continues = continues_on t t t x after (record after { log = x.log; fed = n; budget = b }) looked_after.continues
-        (continues_on t t t after (record after { fed = n }) (record after { log = x.log; fed = n; budget = b }) (continues_same t after (record after { fed = n }) refl refl refl refl refl refl)
+        (continues_on t t t after (record after { fed = n }) (record after { log = x.log; fed = n; budget = b }) (continues_same t after (record after { fed = n }) refl refl refl refl refl refl refl refl)
         (continues_spent t (record after { fed = n }) b spends));
     terms = asked.terms;
   }
@@ -134,4 +138,4 @@ module _ (t : TableView) (x : Search) (r : SearchFits t x) (v : TheoryView) (ask
 
 -- what stopped in the rounds of a search stopped in the search
 pub stopped_on : (t u w : TableView) (x y z : Search) (v : TheoryView) → Continues t u x y → HasStopped (state u y) (state w z) v → HasStopped (state t x) (state w z) v
-stopped_on t u w x y z v on h = record { right = h.right; continues = continues_on t u w x y z on h.continues; terms = h.terms }
+stopped_on t u w x y z v on h = record { right = h.right; ready = h.ready; continues = continues_on t u w x y z on h.continues; terms = h.terms }

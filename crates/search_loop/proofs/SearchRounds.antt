@@ -21,11 +21,12 @@ use Rattle.proof_log.specs.Theories.{TheoryView}
 use Rattle.search_loop.specs.Search.{images}
 use Rattle.search_loop.specs.Rounds.{HasDerived, BeganAfter, HasWholeClauses, Continues, ShowsAnswer}
 use Rattle.search_loop.proofs.SearchReady.{Ids}
+use Rattle.search_loop.proofs.SearchAppends.{appends_same, appends_on}
 use Rattle.search_loop.proofs.SearchApart.{apart_on}
 
 -- the log, the clauses and what was learned are the same
-pub continues_same : (t : TableView) (x y : Search) → y.log ≡ x.log → y.store.clauses ≡ x.store.clauses → y.budget ≡ x.budget → y.trail.vars ≡ x.trail.vars → y.terms ≡ x.terms → y.since ≡ x.since → Continues t t x y
-continues_same t x y log clauses budget vars terms since = record {
+pub continues_same : (t : TableView) (x y : Search) → y.log ≡ x.log → y.store.clauses ≡ x.store.clauses → y.budget ≡ x.budget → y.trail.vars ≡ x.trail.vars → y.terms ≡ x.terms → y.since ≡ x.since → y.store.steps ≡ x.store.steps → y.atoms ≡ x.atoms → Continues t t x y
+continues_same t x y log clauses budget vars terms since steps atoms = record {
   table = Extends-self t;
   declared = refl;
   limit = ap (λ (b : BudgetView). b.limit) budget;
@@ -33,6 +34,7 @@ continues_same t x y log clauses budget vars terms since = record {
   learned = ap (λ (b : BudgetView). b.learned) budget ∙ sym (append-nil x.budget.learned);
   vars = vars;
   terms = terms;
+  appended = appends_same x y log (record { clauses = clauses; steps = steps }) terms atoms;
   search = λ problem earlier s. record {
     roots = s.roots;
     roots_in = s.roots_in;
@@ -62,6 +64,7 @@ continues_on s t u a b c h k = record {
   learned = k.learned ∙ ap (λ (ls : List (List Lit)). ls ++ k.more) h.learned ∙ append_assoc a.budget.learned h.more k.more;
   vars = k.vars ∙ h.vars;
   terms = k.terms ∙ h.terms;
+  appended = appends_on a b c h.appended k.appended;
   search = λ problem earlier x. k.search problem earlier (h.search problem earlier x);
   apart = λ problem earlier x e. k.apart problem earlier (h.search problem earlier x) (h.apart problem earlier x e);
 }
@@ -72,10 +75,10 @@ propagated x s v ws = record x { store = s; trail = v; decider = ws }
 
 module _ (t u : TableView) (a x : Search) (s : StoreView) (v : TrailView) (h : Continues t u a x) (same : HasSameClauses x.store s) (adds : AddsImplied x.store x.trail v) where
   pub propagated_on : (ws : List Bool) → Continues t u a (propagated x s v ws)
-  propagated_on ws = continues_on t u u a x (propagated x s v ws) h (continues_same u x (propagated x s v ws) refl same.clauses refl adds.vars refl refl)
+  propagated_on ws = continues_on t u u a x (propagated x s v ws) h (continues_same u x (propagated x s v ws) refl same.clauses refl adds.vars refl refl same.steps refl)
 
   pub decided_on : (l : Lit) (r : Option ℕ) (n : ℕ) (w : TrailView) (ws : List Bool) → IsPushed v l r n w → Continues t u a (propagated x s w ws)
-  decided_on l r n w ws p = continues_on t u u a (propagated x s v ws) (propagated x s w ws) (propagated_on ws) (continues_same u (propagated x s v ws) (propagated x s w ws) refl refl refl p.vars refl refl)
+  decided_on l r n w ws p = continues_on t u u a (propagated x s v ws) (propagated x s w ws) (propagated_on ws) (continues_same u (propagated x s v ws) (propagated x s w ws) refl refl refl p.vars refl refl refl refl)
 
 -- what an answer shows later on, it shows of the beginning
 pub shows_on : (s t u : TableView) (a b c : Search) (x : Answer) → Continues s t a b → ShowsAnswer t u b c x → ShowsAnswer s u a c x

@@ -15,6 +15,7 @@ use Rattle.search_loop.specs.declared.search.Search.{Search}
 use Rattle.search_loop.specs.Search.{images, AreAllOf, SearchFits}
 use Rattle.search_loop.specs.Rounds.{HasDerived, Continues}
 use Rattle.search_loop.proofs.SearchApart.{apart_on}
+use Rattle.search_loop.proofs.SearchAppends.{appends_same}
 
 -- where none were made
 pub spends_nothing : (b : BudgetView) → Spends b b
@@ -48,6 +49,7 @@ module _ (t : TableView) (x : Search) (b : BudgetView) (spends : Spends x.budget
     learned = ap (λ (y : BudgetView). y.learned) spends.1 ∙ sym (append-nil x.budget.learned);
     vars = refl;
     terms = refl;
+    appended = appends_same x (record x { budget = b }) refl (record { clauses = refl; steps = refl }) refl refl;
     search = λ problem earlier s. record {
       roots = s.roots;
       roots_in = s.roots_in;

@@ -20,11 +20,13 @@ use Rattle.search_loop.specs.declared.cdcl.End.TheVariants.{Saturated, Refuted, 
 use Rattle.search_loop.specs.declared.cdcl.Answer.TheVariants.{Unsat, Unknown}
 use Rattle.search_loop.specs.declared.search.Search.{Search}
 use Rattle.search_loop.specs.Search.{SearchFits}
+use Rattle.search_loop.specs.Appending.{Appends}
 use Rattle.search_loop.specs.Rounds.{Continues, KeepsLimit}
 use Rattle.search_loop.specs.Asking.{IsAsked, HasStopped, OnStop, ResolvesConflict, EndsSearch}
 use Rattle.search_loop.specs.Paying.{counted_among, counted_held, atoms_of, paid, paid_by, paid_at, IsPaid}
 use Rattle.search_loop.specs.Loops.{LoopState, loop_state, search_of, CanLoop, CameInLoop, StoppedInLoop, Looks, ResolvesClash, TriesTo, paid_tried, TriesAll}
 use Rattle.search_loop.proofs.SearchPays.{paid_more, paid_learned, paid_quiet, paid_clash, paid_where, atoms_stay, held_stay, held_among}
+use Rattle.search_loop.proofs.SearchAppends.{appends_self, appends_on}
 use Rattle.search_loop.proofs.SearchRounds.{continues_same, continues_on, shows_on, ends_on}
 use Rattle.search_loop.proofs.SearchSpends.{on_stop_weaker}
 use Rattle.search_loop.proofs.SearchLooks.{stopped_on}
@@ -91,6 +93,8 @@ module _ (k h m held : ℕ) (a b c : LoopState) (g : GoesOn k h held a b) where
         grown = Extends-trans a.table b.table c.table g.continues.table t.grown;
         declared = t.declared ∙ g.continues.declared;
         right = t.right;
+        ready = t.ready;
+        appended = ok_weaker (λ (end : Option End). Appends b.search c.search) (λ (end : Option End). Appends a.search c.search) (λ end h. appends_on a.search b.search c.search g.continues.appended h) result t.appended;
         limit = ok_weaker (λ (end : Option End). KeepsLimit b.search.budget c.search.budget) (λ (end : Option End). KeepsLimit a.search.budget c.search.budget) (λ end l. l ∙ g.continues.limit) result t.limit;
         terms = ok_weaker (λ (end : Option End). c.search.terms ≡ b.search.terms) (λ (end : Option End). c.search.terms ≡ a.search.terms) (λ end l. l ∙ g.continues.terms) result t.terms;
         with = t.with;
@@ -111,10 +115,12 @@ tried_none a h level = record {
   grown = Extends-self a.table;
   declared = refl;
   right = h.ready.right;
+  ready = h.ready;
+  appended = appends_self a.search;
   limit = refl;
   terms = refl;
   with = h.with;
-  goes = (h, continues_same a.table a.search a.search refl refl refl refl refl refl, level);
+  goes = (h, continues_same a.table a.search a.search refl refl refl refl refl refl refl refl, level);
   came = λ ts r n. (n.0, omega (arith, n.1), n.2);
   stops = tt;
   stopped = tt;
@@ -141,6 +147,8 @@ module _ (k n : ℕ) (le : k ≤ n) (h : ℕ) (a b : LoopState) where
     grown = t.grown;
     declared = t.declared;
     right = t.right;
+    ready = t.ready;
+    appended = t.appended;
     limit = t.limit;
     terms = t.terms;
     with = t.with;
@@ -202,6 +210,8 @@ module _ (a b : LoopState) (can : CanLoop a) where
     grown = look.grown;
     declared = look.declared;
     right = tt;
+    ready = tt;
+    appended = tt;
     limit = tt;
     terms = tt;
     with = tt;
@@ -231,6 +241,8 @@ tried_memory h k a b grown declared = record {
   grown = grown;
   declared = declared;
   right = tt;
+  ready = tt;
+  appended = tt;
   limit = tt;
   terms = tt;
   with = tt;
@@ -269,6 +281,8 @@ module _ (h : ℕ) (a b : LoopState) (g : GoesOn 0 h (counted_held b.table b.the
     grown = g.continues.table;
     declared = g.continues.declared;
     right = ready.right;
+    ready = ready;
+    appended = appends_on a.search b.search z g.continues.appended on.appended;
     limit = on.limit ∙ g.continues.limit;
     terms = on.terms ∙ g.continues.terms;
     with = keeps.with b.table can.with;
@@ -318,6 +332,8 @@ module _ (h : ℕ) (a b c : LoopState) (can : CanLoop a) (most : h ≤ counted_h
     grown = Extends-trans a.table b.table c.table on.table q.grown;
     declared = q.declared ∙ on.declared;
     right = q.right;
+    ready = q.ready;
+    appended = appends_on a.search b.search c.search on.appended q.appended;
     limit = q.limit ∙ on.limit;
     terms = same_terms end q.resolves_conflict q.ended;
     with = q.with;

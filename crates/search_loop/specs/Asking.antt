@@ -109,6 +109,8 @@ ResolvesConflict old new v None = HasLearned old.table new.table old.search new.
 pub record HasStopped (old new : SearchState) (v : TheoryView) : Type 0 where
   -- each step of the log is right
   pub right : IsLogOf new.table new.search.log
+  -- it fits together
+  pub ready : SearchFits new.table new.search
   -- the search is for the same terms
   pub continues : Continues old.table new.table old.search new.search
   -- which the theory watches

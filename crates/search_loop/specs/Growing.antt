@@ -17,6 +17,7 @@ use Rattle.clause_store.specs.Stores.{StoreView, HasSeen}
 use Rattle.clause_store.specs.Propagating.{AreImplied}
 use Rattle.search_loop.specs.declared.search.Search.{Search}
 use Rattle.search_loop.specs.Search.{images, SearchFits, DerivesClauses}
+use Rattle.search_loop.specs.Appending.{Appends}
 use Rattle.search_loop.specs.Rounds.{IsSearch, HoldsApart, HasLimit}
 use Rattle.search_loop.specs.Asking.{SearchState}
 
@@ -137,6 +138,8 @@ pub record HasGrown (old new : SearchState) (roots interface : List TermId) : Ty
   -- the new terms come last
   pub more : List TermId
   pub terms : new.search.terms.items ≡ old.search.terms.items ++ more
+  -- so do their clauses
+  pub appended : Appends old.search new.search
   -- it is asked the problem that it grew to
   pub search : (p : Problem) (earlier : List (List Literal))
       → GrowsTo old.table old.search roots interface earlier p → IsSearch new.table p earlier new.search

@@ -2,6 +2,7 @@
 pub mod Answered
 pub mod Waiting
 pub mod Search
+pub mod Appending
 pub mod Stops
 pub mod Rounds
 pub mod Asking

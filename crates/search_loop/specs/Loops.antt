@@ -19,6 +19,7 @@ use Rattle.sat_trail.specs.Trails.{TrailView}
 use Rattle.search_loop.specs.declared.search.Search.{Search}
 use Rattle.search_loop.specs.declared.cdcl.End.{End}
 use Rattle.search_loop.specs.Search.{SearchFits, conflict_of}
+use Rattle.search_loop.specs.Appending.{Appends}
 use Rattle.search_loop.specs.Rounds.{IsStep, KeepsLimit, HasLearned, Continues}
 use Rattle.search_loop.specs.Asking.{IsAsked, KeepsUp, SearchState, state, LookFinds, HasSaturated, HasStopped, OnStop}
 use Rattle.search_loop.specs.Asking.{ResolvesConflict, EndsSearch}
@@ -95,6 +96,10 @@ pub record ResolvesClash (old new : LoopState) (result : Result (Option End) NoM
   pub came : IfOk result (λ _. (ts : List Term) (n : ℕ) → CameInLoop old ts n → CameInLoop new ts n)
   -- each step of the log is right
   pub right : IfOk result (λ _. IsLogOf new.table new.search.log)
+  -- the search fits together, also where it ends
+  pub ready : IfOk result (λ _. SearchFits new.table new.search)
+  -- what came into it came last
+  pub appended : IfOk result (λ _. Appends old.search new.search)
   -- the budget has its limit
   pub limit : IfOk result (λ _. KeepsLimit old.search.budget new.search.budget)
   -- where the search ends, terms and budget are the same
@@ -123,6 +128,10 @@ pub record RunsLoop (old new : LoopState) (result : Result End Stop) : Type 0 wh
   pub declared : declared_in new.table ≡ declared_in old.table
   -- each step of the log is right
   pub right : IfOk result (λ _. IsLogOf new.table new.search.log)
+  -- the search fits together, also where it ends
+  pub ready : IfOk result (λ _. SearchFits new.table new.search)
+  -- what came into it came last
+  pub appended : IfOk result (λ _. Appends old.search new.search)
   -- the budget has its limit
   pub limit : IfOk result (λ _. KeepsLimit old.search.budget new.search.budget)
   -- the search speaks of the same terms
@@ -230,6 +239,10 @@ pub record TriesAll (tries h : ℕ) (old new : LoopState) (result : Result (Opti
   pub declared : declared_in new.table ≡ declared_in old.table
   -- each step of the log is right
   pub right : IfOk result (λ _. IsLogOf new.table new.search.log)
+  -- the search fits together, also where it ends
+  pub ready : IfOk result (λ _. SearchFits new.table new.search)
+  -- what came into it came last
+  pub appended : IfOk result (λ _. Appends old.search new.search)
   -- the budget has its limit
   pub limit : IfOk result (λ _. KeepsLimit old.search.budget new.search.budget)
   -- the search speaks of the same terms

@@ -34,6 +34,7 @@ use Rattle.search_loop.specs.declared.search.Search.{Search}
 use Rattle.search_loop.specs.declared.cdcl.Answer.{Answer}
 use Rattle.search_loop.specs.declared.cdcl.Answer.TheVariants.{Sat, Unsat, Unknown}
 use Rattle.search_loop.specs.Search.{images, SearchFits}
+use Rattle.search_loop.specs.Appending.{Appends}
 use Rattle.search_loop.specs.Stops.{HasExchanged, IsOverflowed}
 use Rattle.search_model.specs.Models.{IsModel}
 
@@ -218,6 +219,8 @@ pub record Continues (t u : TableView) (old new : Search) : Type 0 where
   pub vars : new.trail.vars ≡ old.trail.vars
   -- it speaks of the same terms
   pub terms : new.terms ≡ old.terms
+  -- what came into its log and its store came last
+  pub appended : Appends old new
   -- it is asked the same
   pub search : (p : Problem) (earlier : List (List Literal)) → IsSearch t p earlier old → IsSearch u p earlier new
   -- and its facts stay

@@ -6,6 +6,7 @@ ghost use Rattle.proof_log.specs.Logs.{IsLogOf};
 ghost use Rattle.proof_log.specs.Clashes.{IsClash};
 ghost use Rattle.conflict_learn.specs.Conflicts.{IsOfZero, IsAboveZero};
 ghost use Rattle.search_loop.specs.Search.{SearchFits, conflict_of};
+ghost use Rattle.search_loop.specs.Appending.{Appends};
 ghost use Rattle.search_loop.specs.Rounds.{IsNoted, LogsEmptyClause, ShowsAnswer};
 ghost use Rattle.search_loop.specs.Loops.{loop_state, CanLoop, ResolvesClash, LearnsFrom};
 ghost use Rattle.search_loop.specs.declared.cdcl.Answer.TheVariants.{Unsat, Unknown};
@@ -68,6 +69,8 @@ impl Search {
         requires clash { IsClash table.now self.old.log self.old.trail.literals clash }
         requires of_zero { IsOfZero (conflict_of table.now self.old clash) }
         ensures right { IfOk result (λ _. IsLogOf table.now self.new.log) }
+        ensures ready { IfOk result (λ _. SearchFits table.now self.new) }
+        ensures appended { IfOk result (λ _. Appends self.old self.new) }
         ensures budget { self.new.budget ≡ self.old.budget }
         ensures terms { self.new.terms ≡ self.old.terms }
         ensures step { IfOk result (LogsEmptyClause (conflict_of table.now self.old clash) self.new.log) }
@@ -88,6 +91,7 @@ impl Search {
         ensures declared { declared_in table.new ≡ declared_in table.old }
         ensures same { OnOk result (self.new ≡ self.old) }
         ensures right { OnOk result (IsLogOf table.new self.new.log) }
+        ensures ready { OnOk result (SearchFits table.new self.new) }
         ensures shows { OnOk result ((n : ℕ) → length self.old.budget.learned ≡ self.old.budget.limit
             → n ≡ self.old.budget.limit
             → ShowsAnswer table.old table.new self.old self.new (Unknown (Conflicts n))) }

@@ -30,7 +30,7 @@ use Rattle.solve_core.specs.Relating.{HasRelated}
 
 -- nothing came
 pub related_same : (t : TableView) (x : Search) → SearchFits t x → HasRelated t t x x
-related_same t x ready = record { continues = continues_same t x x refl refl refl refl refl refl; ready = ready; same = refl }
+related_same t x ready = record { continues = continues_same t x x refl refl refl refl refl refl refl refl; ready = ready; same = refl }
 
 -- one after the other
 pub related_on : (s t u : TableView) (a b c : Search) → HasRelated s t a b → HasRelated t u b c → HasRelated s u a c

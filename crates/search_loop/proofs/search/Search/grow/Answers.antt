@@ -81,6 +81,7 @@ returns-clause-grows c =
       log = made.grown.log;
       more = terms;
       terms = terms_are;
+      appended = record { log = (made.grown.more, made.grown.log); clauses = (stored.more, stored.clauses); steps = (steps, stored.steps_are); terms = (terms, terms_are); atoms = (atoms, atoms_are) };
       search = λ p earlier grows. search_grown t u x y roots interface came p earlier (part_of t x roots interface c.requires.roots c.requires.interface c.requires.answered c.requires.answered_interface p earlier grows);
       apart = λ q earlier s holds none shared. apart_wider t u x y roots interface came q earlier holds (clause_at t interface) shared;
       apart_from_roots = λ q earlier s holds shared. apart_with_more t u x y roots interface came q earlier holds (clause_at t roots) (clause_at t interface) shared;

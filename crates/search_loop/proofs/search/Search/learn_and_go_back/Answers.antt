@@ -12,6 +12,7 @@ use Rattle.search_loop.specs.Rounds.{IsNoted}
 use Rattle.search_loop.proofs.SearchReasons.{reasons_are}
 use Rattle.search_loop.proofs.SearchLevels.{level_below}
 use Rattle.search_loop.proofs.SearchReady.{all_of_atoms, ready_learned}
+use Rattle.search_loop.proofs.SearchAppends.{appends_stored}
 use Rattle.search_loop.proofs.SearchGrown.{atoms_kept}
 use Rattle.search_loop.proofs.SearchShows.{search_learned, apart_learned}
 use Rattle.search_loop.proofs.search.Search.learn_and_go_back.Goals as goal
@@ -87,6 +88,7 @@ returns-clause-learns g c =
           learned = ap (λ (b : BudgetView). b.learned) noted;
           vars = cut.vars;
           terms = refl;
+          appended = appends_stored u c.learn.new.log d.step x y (stepped Resolution l.logged.premises [] l.logged.terms ∷ [], l.logged.last) added refl refl;
           search = search_learned t u c.learn.ensures.grown c.ids_are_unique.ensures c.ids_are_unique-2.ensures c.learn.ensures.declared x y r once leveled c.is_sound.ensures.consistent
               (c.logs_hold_in_grown_tables.ensures.same t u x.log r.right c.learn.ensures.grown) c.args.clash d l noted added refl refl;
           apart = apart_learned t u c.learn.ensures.grown c.ids_are_unique.ensures c.ids_are_unique-2.ensures c.learn.ensures.declared x y r once leveled c.is_sound.ensures.consistent

@@ -1,6 +1,7 @@
 -- What was learned stays at level 0.
 use Rattle.std.proofs.Common.{◌∙◌, length, sym, ap, subst}
 use Rattle.sat_budget.specs.Budgets.{BudgetView}
+use Rattle.search_loop.proofs.SearchAppends.{appends_on}
 use Rattle.search_loop.proofs.SearchRounds.{continues_on}
 use Rattle.search_loop.proofs.search.Search.learn_and_rest.Goals as goal
 
@@ -22,6 +23,8 @@ returns-clause-resolves g c =
       came = λ ts n h. subst (λ (b : BudgetView). (g.T.Theory.meaning c.rest.new.theory).running.came_by u ts n b.exchanges) (sym rests.budget)
           (rests.keeps.came u ts n y.budget.exchanges (c.in_ok-end.ensures.came ts n h));
       right = ready.right;
+      ready = ready;
+      appended = appends_on c.args.self.now y z learned.continues.appended (rests.continues u).appended;
       limit = ap (λ (b : BudgetView). b.limit) rests.budget ∙ c.in_ok-end.ensures.limit;
       ended = tt;
       resolves_conflict = (

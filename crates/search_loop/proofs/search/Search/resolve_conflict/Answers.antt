@@ -3,6 +3,8 @@ use Rattle.std.proofs.Common.{rules, sym, subst, ap, refl, arith}
 use Rattle.sat_budget.specs.Budgets.{BudgetView}
 use Rattle.term_core.proofs.TermsExtend.{Extends-self}
 use Rattle.search_loop.specs.declared.search.Search.{Search}
+use Rattle.search_loop.specs.Appending.{Appends}
+use Rattle.search_loop.proofs.SearchAppends.{appends_self}
 use Rattle.search_loop.proofs.search.Search.resolve_conflict.Goals as goal
 
 pub refuted-requires-clause-of_zero : goal.refuted-requires-clause-of_zero
@@ -15,6 +17,8 @@ returns-in_err-step g c = record {
   with = search rules;
   came = search rules;
   right = search rules;
+  ready = search rules;
+  appended = search rules;
   limit = search rules;
   ended = search rules;
   resolves_conflict = search rules;
@@ -27,6 +31,8 @@ returns-then-conflict_level-eq0 g c = record {
   with = c.requires.going.with;
   came = λ ts n h. subst (λ (b : BudgetView). (g.T.Theory.meaning c.args.theory.now).running.came_by c.args.table.now ts n b.exchanges) (sym c.refuted.ensures.budget) h;
   right = c.in_ok-step.ensures.right;
+  ready = c.in_ok-step.ensures.ready;
+  appended = c.in_ok-step.ensures.appended;
   limit = ap (λ (b : BudgetView). b.limit) c.refuted.ensures.budget;
   ended = (c.refuted.ensures.terms, c.refuted.ensures.budget);
   resolves_conflict = c.in_ok-step.ensures.shows;
@@ -47,6 +53,8 @@ returns-in-Some g c =
       came = λ ts n h. subst (λ (s : Search). (g.T.Theory.meaning c.args.theory.now).running.came_by u ts n s.budget.exchanges) (sym forgone.same)
           (lawful.came_grown t u grown c.requires.going.with ts n c.args.self.now.budget.exchanges h);
       right = forgone.right;
+      ready = forgone.ready;
+      appended = subst (Appends c.args.self.now) (sym forgone.same) (appends_self c.args.self.now);
       limit = ap (λ (s : Search). s.budget.limit) forgone.same;
       ended = (ap (λ (s : Search). s.terms) forgone.same, ap (λ (s : Search). s.budget) forgone.same);
       resolves_conflict = forgone.shows c.in-Some.n c.in-Some.ensures.0 c.in-Some.ensures.1;
@@ -61,6 +69,8 @@ returns g c =
       with = learns.with;
       came = learns.came;
       right = learns.learned.ready.right;
+      ready = learns.learned.ready;
+      appended = learns.learned.continues.appended;
       limit = learns.learned.continues.limit;
       ended = tt;
       resolves_conflict = (learns.learned, learns.asked, c.in_default.ensures);

@@ -5,7 +5,7 @@ use Rattle.search_loop.proofs.SearchRounds.{continues_same}
 use Rattle.search_loop.proofs.search.Search.rest.Goals as goal
 
 pub returns-then-level-eq0-clause-continues : goal.returns-then-level-eq0-clause-continues
-returns-then-level-eq0-clause-continues g c t = continues_same t c.args.self.now c.args.self.now refl refl refl refl refl refl
+returns-then-level-eq0-clause-continues g c t = continues_same t c.args.self.now c.args.self.now refl refl refl refl refl refl refl refl
 
 pub go_back-requires-clause-below : goal.go_back-requires-clause-below
 go_back-requires-clause-below g c = omega (arith, c.level.ensures, c.if-level-eq0.false)
@@ -28,7 +28,7 @@ returns-clause-level g c = c.go_back.ensures.cut.level_is
 pub returns-clause-continues : goal.returns-clause-continues
 returns-clause-continues g c t =
     let x = c.args.self.now in
-    continues_same t x (record x { trail = c.go_back.new.trail; decider = c.put_back.new.self; fed = c.len-self.result }) refl refl refl c.go_back.ensures.cut.vars refl refl
+    continues_same t x (record x { trail = c.go_back.new.trail; decider = c.put_back.new.self; fed = c.len-self.result }) refl refl refl c.go_back.ensures.cut.vars refl refl refl refl
 
 pub returns-clause-asked : goal.returns-clause-asked
 returns-clause-asked g c = record {

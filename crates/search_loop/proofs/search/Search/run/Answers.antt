@@ -16,6 +16,7 @@ use Rattle.search_loop.proofs.SearchSpends.{handed_on, came_on_stop, on_stop_wea
 use Rattle.search_loop.proofs.SearchLooks.{stopped_on}
 use Rattle.search_loop.proofs.SearchReady.{ready_waiting, ready_decided}
 use Rattle.term_core.proofs.TermsExtend.{Extends-trans}
+use Rattle.search_loop.proofs.SearchAppends.{appends_same, appends_on}
 use Rattle.search_loop.proofs.SearchRounds.{continues_same, continues_on, ends_on, less_learned}
 use Rattle.search_loop.proofs.SearchTheories.{keeps_decided}
 use Rattle.search_loop.proofs.SearchWaiting.{satisfied_by}
@@ -30,7 +31,7 @@ rounds-init g c = record {
   came = λ ts r h.
       let a = atoms_of c.args.table.now c.args.self.now in
       (h.0, paid_begun a (length c.args.self.now.budget.learned) r (counted_held c.args.table.now (g.T.Theory.meaning c.args.theory.now).view.held) h.0 h.1, h.2);
-  continues = continues_same c.args.table.now c.args.self.now c.args.self.now refl refl refl refl refl refl;
+  continues = continues_same c.args.table.now c.args.self.now c.args.self.now refl refl refl refl refl refl refl refl;
 }
 
 -- the theory may imply literals
@@ -88,7 +89,7 @@ rounds-preserved-in-Fine g c =
                 (held_since c.rounds.table q x c.rounds.invariant.ready on.table u y l.ready v l.asked l.continues.terms marked.held same),
             c.mark.ensures.keeps.came q ts p.0 s.budget.exchanges (k.came ts p.0 p.2),
           );
-      continues = continues_on t q q c.args.self.now s z (continues_on t c.rounds.table q c.args.self.now x s c.rounds.invariant.continues on) (continues_same q s z refl refl refl pushed.vars refl refl);
+      continues = continues_on t q q c.args.self.now s z (continues_on t c.rounds.table q c.args.self.now x s c.rounds.invariant.continues on) (continues_same q s z refl refl refl pushed.vars refl refl refl refl);
     }
 
 pub rounds-preserved-then-branch : goal.rounds-preserved-then-branch
@@ -210,6 +211,8 @@ returns-in_default g c =
       grown = on.table;
       declared = on.declared;
       right = r.right;
+      ready = ready_waiting q s c.next.new.self r chosen.1 c.next.ensures.size;
+      appended = appends_on x s end on.appended (appends_same s end refl (record { clauses = refl; steps = refl }) refl refl);
       limit = on.limit;
       terms = on.terms;
       with = k.goes_on.with;
@@ -222,7 +225,7 @@ returns-in_default g c =
           satisfied = satisfied_by s.atoms.items s.store.clauses s.trail.literals r.covered (quiet_still b s is looks.1) chosen.0;
           agrees = k.agrees looks.3;
         },
-        continues_on t q q x s end on (continues_same q s end refl refl refl refl refl refl),
+        continues_on t q q x s end on (continues_same q s end refl refl refl refl refl refl refl refl),
       );
       came = λ ts r h.
           let n = c.rounds.invariant.came ts r h in
@@ -262,6 +265,8 @@ returns-in-Some-2 g c =
       grown = grown;
       declared = resolved.declared ∙ on.declared;
       right = resolved.right;
+      ready = resolved.ready;
+      appended = appends_on x z e on.appended resolved.appended;
       limit = resolved.limit ∙ on.limit;
       terms = ended.0 ∙ on.terms;
       with = resolved.with;
@@ -302,6 +307,8 @@ returns-in_err-look g c =
       grown = Extends-trans t u s c.rounds.invariant.continues.table c.look.ensures.grown;
       declared = c.look.ensures.declared ∙ c.rounds.invariant.continues.declared;
       right = search rules;
+      ready = search rules;
+      appended = search rules;
       limit = search rules;
       terms = search rules;
       with = search rules;
@@ -336,6 +343,8 @@ returns-in_err-take_implied-in-Fine g c =
       grown = Extends-trans t u q (Extends-trans t c.rounds.table u c.rounds.invariant.continues.table c.look.ensures.grown) c.take_implied.ensures.grown;
       declared = c.take_implied.ensures.declared ∙ c.look.ensures.declared ∙ c.rounds.invariant.continues.declared;
       right = search rules;
+      ready = search rules;
+      appended = search rules;
       limit = search rules;
       terms = search rules;
       with = search rules;
@@ -354,6 +363,8 @@ returns-in_err-mark-in-Fine g c =
       grown = Extends-trans t u q (Extends-trans t c.rounds.table u c.rounds.invariant.continues.table c.look.ensures.grown) c.take_implied.ensures.grown;
       declared = c.take_implied.ensures.declared ∙ c.look.ensures.declared ∙ c.rounds.invariant.continues.declared;
       right = search rules;
+      ready = search rules;
+      appended = search rules;
       limit = search rules;
       terms = search rules;
       with = search rules;
@@ -371,6 +382,8 @@ returns-in_err-end-in-Clash g c =
       grown = Extends-trans t c.look.new.table s (Extends-trans t c.rounds.table c.look.new.table c.rounds.invariant.continues.table c.look.ensures.grown) c.resolve_conflict.ensures.grown;
       declared = c.resolve_conflict.ensures.declared ∙ c.look.ensures.declared ∙ c.rounds.invariant.continues.declared;
       right = search rules;
+      ready = search rules;
+      appended = search rules;
       limit = search rules;
       terms = search rules;
       with = search rules;

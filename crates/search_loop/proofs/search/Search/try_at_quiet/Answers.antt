@@ -23,7 +23,7 @@ returns-then-not-can_try g c =
     let m = g.T.Theory.meaning c.args.theory.now in
     let a = loop_state t x m in
     let h = counted_held t m.view.held in
-    let on = continues_same t x x refl refl refl refl refl refl in
+    let on = continues_same t x x refl refl refl refl refl refl refl refl in
     let rests = c.rest.ensures in
     let going = c.requires.going in
     tried_rested h a a (goes_as a x m on (record { with = λ t h. h; came = λ t ts n es h. h }) refl refl)
@@ -76,6 +76,6 @@ returns g c =
     let a = loop_state t x m in
     let b = loop_state t z marked in
     let d = loop_state c.settle.new.table c.settle.new.self (g.T.Theory.meaning c.settle.new.theory) in
-    let on = continues_same t x z refl refl refl c.decide.ensures.vars refl refl in
+    let on = continues_same t x z refl refl refl c.decide.ensures.vars refl refl refl refl in
     tries_after 0 (counted_held t m.view.held) 1 (counted_held t marked.view.held) a b d
     (goes_as a z marked on c.mark.ensures.keeps (ap (λ (v : TheoryView). v.held) c.in_ok-mark.ensures.marks) refl) c.settle.result c.settle.ensures
