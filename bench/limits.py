@@ -1,7 +1,7 @@
 #!/usr/bin/env python3
 """Runs `smt_cli` at the ends of what it takes: of texts, and of memory.
 
-    bench/limits.py check PROGRAM                   pairs of texts up to 2^26 bytes and one byte more, by `check`
+    bench/limits.py check PROGRAM                   pairs of texts up to 2^30 bytes and one byte more, by `check`
     bench/limits.py solve PROGRAM                   scripts up to that, and long terms, by `solve` and `certify`
     bench/limits.py refuse PROGRAM WORD ..          one run for each allocation of the program, with that one refused
     bench/limits.py refuse-tests TESTS [LEFT_OUT]   the same of each test of a crate

@@ -154,7 +154,7 @@ place_texts() {
     else
         name=$name.script
     fi
-    if [ -n "$script_name" ]; then cp "$name" "$folder/here/$script_name"; fi
+    if [ -n "$script_name" ]; then ln -f "$name" "$folder/here/$script_name"; fi
     if [ -z "$script_name" ] || [ "$script_name" = script.smt2 ]; then input=$name; fi
     echo "$input"
 }
@@ -239,6 +239,28 @@ run_faults() {
     run_fault 5 /dev/full
 }
 
+# Gives what `solve` and `certify` write of a formula that is nested so deep, with a small stack, and the proof to `check`.
+run_deep() {
+    local depth=$1
+    {
+        echo '(set-option :print-success false)'
+        echo '(declare-const p Bool)(assert p)'
+        printf '(assert'
+        printf ' (not%.0s' $(seq "$depth")
+        printf ' p'
+        printf '%*s' "$((depth + 1))" '' | tr ' ' ')'
+        printf '\n(check-sat)\n'
+    } >"$folder/deep.smt2"
+    rows=$((rows + 1)) proofs=$((proofs + 1))
+    echo unsat >"$folder/wanted"
+    (ulimit -s 256 && exec "$executable" solve "$folder/deep.smt2") >"$folder/output" || true
+    cmp -s "$folder/wanted" "$folder/output" || differs "solve, $depth times nested:"
+    (ulimit -s 256 && exec "$executable" certify "$folder/deep.smt2") >"$folder/evidence" || true
+    echo valid >"$folder/wanted"
+    (ulimit -s 256 && exec "$executable" check "$folder/deep.smt2" "$folder/evidence") >"$folder/output" || true
+    cmp -s "$folder/wanted" "$folder/output" || differs "check, $depth times nested:"
+}
+
 top=$PWD
 for page in */README.md; do
     cd "$top/$(dirname "$page")"
@@ -248,6 +270,7 @@ cd "$top"
 for file in */*.rows; do run_rows "$file"; done
 for file in */*.lines; do run_lines "$file"; done
 run_faults
+run_deep 100001
 
 echo "$rows rows, $proofs proofs and $models models, $wrong otherwise than they should be"
 [ "$rows" -gt 0 ] && [ "$wrong" -eq 0 ]

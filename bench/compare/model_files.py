@@ -210,7 +210,7 @@ def read_model(check, text):
             raise Fault(len(text), b"UnclosedList")
         if following[0] == ")":
             break
-        item, at = read_one(text, at, 1)
+        item, at = read_one(text, at)
         reader.take(item)
     require_end(text, following[3])
     return reader.complete()

@@ -13,7 +13,7 @@ from reading import Fault, place_of, read_one
 LONGEST = 900
 LONGEST_PROOF = 600
 USUAL = 2**24
-LEXICAL = {b"BadChar", b"UnclosedString", b"UnclosedQuote", b"UnclosedList", b"StrayClose", b"TooDeep"}
+LEXICAL = {b"BadChar", b"UnclosedString", b"UnclosedQuote", b"UnclosedList", b"StrayClose"}
 OWN_KINDS = set(b"BadShape TwiceName UnknownPremise UnknownRule NotAsserted RuleFails NoEmptyClause".split())
 HEAD = read("ProofRows.antt.txt")
 OF_EQUALITY = ("Taking", "Verdicts")
@@ -105,7 +105,7 @@ def reading(name, cut):
     fault = ending_written(cut).removeprefix("broken ")
     count = sum(map(lexemes_in, cut.items))
     if cut.start is None:
-        trees = f"split_at {count} 0 {xs} {name}_trees refl (omega arith)"
+        trees = f"split_at {count} {xs} {name}_trees refl"
         ends = f"broken_outside {end} {rest} {fault} refl refl" if cut.fault else "refl"
         return f"({rest}, {trees}, {ends})"
     if cut.end is None:
@@ -115,12 +115,12 @@ def reading(name, cut):
         if cut.behind:
             after = f"(tail {rest})"
             one = f"(more (first_tree {after}) none)"
-            trees = f"split_at {lexemes_in(cut.behind)} 0 {after} {one} refl (omega arith)"
+            trees = f"split_at {lexemes_in(cut.behind)} {after} {one} refl"
             behind = f"(first_tree {after}, drop {lexemes_in(cut.behind)} {after}, {trees}, refl)"
         elif cut.fault:
             behind = f"broken_outside {end} (tail {rest}) {fault} refl refl"
         ends = f"closed_by {end} {rest} {ending} refl ({behind})"
-    trees = f"split_at {count} 1 (tail {xs}) {name}_trees refl (omega arith)"
+    trees = f"split_at {count} (tail {xs}) {name}_trees refl"
     return f"in_a_list {end} {xs} {rest} {name}_trees {ending} refl ({trees}) ({ends})"
 
 
@@ -173,7 +173,6 @@ pub {name}_verdict : IsVerdict {name}_script {number} {name}_proof (Some no_such
 
 def texts(name, script, proof, count):
     """Returns the definitions of both texts and of so many commands, and that the script is read to its end."""
-    trees = "record { split = refl; within = omega arith }"
     return f"""
 abbrev {name}_script : List ℕ
 {name}_script = {lines_written(script)}
@@ -186,7 +185,7 @@ abbrev {name}_trees : Trees
 
 {name}_script_read : IsReadUpTo {name}_script (trees_in {name}_script) None
 unfolding lexemes first_piece string_body built
-{name}_script_read = record {{ rest = []; trees = {trees}; stop = None; stops = refl; is = refl }}
+{name}_script_read = record {{ rest = []; trees = refl; stop = None; stops = refl; is = refl }}
 """
 
 

@@ -60,7 +60,7 @@ def take_list(take, proof, at):
             raise Fault(len(proof), b"UnclosedList")
         if following[0] == ")":
             return following[2]
-        item, at = read_one(proof, at, 1)
+        item, at = read_one(proof, at)
         take(item)
 
 

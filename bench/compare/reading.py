@@ -14,7 +14,6 @@ THEORY = set(b"true false not and or xor => = distinct ite - + * / < <= > >=".sp
 SYMBOL_BYTES = set(b"abcdefghijklmnopqrstuvwxyzABCDEFGHIJKLMNOPQRSTUVWXYZ0123456789~!@$%^&*_-+=<>.?/")
 DIGITS = set(b"0123456789")
 BLANKS = set(b"\t\n\r ")
-DEEPEST = 500
 
 
 class Fault(Exception):
@@ -129,8 +128,8 @@ def token(text, at):
     raise Fault(start, b"BadChar")
 
 
-def read_one(text, at, depth=0):
-    """Returns the first item from `at` on and the offset behind it, or None; `depth` lists are open around it."""
+def read_one(text, at):
+    """Returns the first item from `at` on and the offset behind it, or None."""
     open_lists = []
     while True:
         found = token(text, at)
@@ -140,8 +139,6 @@ def read_one(text, at, depth=0):
             raise Fault(len(text), b"UnclosedList")
         kind, value, start, at = found
         if kind == "(":
-            if depth + len(open_lists) >= DEEPEST:
-                raise Fault(start, b"TooDeep")
             open_lists.append(("list", [], start))
             continue
         item = (kind, value, start)

@@ -10,7 +10,7 @@ from language import State
 from reading import Fault, read_one
 
 ITEM, FAULT, MORE, DONE = "item", "fault", "more", "done"
-TEXT_LIMIT = 2**26
+TEXT_LIMIT = 2**30
 CONTINUATIONS = (b"", b"a", b"\na", b" ", b"0", b'"', b"|", b"(", b")", b"\n", b";", b":", b".", b"\\", b"\0", b" \0", b'a"', b"\0|")
 # What stands in the place of the missing end of a text that is longer than is read.
 UNENDED = (b"UnclosedString", b"UnclosedQuote", b"UnclosedList")

@@ -1,4 +1,4 @@
-"""Pairs of texts of 2^26 bytes for `check`, the most that are taken, and of one byte more.
+"""Pairs of texts of 2^30 bytes for `check`, the most that are taken, of one byte more, and long ones of many parts.
 
 Each row is a pair whose answer is known beforehand; there is none where the run ends out of memory, with status 3.
 """
@@ -9,7 +9,9 @@ import tempfile
 from runs import run
 from tables import head, row
 
-LIMIT = 2**26
+LIMIT = 2**30
+# As long as what needs many bytes for each one of the text can be in 6 GB.
+MANY = 2**26
 SCRIPT = "(declare-const p Bool)(assert p)(assert (not p))(check-sat)"
 PROOF = "(assume h1 p)(assume h2 (not p))(step t1 (cl) :rule resolution :premises (h1 h2))"
 
@@ -58,14 +60,14 @@ def refused(column, name):
 
 
 ROWS = [
-    ("script and spaces, 2^26 bytes", lambda: padded(SCRIPT, LIMIT), lambda: PROOF, "valid"),
+    ("script and spaces, 2^30 bytes", lambda: padded(SCRIPT, LIMIT), lambda: PROOF, "valid"),
     ("one byte more, after the check", lambda: padded(SCRIPT, LIMIT + 1), lambda: PROOF, "valid"),
-    ("proof and spaces, 2^26 bytes", lambda: SCRIPT, lambda: padded(PROOF, LIMIT), "valid"),
+    ("proof and spaces, 2^30 bytes", lambda: SCRIPT, lambda: padded(PROOF, LIMIT), "valid"),
     ("one byte more", lambda: SCRIPT, lambda: padded(PROOF, LIMIT + 1), refused(LIMIT + 1, "TooLong")),
-    ("script of many assertions", lambda: many_assertions(LIMIT), lambda: PROOF, "valid"),
-    ("proof of one clause, literals of one byte", lambda: SCRIPT, lambda: one_clause(LIMIT), "valid"),
-    ("proof of one clause, named as often as it is long", lambda: SCRIPT, lambda: many_mentions(LIMIT), "valid"),
-    ("proof of opening parentheses", lambda: SCRIPT, lambda: "(" * LIMIT, refused(501, "TooDeep")),
+    ("script of many assertions", lambda: many_assertions(MANY), lambda: PROOF, "valid"),
+    ("proof of one clause, literals of one byte", lambda: SCRIPT, lambda: one_clause(MANY), "valid"),
+    ("proof of one clause, named as often as it is long", lambda: SCRIPT, lambda: many_mentions(MANY), "valid"),
+    ("proof of opening parentheses", lambda: SCRIPT, lambda: "(" * MANY, refused(MANY + 1, "UnclosedList")),
     ("proof of empty lists", lambda: SCRIPT, lambda: "()" * (LIMIT // 2), refused(3, "BadShape")),
     ("proof of zero bytes", lambda: SCRIPT, lambda: "\0" * LIMIT, refused(1, "BadChar")),
     ("script of 4,000 constants that are distinct", lambda: many_pairs(4_000), lambda: PROOF, "valid"),

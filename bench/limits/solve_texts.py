@@ -1,4 +1,4 @@
-"""Scripts of 2^26 bytes for `solve` and `certify`, the most that are taken, of one byte more, and long terms.
+"""Scripts of 2^30 bytes for `solve` and `certify`, the most that are taken, of one byte more, and of many parts.
 
 Each row is a script whose output and status are known beforehand. Each run gets 6 GiB of address space; what does not
 fit ends with status 3.
@@ -10,7 +10,9 @@ import tempfile
 from runs import run
 from tables import head, row
 
-LIMIT = 2**26
+LIMIT = 2**30
+# As long as what needs many bytes for each one of the text can be in that memory.
+MANY = 2**26
 MEMORY = 6 * 2**30
 START = "(set-option :print-success false)(declare-const p Bool)"
 SCRIPT = START + "(assert p)(assert (not p))(check-sat)"
@@ -19,16 +21,16 @@ TOO_LONG = f'(error "1:{LIMIT + 1}: TooLong")\n'
 
 def repeated(before, item, behind):
     """The item between two texts, as often as fits into 2^26 bytes."""
-    return before + item * ((LIMIT - len(before) - len(behind)) // len(item)) + behind
+    return before + item * ((MANY - len(before) - len(behind)) // len(item)) + behind
 
 
 def declarations():
-    """The names of as many constants as have room in a script, each declared once."""
+    """The names of as many constants as have room in 2^26 bytes, each declared once."""
     names, size = [], len(START) + len("(check-sat)")
     while True:
         name = f"x{len(names)}"
         size += len(f"(declare-const {name} Bool)")
-        if size > LIMIT:
+        if size > MANY:
             return names
         names.append(name)
 
@@ -61,15 +63,23 @@ def exclusion(count):
     return f"{START}(assert (xor{' p' * count}))(check-sat)"
 
 
+def negations(count):
+    """A script that asserts one constant, and an odd number of `not` around it, and has a check."""
+    return f"{START}(assert p)(assert{' (not' * count} p{')' * count})(check-sat)"
+
+
 REFUSED = f'(error "1:{len(START) + 1}: Full")\nsat\n'
 
 ROWS = [
-    ("commands and spaces, 2^26 bytes", "solve", lambda: SCRIPT.ljust(LIMIT), "unsat\n", 0),
+    ("commands and spaces, 2^30 bytes", "solve", lambda: SCRIPT.ljust(LIMIT), "unsat\n", 0),
     ("one byte more", "solve", lambda: SCRIPT.ljust(LIMIT + 1), "unsat\n" + TOO_LONG, 1),
-    ("commands and one comment, 2^26 bytes", "solve", lambda: (SCRIPT + ";").ljust(LIMIT, "-"), "unsat\n", 0),
+    ("commands and one comment, 2^30 bytes", "solve", lambda: (SCRIPT + ";").ljust(LIMIT, "-"), "unsat\n", 0),
     ("one byte more", "solve", lambda: (SCRIPT + ";").ljust(LIMIT + 1, "-"), "unsat\n" + TOO_LONG, 1),
     ("an open string, one byte more", "solve", lambda: (SCRIPT + '"').ljust(LIMIT + 1, "-"), "unsat\n" + TOO_LONG, 1),
-    ("opening parentheses", "solve", lambda: "(" * LIMIT, '(error "1:501: TooDeep")\n', 1),
+    ("opening parentheses, 2^26", "solve", lambda: "(" * MANY, f'(error "1:{MANY + 1}: UnclosedList")\n', 1),
+    ("2^30, for which there is no memory", "solve", lambda: "(" * LIMIT, "", 3),
+    ("`not` 100,001 deep, and a check", "solve", lambda: negations(100_001), "unsat\n", 0),
+    ("1,000,001 deep", "solve", lambda: negations(1_000_001), "unsat\n", 0),
     ("empty lists, 1,000,000", "solve", lambda: "()" * 1_000_000, shapes, 1),
     ("assertions of one constant, and a check", "solve", lambda: repeated(START, "(assert p)", "(check-sat)"), "sat\n", 0),
     ("declarations, and a check with its model", "certify", many_constants, false_model, 0),

@@ -53,7 +53,7 @@ MOST = 15
 # That all is well, or that memory ran out; nothing of these formulas is refused.
 ALLOWED = (0, 3, None)
 # The longest text that `check` reads.
-LONGEST_PROOF = 2**26
+LONGEST_PROOF = 2**30
 
 
 def evidence(ran):

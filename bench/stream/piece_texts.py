@@ -65,7 +65,7 @@ def a_soup():
     if choice < 0.2:
         return random.randbytes(random.randint(1, 8))
     if choice < 0.21:
-        return b"(" * random.choice([499, 500, 501]) + a_part() + b")" * random.randint(0, 501)
+        return b"(" * random.choice([3, 60, 1_000]) + a_part() + b")" * random.randint(0, 1_001)
     return b"".join(a_part() for _ in range(random.randint(1, 14)))
 
 

@@ -9,8 +9,6 @@ from typing import Callable, NamedTuple
 SUCCESS = "success"
 READ = ('(echo "read")', '"read"')
 CHECK = ("(check-sat)", "sat")
-# Lets that stand in each other: with them at most 500 lists are open.
-DEEPEST = 490
 # The greatest numerator that is read.
 GREATEST = 2**127 - 1
 # The definition f0 has two subterms, and each next one twice the applications: that of f24 has one subterm too many.
@@ -90,10 +88,8 @@ def nest(front, body, count):
 
 
 def lets_nested(n):
-    """Lets in each other, as many in an assertion as may be."""
-    counts = [DEEPEST] * (n // DEEPEST) + [n % DEEPEST] * (n % DEEPEST > 0)
-    steps = (f"(assert {nest(f'p{i}', f'x{count - 1}', count)})" for i, count in enumerate(counts))
-    return [*constants(len(counts)), *taken(steps), READ]
+    """Lets in each other, in one assertion."""
+    return [*constants(1), *taken([f"(assert {nest('p0', f'x{n - 1}', n)})"]), READ]
 
 
 def lets_in_a_row(n):
