@@ -7,6 +7,7 @@ ghost use Rattle.script_run.specs.Runs.{is_last, is_refusal, ended_by, line_of_r
 ghost use Rattle.script_run.specs.Answering.{RunStart, IsAnswering, Pauses};
 
 use crate::status::Status;
+use crate::tries::{Tries, next, step};
 use reply_text::error;
 use sexpr_stream::{NextItem, Stream};
 use smt_lexer::{Refusal, Refused};
@@ -74,11 +75,12 @@ fn ended_by(refused: bool) -> Status
 /// Answers the commands of a text in pieces one after the other, as long as each is next in all texts that go on so, and
 /// writes what each is answered.
 ///
-/// `refused` says whether a command was refused before. `ForMore` comes where no further command is there yet: all that is
-/// there were answered. `Ended` comes at the end of the text, at `exit`, at a fault after which the text cannot be read on,
+/// `tries` says how often each call is made, and `refused` whether a command was refused before. `ForMore` comes where no
+/// further command is there yet: all that is there were answered. `Ended` comes at the end of the text, at `exit`, at a fault after which the text cannot be read on,
 /// where memory ran out, and where the sink failed.
 pub(crate) fn answer_held<K: Sink>(
     alloc: Global,
+    tries: Tries,
     refused: bool,
     stream: &mut Stream,
     session: &mut Session,
@@ -97,9 +99,9 @@ pub(crate) fn answer_held<K: Sink>(
     sexpr_stream::laws::items_are_those_of_the_joined_pieces();
     let mut refused = refused;
     'commands: loop {
-        let (next, after) = match stream.next(alloc) {
-            Ok(NextItem::Item(command, after)) => match session.step(&command, out) {
-                Ok(next) => (next, after),
+        let (told, after) = match next(alloc, tries, stream) {
+            Ok(NextItem::Item(command, after)) => match step(session, tries, &command, out) {
+                Ok(told) => (told, after),
                 Err(Halt::Memory) => return Pause::Ended(Status::Memory),
                 Err(Halt::Sink) => return Pause::Ended(Status::WriteFault),
             },
@@ -108,10 +110,10 @@ pub(crate) fn answer_held<K: Sink>(
             Err(Refused::Fault(refusal)) => return Pause::Ended(end_at(refusal, out)),
             Err(Refused::Memory) => return Pause::Ended(Status::Memory),
         };
-        if is_last(next) {
+        if is_last(told) {
             return Pause::Ended(ended_by(refused));
         }
-        refused |= is_refusal(next);
+        refused |= is_refusal(told);
         stream.advance(after);
     }
 }

@@ -11,6 +11,7 @@ ghost use Rattle.script_run.specs.Scripts.{TakesText, ScriptMeans, ReadsSoFar, E
 
 use crate::answering::{Pause, answer_held};
 use crate::status::Status;
+use crate::tries::{Tries, feed, new_session};
 use sat_budget::Limits;
 use sexpr_stream::Stream;
 use smt_session::{Mode, Session};
@@ -20,11 +21,17 @@ use world_io::{ReadStop, Shelf, Sink};
 /// How many bytes one read asks for at most.
 const PIECE: usize = 1 << 16;
 
-/// Reads once into a buffer that is not empty, and feeds what came to a stream. At the end of the text it closes the stream.
+/// Reads once into a buffer that is not empty, and feeds what came to a stream, in so many tries. At the end of the text it
+/// closes the stream.
 ///
 /// `Failed` comes only where the count of faults of the shelf rose in this call; nothing was read. `Memory` comes where an
 /// allocation was refused; nothing was fed.
-fn read_more<F: Shelf>(shelf: &mut F, buf: &mut [u8], stream: &mut Stream) -> Result<(), ReadStop>
+fn read_more<F: Shelf>(
+    tries: Tries,
+    shelf: &mut F,
+    buf: &mut [u8],
+    stream: &mut Stream,
+) -> Result<(), ReadStop>
     requires { 0 < length buf.old }
     ensures piece { ReadsPiece (length buf.old) result (F.left shelf.old) (F.left shelf.new) stream.old stream.new }
     ensures size { length buf.new ≡ length buf.old }
@@ -38,7 +45,7 @@ fn read_more<F: Shelf>(shelf: &mut F, buf: &mut [u8], stream: &mut Stream) -> Re
             stream.close();
             Ok(())
         }
-        Ok(size) => match stream.feed(&buf[..size]) {
+        Ok(size) => match feed(stream, tries, &buf[..size]) {
             Ok(()) => Ok(()),
             Err(_) => Err(ReadStop::Memory),
         },
@@ -50,6 +57,7 @@ fn read_more<F: Shelf>(shelf: &mut F, buf: &mut [u8], stream: &mut Stream) -> Re
 /// that no way out drops them.
 fn run_pieces<F: Shelf, K: Sink>(
     alloc: Global,
+    tries: Tries,
     stream: &mut Stream,
     session: &mut Session,
     shelf: &mut F,
@@ -73,11 +81,11 @@ fn run_pieces<F: Shelf, K: Sink>(
     let mut buf = [0u8; PIECE];
     let mut refused = false;
     'turns: loop {
-        match answer_held(alloc, refused, stream, session, out) {
+        match answer_held(alloc, tries, refused, stream, session, out) {
             Pause::ForMore(told) => refused = told,
             Pause::Ended(status) => return status,
         }
-        match read_more(shelf, &mut buf, stream) {
+        match read_more(tries, shelf, &mut buf, stream) {
             Ok(()) => {}
             Err(ReadStop::Failed) => return Status::ReadFault,
             Err(ReadStop::Memory) => return Status::Memory,
@@ -86,8 +94,9 @@ fn run_pieces<F: Shelf, K: Sink>(
 }
 
 /// Makes a session and a stream, and runs the text that was begun.
-fn run_begun<F: Shelf, K: Sink>(
+pub(crate) fn run_begun<F: Shelf, K: Sink>(
     alloc: Global,
+    tries: Tries,
     limits: &Limits,
     mode: Mode,
     shelf: &mut F,
@@ -103,11 +112,11 @@ fn run_begun<F: Shelf, K: Sink>(
 {
     spec_text::laws::each_text_is_read();
     spec_sessions::laws::answers_say_what_is_so();
-    let Ok(mut session) = Session::new(alloc, limits, mode) else {
+    let Ok(mut session) = new_session(alloc, tries, limits, mode) else {
         return Status::Memory;
     };
     let mut stream = Stream::new(alloc);
-    run_pieces(alloc, &mut stream, &mut session, shelf, out)
+    run_pieces(alloc, tries, &mut stream, &mut session, shelf, out)
 }
 
 /// Runs the script that a shelf holds under a name: takes its commands one after the other, up to its end, to `exit`, or to
@@ -150,5 +159,5 @@ pub fn run_script<F: Shelf, K: Sink>(
     let Ok(()) = shelf.begin(name) else {
         return Status::ReadFault;
     };
-    run_begun(alloc, limits, mode, shelf, out)
+    run_begun(alloc, Tries::Once, limits, mode, shelf, out)
 }

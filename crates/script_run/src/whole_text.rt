@@ -9,6 +9,7 @@ ghost use Rattle.script_run.specs.Runs.{RunsText, EndsText};
 
 use crate::answering::{Pause, answer_held};
 use crate::status::Status;
+use crate::tries::Tries;
 use sat_budget::Limits;
 use sexpr_stream::Stream;
 use smt_session::{Mode, Session};
@@ -82,7 +83,7 @@ fn run_whole<K: Sink>(
         return Status::Memory;
     };
     stream.close();
-    match answer_held(alloc, false, stream, session, out) {
+    match answer_held(alloc, Tries::Once, false, stream, session, out) {
         Pause::Ended(status) => status,
         Pause::ForMore(_) => Status::Memory,
     }

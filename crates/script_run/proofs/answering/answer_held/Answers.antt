@@ -45,7 +45,7 @@ returns-then-is_last-clause-answered g c b fed start =
     let last = sym c.is_last.ensures ∙ c.if-is_last.true in
     rw c.ended_by-then-is_last.ensures (ended_in b fed c.commands.stream c.commands.session c.commands.refused (g.K.Sink.state c.commands.out) i c.what_is_next_stays.ensures.item c.faults_are_in_their_command.ensures c.faults_are_in_their_question.ensures
     c.in-Ok-Item.command c.in-Ok-Item.after item _ k.0 k.1 (λ text at. c.each_text_is_read.ensures text at 0 (omega arith)) (g.K.Sink.state c.step.new.out)
-    ((after_is k.0.response c.in-Ok.next k.2).0 ∙ last) ((after_is k.0.response c.in-Ok.next k.2).1 ∙ last_is_taken c.in-Ok.next last) k.3)
+    ((after_is k.0.response c.in-Ok.told k.2).0 ∙ last) ((after_is k.0.response c.in-Ok.told k.2).1 ∙ last_is_taken c.in-Ok.told last) k.3)
 
 pub commands-preserved : goal.commands-preserved
 commands-preserved g c =
@@ -57,7 +57,7 @@ commands-preserved g c =
           let i = c.commands.invariant.going b fed start in
           let k = c.in-Ok.ensures.stepped _ i.represents in
           goes_on_after b fed c.commands.stream c.commands.session c.commands.refused (g.K.Sink.state c.commands.out) i c.what_is_next_stays.ensures.item c.faults_are_in_their_command.ensures c.faults_are_in_their_question.ensures
-          c.in-Ok-Item.command c.in-Ok-Item.after item c.step.new.self k.0 k.1 c.items_are_those_of_the_joined_pieces.ensures.taken c.advance.new.self c.advance.ensures.place c.advance.ensures.bytes c.advance.ensures.closed (g.K.Sink.state c.step.new.out)
-          (is_refusal c.in-Ok.next) (c.commands.refused || c.is_refusal-refused.result) ((after_is k.0.response c.in-Ok.next k.2).0 ∙ sym c.is_last.ensures ∙ c.if-is_last.false) (after_is k.0.response c.in-Ok.next k.2).1
+          c.in-Ok-Item.command c.in-Ok-Item.after item c.step.new.session k.0 k.1 c.items_are_those_of_the_joined_pieces.ensures.taken c.advance.new.self c.advance.ensures.place c.advance.ensures.bytes c.advance.ensures.closed (g.K.Sink.state c.step.new.out)
+          (is_refusal c.in-Ok.told) (c.commands.refused || c.is_refusal-refused.result) ((after_is k.0.response c.in-Ok.told k.2).0 ∙ sym c.is_last.ensures ∙ c.if-is_last.false) (after_is k.0.response c.in-Ok.told k.2).1
           (ap (λ z. c.commands.refused || z) c.is_refusal-refused.ensures) c.in-Ok.ensures.same k.3;
     }
