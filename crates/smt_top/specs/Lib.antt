@@ -2,6 +2,7 @@
 pub mod Arguments
 pub mod Output
 pub mod Generated
+pub mod GoesOn
 pub mod RunMeans
 pub mod Calls
 pub mod InMemory
