@@ -9,6 +9,8 @@ mod devices;
 #[cfg(test)]
 mod failing_tests;
 #[cfg(test)]
+mod goes_on_tests;
+#[cfg(test)]
 mod piece_tests;
 #[cfg(test)]
 mod rows;
