@@ -5,6 +5,7 @@
     bench/limits.py solve PROGRAM                   scripts up to that, and long terms, by `solve` and `certify`
     bench/limits.py refuse PROGRAM WORD ..          one run for each allocation of the program, with that one refused
     bench/limits.py refuse-tests TESTS [LEFT_OUT]   the same of each test of a crate
+    bench/limits.py goes-on PROGRAM [WORD ..]       the same of a run that makes each call once more
     bench/limits.py refuse-mutated PROGRAM COUNT SEED [FOLDER ..]
                                                     so many scripts and proofs that are changed by chance, with one refused
 
@@ -15,11 +16,14 @@ check, solve   What is written, and the status, are known beforehand of each row
 refuse         The words are those of `solve`, `certify` or `check`, and name files: standard input is empty. Each run
                has to end out of memory, with status 3 and a prefix of what is written where no allocation is refused
                (of `check` with nothing), or with the same status and output as that run.
+goes-on        Each run has to end as that where no allocation is refused, with its status and output. A session that goes
+               on is crates/run_tests/out/run_tests_tests, which `rt test` leaves, with the word
+               goes_on_tests::a_session_goes_on or goes_on_tests::questions_go_on_too.
 refuse-tests   TESTS is a crate's out/NAME_tests, which `rt test` leaves there. A test whose name has LEFT_OUT in it is
                not run. Where a test makes more than 1,500 allocations, one in k is refused, with k as printed. A run has
                to end in a word of memory, with an answer other than the wanted one, or as with none refused, in 60 s.
 
-What is not so is printed, and the status is 1 then, else 0. It needs Python 3 and its standard library; the last three
+What is not so is printed, and the status is 1 then, else 0. It needs Python 3 and its standard library; the last four
 need a C compiler and the GNU C library.
 """
 
@@ -42,6 +46,7 @@ LIMITS = {
     "solve": (solve_texts.run_all, 1, 1),
     "refuse": (refused.run_all, 2, None),
     "refuse-tests": (refused.run_tests, 1, 2),
+    "goes-on": (refused.run_going_on, 1, None),
     "refuse-mutated": (mutated.run_all, 3, None),
 }
 

@@ -72,6 +72,22 @@ def run_all(program, *words):
     return wrong
 
 
+def run_going_on(program, *words):
+    """Refuses each allocation of a run once, which has to end as with none refused; returns what is wrong, as texts."""
+    wrong, command = [], [program, *words]
+    with tempfile.TemporaryDirectory() as folder:
+        refusal = Refusal(folder)
+        whole = refusal.ran(command, folder, COUNT="1")
+        total = int(whole.stderr.split()[-1])
+        for number in range(1, total + 1):
+            done = refusal.ran(command, folder, subprocess.DEVNULL, REFUSE=str(number))
+            if done is None or (done.returncode, done.stdout) != (whole.returncode, whole.stdout):
+                wrong.append(f"allocation {number} refused: {done}")
+    came = f"{total - len(wrong)} runs as with none refused: status {whole.returncode}, {len(whole.stdout)} bytes"
+    print(f"{' '.join(words)}: {total} allocations, {came}")
+    return wrong
+
+
 def test_outcome(done):
     """Names what a run of a test with a refused allocation came to."""
     if done is None:
