@@ -1,5 +1,5 @@
 -- Each end of the run, and each turn: the commands that were taken are answered in each text that goes on so.
-use Rattle.std.proofs.Common.{◌||◌, ◌∙◌, sym, ap, arith}
+use Rattle.std.proofs.Common.{◌||◌, ◌∙◌, sym, ap}
 use Rattle.script_run.specs.Runs.{is_refusal}
 use Rattle.script_run.proofs.TextRuns.{after_is, last_is_taken}
 use Rattle.script_run.proofs.Going.{memory_in, done_in, fault_in, ended_in, write_failed_in, goes_on_after}
@@ -9,7 +9,7 @@ pub returns-in-Err-Memory-step-clause-answered : goal.returns-in-Err-Memory-step
 returns-in-Err-Memory-step-clause-answered g c b fed start =
     let k = rw c.in-Err-Memory-step.field-0-is at c.in-Err-Memory-step.ensures.stepped in
     rw k.0 (memory_in b fed c.commands.stream c.commands.session c.commands.refused (g.K.Sink.state c.commands.out) (c.commands.invariant.going b fed start)
-    (λ text at. c.each_text_is_read.ensures text at 0 (omega arith)))
+    (λ text at. c.each_text_is_read.ensures text at 0))
 
 pub returns-in-Err-Sink-clause-answered : goal.returns-in-Err-Sink-clause-answered
 returns-in-Err-Sink-clause-answered g c b fed start =
@@ -17,7 +17,7 @@ returns-in-Err-Sink-clause-answered g c b fed start =
     let k = (rw c.in-Err-Sink.field-0-is at c.in-Err-Sink.ensures.stepped) _ i.represents in
     let item = rw c.in-Ok-Item.field-0-is at c.in-Ok-Item.ensures in
     write_failed_in b fed c.commands.stream c.commands.session c.commands.refused (g.K.Sink.state c.commands.out) i c.what_is_next_stays.ensures.item c.faults_are_in_their_command.ensures c.faults_are_in_their_question.ensures
-    c.in-Ok-Item.command c.in-Ok-Item.after item _ k.0 k.1 (λ text at. c.each_text_is_read.ensures text at 0 (omega arith)) (g.K.Sink.state c.step.new.out) k.2
+    c.in-Ok-Item.command c.in-Ok-Item.after item _ k.0 k.1 (λ text at. c.each_text_is_read.ensures text at 0) (g.K.Sink.state c.step.new.out) k.2
 
 pub returns-in-Ok-More-clause-answered : goal.returns-in-Ok-More-clause-answered
 returns-in-Ok-More-clause-answered g c b fed start = (c.commands.invariant.going b fed start, rw c.in-Ok-More.field-0-is at c.in-Ok-More.ensures)
@@ -35,7 +35,7 @@ returns-in-Err-Fault-clause-answered g c b fed start =
 
 pub returns-in-Err-Memory-clause-answered : goal.returns-in-Err-Memory-clause-answered
 returns-in-Err-Memory-clause-answered g c b fed start =
-    memory_in b fed c.commands.stream c.commands.session c.commands.refused (g.K.Sink.state c.commands.out) (c.commands.invariant.going b fed start) (λ text at. c.each_text_is_read.ensures text at 0 (omega arith))
+    memory_in b fed c.commands.stream c.commands.session c.commands.refused (g.K.Sink.state c.commands.out) (c.commands.invariant.going b fed start) (λ text at. c.each_text_is_read.ensures text at 0)
 
 pub returns-then-is_last-clause-answered : goal.returns-then-is_last-clause-answered
 returns-then-is_last-clause-answered g c b fed start =
@@ -44,7 +44,7 @@ returns-then-is_last-clause-answered g c b fed start =
     let k = c.in-Ok.ensures.stepped _ i.represents in
     let last = sym c.is_last.ensures ∙ c.if-is_last.true in
     rw c.ended_by-then-is_last.ensures (ended_in b fed c.commands.stream c.commands.session c.commands.refused (g.K.Sink.state c.commands.out) i c.what_is_next_stays.ensures.item c.faults_are_in_their_command.ensures c.faults_are_in_their_question.ensures
-    c.in-Ok-Item.command c.in-Ok-Item.after item _ k.0 k.1 (λ text at. c.each_text_is_read.ensures text at 0 (omega arith)) (g.K.Sink.state c.step.new.out)
+    c.in-Ok-Item.command c.in-Ok-Item.after item _ k.0 k.1 (λ text at. c.each_text_is_read.ensures text at 0) (g.K.Sink.state c.step.new.out)
     ((after_is k.0.response c.in-Ok.told k.2).0 ∙ last) ((after_is k.0.response c.in-Ok.told k.2).1 ∙ last_is_taken c.in-Ok.told last) k.3)
 
 pub commands-preserved : goal.commands-preserved

@@ -83,7 +83,7 @@ returns-in-Err-Failed-clause-ends g c =
     let k = rw c.in-Err-Failed.field-0-is at c.in-Err-Failed.ensures.piece in (
       i.fed,
       read_none (g.F.Shelf.left c.args.shelf.now) (g.F.Shelf.left c.turns.shelf) (g.F.Shelf.left c.read_more.new.shelf) i.fed i.read k.0,
-      answered_up_to b i.fed c.answer_held.new.stream c.answer_held.new.session c.in-ForMore.told (g.K.Sink.state c.answer_held.new.out) p.0 c.answers_say_what_is_so.ensures.begun (λ text at. c.each_text_is_read.ensures text at 0 (omega arith)) p.1,
+      answered_up_to b i.fed c.answer_held.new.stream c.answer_held.new.session c.in-ForMore.told (g.K.Sink.state c.answer_held.new.out) p.0 c.answers_say_what_is_so.ensures.begun (λ text at. c.each_text_is_read.ensures text at 0) p.1,
     )
 
 pub returns-in-Err-Failed-clause-taken : goal.returns-in-Err-Failed-clause-taken
@@ -107,7 +107,7 @@ returns-in-Err-Memory-clause-ends g c =
     let b = run_start c.args.session.now.limits c.args.session.now.mode (g.K.Sink.state c.args.out.now) in
     let p = c.in-ForMore.ensures.answered b i.fed i.going in
     ends_reading c.answers_say_what_is_so.ensures.whole c.answers_say_what_is_so.ensures.begun b Memory c.answer_held.new.stream (g.F.Shelf.left c.args.shelf.now) (g.F.Shelf.left c.turns.shelf) i.fed (g.K.Sink.state c.answer_held.new.out)
-    i.read (λ e. i.closed (sym c.in-ForMore.ensures.closed ∙ e)) (memory_in b i.fed c.answer_held.new.stream c.answer_held.new.session c.in-ForMore.told (g.K.Sink.state c.answer_held.new.out) p.0 (λ text at. c.each_text_is_read.ensures text at 0 (omega arith)))
+    i.read (λ e. i.closed (sym c.in-ForMore.ensures.closed ∙ e)) (memory_in b i.fed c.answer_held.new.stream c.answer_held.new.session c.in-ForMore.told (g.K.Sink.state c.answer_held.new.out) p.0 (λ text at. c.each_text_is_read.ensures text at 0))
 
 pub returns-in-Err-Memory-clause-same : goal.returns-in-Err-Memory-clause-same
 returns-in-Err-Memory-clause-same g c = λ n. c.in-Err-Memory.ensures.same n ∙ c.turns.invariant.same n

@@ -1,5 +1,5 @@
 -- The session has stated nothing.
-use Rattle.std.proofs.Common.{arith, subst}
+use Rattle.std.proofs.Common.{subst}
 use Rattle.spec_text.specs.Readings.{kept}
 use Rattle.sat_budget.specs.declared.limits.Limits.{Limits as CodeLimits}
 use Rattle.check_evidence.specs.Evidence.{limits_meant}
@@ -10,7 +10,7 @@ use Rattle.script_run.proofs.TextRuns.{nothing_begun}
 use Rattle.script_run.proofs.whole_text.run_session.Goals as goal
 
 pub returns-in_default : goal.returns-in_default
-returns-in_default g c = nothing_begun (limits_meant c.args.limits.now) (mode_meant c.args.mode) c.args.bytes.now (g.K.Sink.state c.args.out.now) (c.each_text_is_read.ensures (kept c.args.bytes.now) 0 0 (omega arith))
+returns-in_default g c = nothing_begun (limits_meant c.args.limits.now) (mode_meant c.args.mode) c.args.bytes.now (g.K.Sink.state c.args.out.now) (c.each_text_is_read.ensures (kept c.args.bytes.now) 0 0)
 
 pub run_whole-requires-clause-session : goal.run_whole-requires-clause-session
 run_whole-requires-clause-session g c = c.in-Ok.ensures.begun.0

@@ -1,5 +1,5 @@
 -- All of the text is fed, and then no more comes.
-use Rattle.std.proofs.Common.{◌∙◌, [], false, sym, refl, subst, append-nil, arith, List, ℕ}
+use Rattle.std.proofs.Common.{◌∙◌, [], false, sym, refl, subst, append-nil, List, ℕ}
 use Rattle.std.proofs.lemmas.Bool.{false≢true}
 use Rattle.spec_text.specs.Readings.{kept}
 use Rattle.sexpr_stream.proofs.Pieces.{begun, fed_on, closed_then as closes}
@@ -12,7 +12,7 @@ use Rattle.script_run.proofs.TextRuns.{nothing_begun}
 use Rattle.script_run.proofs.whole_text.run_whole.Goals as goal
 
 pub returns-in_default : goal.returns-in_default
-returns-in_default g c = nothing_begun (limits_meant c.args.session.now.limits) (mode_meant c.args.session.now.mode) c.args.bytes.now (g.K.Sink.state c.args.out.now) (c.each_text_is_read.ensures (kept c.args.bytes.now) 0 0 (omega arith))
+returns-in_default g c = nothing_begun (limits_meant c.args.session.now.limits) (mode_meant c.args.session.now.mode) c.args.bytes.now (g.K.Sink.state c.args.out.now) (c.each_text_is_read.ensures (kept c.args.bytes.now) 0 0)
 
 pub returns-in-Ended : goal.returns-in-Ended
 returns-in-Ended g c =

@@ -1,5 +1,5 @@
 -- One command more, or the check, or the end of the script.
-use Rattle.std.proofs.Common.{refl, ◌∙◌, arith}
+use Rattle.std.proofs.Common.{refl, ◌∙◌}
 use Rattle.spec_text.specs.Readings.{kept}
 use Rattle.spec_commands.specs.Stack.{done, unsupported, say}
 use Rattle.spec_commands.specs.Checks.{term_limit}
@@ -32,14 +32,14 @@ returns-then-left-eq1 c =
     let r = rw c.in-Ok-Some.field-0-is at c.in-Ok-Some.ensures in
     let l = c.commands.invariant.loading in
     let d = rw c.in-Ok-Check.field-0-is at (c.in-Ok-Check.ensures.steps term_limit l.stack l.represents) in
-    check_here (whole_of c.args.text) _ _ c.commands.place _ l c.in-Ok-Some.read.0 c.in-Ok-Some.read.1 r c.in-Ok-Check.field-0-0 c.in-Ok-Check.assumed (over_table c.command.new.table c.command.new.self) c.if-left-eq1.true d (c.each_text_is_read.ensures (kept (whole_of c.args.text)) c.in-Ok-Some.read.1.offset 0 (omega arith))
+    check_here (whole_of c.args.text) _ _ c.commands.place _ l c.in-Ok-Some.read.0 c.in-Ok-Some.read.1 r c.in-Ok-Check.field-0-0 c.in-Ok-Check.assumed (over_table c.command.new.table c.command.new.self) c.if-left-eq1.true d (c.each_text_is_read.ensures (kept (whole_of c.args.text)) c.in-Ok-Some.read.1.offset 0)
 
 pub returns-in-Ok-Exit : goal.returns-in-Ok-Exit
 returns-in-Ok-Exit c =
     let r = rw c.in-Ok-Some.field-0-is at c.in-Ok-Some.ensures in
     let l = c.commands.invariant.loading in
     let d = rw c.in-Ok-Exit.field-0-is at (c.in-Ok-Exit.ensures.steps term_limit l.stack l.represents) in
-    leaves_here (whole_of c.args.text) _ _ c.commands.place _ l c.in-Ok-Some.read.0 c.in-Ok-Some.read.1 r (over_table c.command.new.table c.command.new.self) d (c.each_text_is_read.ensures (kept (whole_of c.args.text)) c.in-Ok-Some.read.1.offset 0 (omega arith))
+    leaves_here (whole_of c.args.text) _ _ c.commands.place _ l c.in-Ok-Some.read.0 c.in-Ok-Some.read.1 r (over_table c.command.new.table c.command.new.self) d (c.each_text_is_read.ensures (kept (whole_of c.args.text)) c.in-Ok-Some.read.1.offset 0)
 
 pub commands-preserved : goal.commands-preserved
 commands-preserved c =
